@@ -1,0 +1,7 @@
+-- The plain data of the runtime.
+pub mod Order
+pub mod Value
+pub mod Token
+pub mod Size
+pub mod Text
+pub mod Row
