@@ -1,0 +1,4 @@
+pub mod Command
+pub mod Line
+pub mod World
+pub mod Report
