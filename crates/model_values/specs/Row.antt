@@ -61,3 +61,6 @@ coded_row = coded× coded_key coded_bool
 
 abbrev pub coded_rows : Coded (List Row)
 coded_rows = coded_list coded_row
+
+-- The laws of the orders.
+pub ruleset orders = (val_total, val_exact, tok_total, tok_exact, key_total, key_exact)

@@ -1,0 +1,3 @@
+-- The laws of set states.
+pub mod RowLaws
+pub mod ValueLaws

@@ -1,0 +1,3 @@
+-- What set states mean.
+pub mod Rows
+pub mod Values
