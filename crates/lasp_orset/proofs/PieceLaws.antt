@@ -1,5 +1,6 @@
 -- What is done in one piece, seen in all rows.
 use Rattle.std.proofs.Common.{◌≡◌, ℕ, zero, suc, ◌+◌, ◌-◌, ◌<◌, ◌≤◌, ◌≢◌, max, Bool, true, false, not, ◌&&◌, ◌||◌, IsTrue, nat_le, List, [], ◌∷◌, ◌++◌, length, drop, take, set, get_or, refl, sym, ap, subst, ◌∙◌, append_assoc, append-nil, length-append, arith, if◌then◌else◌, Result, Ok, Err, OnOk, OnErr, IfOk}
+use Rattle.std.proofs.Math.Seq.{drop-cons}
 use Rattle.std.specs.Ordering.{is_eq, is_lt, ordering_reverse}
 use Rattle.std.specs.List.{insert}
 use Rattle.std.specs.declared.cmp.Ordering.{Ordering}
@@ -41,13 +42,13 @@ first-joined k [] full = refl
 first-joined k ([] ∷ cs) full = absurd (let h = full.0 in omega arith)
 first-joined k ((r ∷ c) ∷ cs) full = refl
 
-filled-drop : (css : List (List Row)) (i : ℕ) → AreFilled css → AreFilled (drop i css)
+pub filled-drop : (css : List (List Row)) (i : ℕ) → AreFilled css → AreFilled (drop i css)
 filled-drop [] zero full = full
 filled-drop [] (suc i) full = full
 filled-drop (c ∷ cs) zero full = full
 filled-drop (c ∷ cs) (suc i) full = filled-drop cs i full.1
 
-joined-split : (css : List (List Row)) (i : ℕ) → joined css ≡ joined (take i css) ++ joined (drop i css)
+pub joined-split : (css : List (List Row)) (i : ℕ) → joined css ≡ joined (take i css) ++ joined (drop i css)
 joined-split [] zero = refl
 joined-split [] (suc i) = refl
 joined-split (c ∷ cs) zero = refl
@@ -201,3 +202,21 @@ halved-joined css i c low high h is parts =
 pub halved-filled : (css : List (List Row)) (i : ℕ) (low high : List Row) → i < length css → AreFilled css → 0 < length low → 0 < length high → AreFilled (set (insert css i low) (i + 1) high)
 halved-filled css i low high h full l k =
     subst (λ j. AreFilled (set (insert css i low) j high)) (let p : suc i ≡ i + 1 = omega arith in p) (filled-halves css i low high h full l k)
+
+-- ---- a walk over the pieces to a place
+
+drop-behind : (c t : List Row) (n : ℕ) → length c ≤ n → drop n (c ++ t) ≡ drop (n - length c) t
+drop-behind [] t n h = ap (λ m. drop m t) (let e : n ≡ n - 0 = omega arith in e)
+drop-behind (r ∷ c) t zero h = absurd (omega arith)
+drop-behind (r ∷ c) t (suc n) h = drop-behind c t n (omega arith) ∙ ap (λ m. drop m t) (let e : n - length c ≡ suc n - suc (length c) = omega arith in e)
+
+pub walk-on : (css : List (List Row)) (i n : ℕ) (c rows whole : List Row) → i < length css → c ≡ get_or css i c → rows ≡ c → length rows ≤ n
+    → (n < length (joined (drop i css))) × (drop n (joined (drop i css)) ≡ whole)
+    → (n - length rows < length (joined (drop (i + 1) css))) × (drop (n - length rows) (joined (drop (i + 1) css)) ≡ whole)
+walk-on css i n c rows whole h is of past at =
+    let next : i + 1 ≡ suc i = omega arith in
+    let parts : joined (drop i css) ≡ rows ++ joined (drop (i + 1) css) =
+    ap joined (drop-cons css i c h) ∙ ap (λ (b : List Row). b ++ joined (drop (suc i) css)) (sym (of ∙ is)) ∙ ap (λ j. rows ++ joined (drop j css)) (sym next) in (
+      omega (arith, at.0, ap length parts, length-append rows (joined (drop (i + 1) css))),
+      sym (drop-behind rows (joined (drop (i + 1) css)) n past) ∙ ap (λ (l : List Row). drop n l) (sym parts) ∙ at.1,
+    )

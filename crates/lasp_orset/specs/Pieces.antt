@@ -3,6 +3,7 @@ use Rattle.std.specs.Prelude.{◌≡◌, ℕ, suc, ◌<◌, ◌≤◌, ◌^◌, 
 use Rattle.std.specs.List.{insert}
 use Rattle.std.specs.declared.cmp.Ordering.{Ordering}
 use Rattle.std.specs.declared.cmp.Ordering.TheVariants.{Less, Equal, Greater}
+use Rattle.model_values.specs.Value.{Val, val_cmp}
 use Rattle.model_values.specs.Row.{Key, Row, key_cmp}
 use Rattle.model_sets.specs.Rows.{IsAscending, level, mark}
 
@@ -48,3 +49,13 @@ pub record AreSound (css : List (List Row)) (count : ℕ) : Type 0 where
 -- whether a row stands in the set, and is dead there if it is dead
 abbrev pub is_covered : List Row → Row → Bool
 is_covered s r = nat_le (level r.1) (mark s r.0.0 r.0.1)
+
+-- how the value of the first row stands to a value; no row stands above each value
+abbrev pub first_value_cmp : Val → List Row → Ordering
+first_value_cmp v [] = Greater
+first_value_cmp v (r ∷ s) = val_cmp r.0.0 v
+
+-- the same of the first piece
+abbrev pub top_value_cmp : Val → List (List Row) → Ordering
+top_value_cmp v [] = Greater
+top_value_cmp v (c ∷ cs) = first_value_cmp v c

@@ -4,6 +4,7 @@ ghost use Rattle.std.specs.Prelude.{◌≡◌, ◌||◌, ◌&&◌, not, true, If
 ghost use Rattle.std.specs.Ordering.{is_eq};
 ghost use Rattle.model_values.specs.Value.{val_cmp};
 ghost use Rattle.model_values.specs.Row.{key_cmp};
+ghost use Rattle.model_sets.specs.Rows.{is_of};
 ghost use Rattle.lasp_value.specs.Value.{val_of};
 ghost use Rattle.lasp_value.specs.Token.{tok_of};
 
@@ -111,6 +112,13 @@ impl Entry {
         ensures { result ≡ (is_eq (key_cmp self.now.0 other.now.0) && (self.now.1 || not other.now.1)) }
     {
         self.compare(other).is_eq() && (self.dead || !other.dead)
+    }
+
+    /// Whether the row is of a value.
+    pub fn is_of(&self, value: &Value) -> bool
+        ensures { result ≡ is_of (val_of value.now) self.now }
+    {
+        value.cmp(&self.key.value).is_eq()
     }
 
     /// By value alone.

@@ -7,8 +7,15 @@ mod insertion;
 mod order;
 mod piece;
 mod place;
+mod places;
+mod reads;
+mod rows;
 mod search;
 mod set;
+mod span;
+mod updates;
 
 pub use entry::Entry;
+pub use rows::Rows;
 pub use set::OrSet;
+pub use updates::add_delta;

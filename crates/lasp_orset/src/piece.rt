@@ -3,10 +3,12 @@
 ghost use Rattle.std.specs.Prelude.{◌≡◌, ◌<◌, ◌+◌, ◌++◌, ◌∷◌, [], IfOk, OnOk, OnErr, length, if◌then◌else◌};
 ghost use Rattle.std.specs.Arc.{arc_value};
 ghost use Rattle.model_sets.specs.Rows.{IsAscending, put};
-ghost use Rattle.lasp_orset.specs.Pieces.{first_cmp};
+ghost use Rattle.lasp_orset.specs.Pieces.{first_cmp, first_value_cmp};
+ghost use Rattle.lasp_value.specs.Value.{val_of};
 
 use super::entry::Entry;
 use super::place::place;
+use lasp_value::Value;
 use std::alloc::{AllocError, Global};
 use std::cmp::Ordering;
 use std::marker::Model;
@@ -66,6 +68,16 @@ impl Piece {
     {
         match self.rows().first() {
             Some(first) => first.compare(entry),
+            None => Ordering::Greater,
+        }
+    }
+
+    /// How the value of the first row stands to a value; an empty piece stands above each.
+    pub(crate) fn first_compare_value(&self, value: &Value) -> Ordering
+        ensures { result ≡ first_value_cmp (val_of value.now) self.now }
+    {
+        match self.rows().first() {
+            Some(first) => first.compare_value(value),
             None => Ordering::Greater,
         }
     }

@@ -89,6 +89,18 @@ impl OrSet {
         Ok(true)
     }
 
+    /// The allocator that the set was made with.
+    pub(crate) fn allocator(&self) -> Global {
+        *self.pieces.allocator()
+    }
+
+    /// The least set, by the same allocator.
+    pub(crate) fn empty(&self) -> OrSet
+        ensures { result ≡ [] }
+    {
+        OrSet::new(self.allocator())
+    }
+
     /// The pieces, whose rows one after the other are those of the set.
     pub(crate) fn pieces(&self) -> &[Piece]
         ensures rows { joined result.now ≡ self.now }
