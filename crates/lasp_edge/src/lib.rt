@@ -4,10 +4,31 @@
 //! files in memory whose calls fail when they are told to.
 #![tactic(auto)]
 
+mod count;
+mod dir_files;
 mod error;
 mod files;
+mod mem_files;
+mod mem_sink;
+mod read;
+mod shelf;
 mod sink;
+mod std_sink;
+mod sure_files;
+mod sure_sink;
+mod write;
 
+pub use dir_files::DirFiles;
 pub use error::{Failed, Fetch};
 pub use files::Files;
+pub use mem_files::MemFiles;
+pub use mem_sink::MemSink;
+pub use read::read_up_to;
 pub use sink::Sink;
+pub use std_sink::StdSink;
+pub use sure_files::SureFiles;
+pub use sure_sink::SureSink;
+pub use write::write_whole;
+
+#[cfg(test)]
+mod tests;
