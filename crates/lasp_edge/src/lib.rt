@@ -1,7 +1,12 @@
 //! Where files are read from and output is written to.
 //!
 //! A program takes `F: Files` and `S: Sink`, so that the same code runs over real files and over
-//! files in memory whose calls fail when they are told to.
+//! files in memory whose calls fail when they are told to. A caller copies a file by
+//!
+//! ```text
+//! let bytes = files.fetch(alloc, "graph.json", 4096)?;
+//! out.put(&bytes)?;
+//! ```
 #![tactic(auto)]
 
 mod count;

@@ -99,7 +99,8 @@ impl Sink for MemSink {
             Some(bound) => fitting.min(*bound as usize),
             None => fitting,
         };
-        let _room = self.bytes.extend_from_slice(&bytes[..taken]);
+        // The room was taken when the output was made, so there is room for these.
+        let _ = self.bytes.extend_from_slice(&bytes[..taken]);
         if after.is_some() || bytes.len() > space {
             count_fault(&mut self.faults);
             return Err(Failed);
