@@ -1,5 +1,7 @@
 //! Real output.
 ghost use Rattle.std.specs.Prelude.{◌≡◌, ◌≤◌, if◌then◌else◌, OnOk, OnErr, is_err};
+ghost use Rattle.std.specs.Io.KnownBytes as known;
+ghost use Rattle.lasp_edge.specs.Loops.{GrowsByPrefix};
 ghost use Rattle.lasp_edge.specs.Faults.{Rose, counted};
 ghost use Rattle.lasp_edge.specs.Told.{Appends, AppendsPrefix, untold};
 
@@ -10,26 +12,26 @@ use std::io::Write;
 use std::marker::Model;
 
 /// A real writer, as standard output or standard error. The count of faults stands still at its
-/// last value. Nothing is told of what was written.
+/// last value. As a sink it tells nothing of what was written, since a real writer doesn't either.
 #[derive(Drop)]
 pub struct StdSink<W> {
     writer: W,
     faults: u64,
 }
 
-// Its value is the count of faults.
+// Its value is the writer and the count of faults.
 impl<W> Model for StdSink<W> {
     ghost use Rattle.std.specs.Prelude.{ℕ};
 
-    ghost Value = { ℕ };
+    ghost Value = { W × ℕ };
 
-    ghost view = { λ a. a.faults };
+    ghost view = { λ a. (a.writer, a.faults) };
 }
 
 impl<W: Write> StdSink<W> {
     /// Output to this writer.
     pub fn new(writer: W) -> StdSink<W>
-        ensures { result ≡ 0 }
+        ensures { result ≡ (writer, 0) }
     {
         StdSink { writer, faults: 0 }
     }
@@ -40,17 +42,19 @@ impl<W: Write> Sink for StdSink<W> {
 
     ghost written = { λ _. untold };
 
-    ghost faults = { λ count. count };
+    ghost faults = { λ s. s.1 };
 
     /// A fault is counted where a write fails, or takes none of the bytes.
     fn put(&mut self, bytes: &[u8]) -> Result<(), Failed>
-        ensures later { self.old ≤ self.new }
+        ensures later { self.old.1 ≤ self.new.1 }
         ensures ok { OnOk result (Appends untold bytes.now untold) }
         ensures part { OnErr result (AppendsPrefix untold bytes.now untold) }
-        ensures failed { OnErr result (Rose self.old self.new) }
+        ensures failed { OnErr result (Rose self.old.1 self.new.1) }
 
-        // What this type says beyond its trait.
-        ensures counted { self.new ≡ (if is_err result then counted self.old else self.old) }
+        // What this type says beyond its trait: the bytes go to the writer, where that tells its bytes.
+        ensures counted { self.new.1 ≡ (if is_err result then counted self.old.1 else self.old.1) }
+        ensures handed_on { OnOk result (known.Appends (W.contents self.old.0) (W.contents self.new.0) bytes.now) }
+        ensures handed_part { OnErr result (GrowsByPrefix (W.contents self.old.0) (W.contents self.new.0) bytes.now) }
     {
         write_whole(&mut self.writer, bytes, &mut self.faults)
     }
