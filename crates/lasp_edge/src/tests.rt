@@ -7,7 +7,7 @@ use crate::{
 use std::alloc::Global;
 use std::io::{ErrorKind, Read, Write};
 use std::test::Fail;
-use std::{env, fs, io};
+use std::{env, fs, io, process};
 
 /// Gives one byte a read. The read at `fails_at` bytes fails.
 #[derive(Drop)]
@@ -230,7 +230,8 @@ fn sure_files_and_sinks_never_fail(rt: HostRuntime) -> Result<(), Fail> {
 #[test]
 fn real_files_are_read_up_to_the_limit(rt: HostRuntime) -> Result<(), Fail> {
     let alloc = rt.alloc();
-    let path = env::temp_dir(&rt)?.join(alloc, "lasp_edge_read.txt")?;
+    let file = format!(in alloc; "lasp_edge_{}.txt", process::id(rt.process()))?;
+    let path = env::temp_dir(&rt)?.join(alloc, file.as_str())?;
     let name = path.to_str().ok_or("the path is no text")?;
     let long = vec![in alloc; b'x'; 20000]?;
     fs::write(&rt, name, long.as_slice())?;
