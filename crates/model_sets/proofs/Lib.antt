@@ -1,3 +1,4 @@
 -- The laws of set states.
 pub mod RowLaws
 pub mod ValueLaws
+pub mod EquationLaws

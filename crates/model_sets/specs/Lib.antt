@@ -1,3 +1,4 @@
 -- What set states mean.
 pub mod Rows
 pub mod Values
+pub mod Equations
