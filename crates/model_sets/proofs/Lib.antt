@@ -2,3 +2,5 @@
 pub mod RowLaws
 pub mod ValueLaws
 pub mod EquationLaws
+pub mod WordLaws
+pub mod AlgebraLaws
