@@ -4,3 +4,4 @@ pub mod ValueLaws
 pub mod EquationLaws
 pub mod WordLaws
 pub mod AlgebraLaws
+pub mod FoldLaws

@@ -3,3 +3,4 @@ pub mod Rows
 pub mod Values
 pub mod Equations
 pub mod Algebra
+pub mod Folds
