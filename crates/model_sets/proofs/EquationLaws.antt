@@ -1,5 +1,5 @@
 -- The laws of the five processes: their marks, that they are monotone, and that they send joins to joins.
-use Rattle.std.proofs.Common.{◌≡◌, ℕ, ◌≤◌, ◌<◌, max, Bool, true, false, cond, ◌&&◌, ◌||◌, T, if◌then◌else◌, ◌==◌, nat_lt, IsTrue, List, [], ◌∷◌, ◌++◌, map, filter, flat_map, refl, sym, ap, subst, ◌∙◌, append_assoc, arith, ◌↔◌, ◌⊎◌, inl, inr}
+use Rattle.std.proofs.Common.{◌≡◌, ℕ, ◌≤◌, ◌<◌, max, Bool, true, false, cond, ◌&&◌, ◌||◌, if◌then◌else◌, nat_lt, IsTrue, List, [], ◌∷◌, ◌++◌, map, filter, flat_map, refl, sym, ap, subst, ◌∙◌, arith}
 use Rattle.std.proofs.lemmas.Bool.Decides.{nat_tests}
 use Rattle.std.specs.Ordering.{is_eq, is_lt, eq_by_cmp, ordering_then}
 use Rattle.std.specs.declared.cmp.Ordering.{Ordering}
@@ -7,11 +7,11 @@ use Rattle.std.specs.declared.cmp.Ordering.TheVariants.{Less, Equal, Greater}
 use Rattle.std.specs.Cmp.{tied_itself}
 use Rattle.std.specs.FinMap.Entries.{is_sorted, below_all}
 use Rattle.model_values.specs.Value.{Val, int, text, pair, val_cmp, val_exact, val_total}
-use Rattle.model_values.specs.Token.{Tok, single, both, tok_cmp, tok_total}
+use Rattle.model_values.specs.Token.{Tok, single, both, tok_cmp}
 use Rattle.model_values.specs.Row.{Key, Row, key_cmp, key_total, key_exact}
-use Rattle.model_sets.specs.Rows.{level, row_mark, mark, HasRow, IsDeadIn, IsAscending, put, of_rows, join, IsAtMost, is_of}
+use Rattle.model_sets.specs.Rows.{level, row_mark, mark, IsAscending, join, IsAtMost, is_of}
 use Rattle.model_sets.specs.Equations.{moved, map_set, filter_set, union_set, paired, product_set, met, intersect_set, both_of, product_mark, intersect_mark, changed}
-use Rattle.model_sets.proofs.RowLaws.{and-left, and-right, and-both, is-Equal, mark-append, mark-of_rows, mark-join, mark-small, same_from_mark, ascending-of_rows, ascending-join, join-at_most}
+use Rattle.model_sets.proofs.RowLaws.{and-left, and-right, and-both, is-Equal, mark-append, mark-of_rows, mark-join, mark-small, same_from_mark, ascending-of_rows, ascending-join, join-monotone}
 
 -- ---- tests of keys
 
@@ -51,20 +51,21 @@ filter_step p r v t m =
           (ap (λ (k : Key). k.0) (key_exact (v, t) r.0 (is-Equal (key_cmp (v, t) r.0) e))) (same (p v))
       | false ↦ λ e. apart (p r.0.0) (p v)
     ] refl where
-  same : (b : Bool) → (if b then max (level r.1) (if b then m else 0) else (if b then m else 0)) ≡ (if b then max (level r.1) m else 0)
-  same true = refl
-  same false = refl
-  apart : (b c : Bool) → (if b then max 0 (if c then m else 0) else (if c then m else 0)) ≡ (if c then max 0 m else 0)
-  apart true true = refl
-  apart true false = refl
-  apart false true = omega arith
-  apart false false = refl
+      same : (b : Bool) → (if b then max (level r.1) (if b then m else 0) else (if b then m else 0)) ≡ (if b then max (level r.1) m else 0)
+      same true = refl
+      same false = refl
+
+      apart : (b c : Bool) → (if b then max 0 (if c then m else 0) else (if c then m else 0)) ≡ (if c then max 0 m else 0)
+      apart true true = refl
+      apart true false = refl
+      apart false true = omega arith
+      apart false false = refl
 
 pub filter-mark : (p : Val → Bool) (x : List Row) (v : Val) (t : Tok) → mark (filter_set p x) v t ≡ (if p v then mark x v t else 0)
 filter-mark p [] v t = elim (p v) as (λ b. ◌≡◌ {A = ℕ} 0 (if b then 0 else 0)) [ true ↦ refl | false ↦ refl ]
 filter-mark p (r ∷ x) v t =
     elim (p r.0.0) as (λ b. mark (cond b (r ∷ filter_set p x) (filter_set p x)) v t ≡ (if b then max (row_mark r v t) (mark (filter_set p x) v t) else mark (filter_set p x) v t)) [ true ↦ refl | false ↦ refl ]
-        ∙ subst (λ (m : ℕ). (if p r.0.0 then max (row_mark r v t) m else m) ≡ (if p v then max (row_mark r v t) (mark x v t) else 0)) (sym (filter-mark p x v t)) (filter_step p r v t (mark x v t))
+    ∙ subst (λ (m : ℕ). (if p r.0.0 then max (row_mark r v t) m else m) ≡ (if p v then max (row_mark r v t) (mark x v t) else 0)) (sym (filter-mark p x v t)) (filter_step p r v t (mark x v t))
 
 -- Rows that are left of ascending ones ascend.
 below-kept : (test : Row → Bool) (k : Key) (s : List Row) → IsTrue (below_all key_cmp k s) → IsTrue (below_all key_cmp k (filter test s))
@@ -91,16 +92,16 @@ filter-ascending p x up = ascending-kept (λ r. p r.0.0) x up
 pub filter-monotone : (p : Val → Bool) (x y : List Row) → IsAtMost x y → IsAtMost (filter_set p x) (filter_set p y)
 filter-monotone p x y a v t =
     subst (λ (m : ℕ). m ≤ mark (filter_set p y) v t) (sym (filter-mark p x v t)) (subst (λ (m : ℕ). (if p v then mark x v t else 0) ≤ m) (sym (filter-mark p y v t)) (at (p v))) where
-  at : (b : Bool) → (if b then mark x v t else 0) ≤ (if b then mark y v t else 0)
-  at true = a v t
-  at false = omega arith
+      at : (b : Bool) → (if b then mark x v t else 0) ≤ (if b then mark y v t else 0)
+      at true = a v t
+      at false = omega arith
 
 pub filter-join : (p : Val → Bool) (x y : List Row) → IsAscending x → IsAscending y → filter_set p (join x y) ≡ join (filter_set p x) (filter_set p y)
 filter-join p x y up_x up_y = same_from_mark (filter_set p (join x y)) (join (filter_set p x) (filter_set p y)) (filter-ascending p (join x y) (ascending-join x y)) (ascending-join (filter_set p x) (filter_set p y))
     (λ v t. filter-mark p (join x y) v t ∙ at v t (p v) ∙ sym (mark-join (filter_set p x) (filter_set p y) v t ∙ (λ i. max (filter-mark p x v t i) (filter-mark p y v t i)))) where
-  at : (v : Val) (t : Tok) (b : Bool) → (if b then mark (join x y) v t else 0) ≡ max (if b then mark x v t else 0) (if b then mark y v t else 0)
-  at v t true = mark-join x y v t
-  at v t false = refl
+      at : (v : Val) (t : Tok) (b : Bool) → (if b then mark (join x y) v t else 0) ≡ max (if b then mark x v t else 0) (if b then mark y v t else 0)
+      at v t true = mark-join x y v t
+      at v t false = refl
 
 -- ---- map
 
@@ -110,10 +111,10 @@ map-ge f [] u t = omega arith
 map-ge f (r ∷ x) u t = omega (arith, step, map-ge f x u t) where
   step : row_mark r u t ≤ row_mark (moved f r) (f u) t
   step = elim (eq_by_cmp key_cmp (u, t) r.0) as (λ b. eq_by_cmp key_cmp (u, t) r.0 ≡ b → (if b then level r.1 else 0) ≤ row_mark (moved f r) (f u) t) [
-      | true ↦ λ e. subst (λ (k : Key). level r.1 ≤ row_mark (moved f r) (f k.0) k.1) (sym (key_exact (u, t) r.0 (is-Equal (key_cmp (u, t) r.0) e)))
-          (subst (λ (b : Bool). level r.1 ≤ (if b then level r.1 else 0)) (sym (tied_key (f r.0.0, r.0.1))) (omega arith))
-      | false ↦ λ e. omega arith
-    ] refl
+    | true ↦ λ e. subst (λ (k : Key). level r.1 ≤ row_mark (moved f r) (f k.0) k.1) (sym (key_exact (u, t) r.0 (is-Equal (key_cmp (u, t) r.0) e)))
+        (subst (λ (b : Bool). level r.1 ≤ (if b then level r.1 else 0)) (sym (tied_key (f r.0.0, r.0.1))) (omega arith))
+    | false ↦ λ e. omega arith
+  ] refl
 
 -- What bounds each value's mark bounds that of what it is moved to.
 pub map-le : (f : Val → Val) (x : List Row) (w : Val) (t : Tok) (n : ℕ) → ((u : Val) → f u ≡ w → mark x u t ≤ n) → mark (map (moved f) x) w t ≤ n
@@ -121,13 +122,13 @@ map-le f [] w t n h = omega arith
 map-le f (r ∷ x) w t n h = omega (arith, step, map-le f x w t n (λ u e. omega (arith, h u e))) where
   step : row_mark (moved f r) w t ≤ n
   step = elim (eq_by_cmp key_cmp (w, t) (f r.0.0, r.0.1)) as (λ b. eq_by_cmp key_cmp (w, t) (f r.0.0, r.0.1) ≡ b → (if b then level r.1 else 0) ≤ n) [
-      | true ↦ λ e.
-          let k = key_exact (w, t) (f r.0.0, r.0.1) (is-Equal (key_cmp (w, t) (f r.0.0, r.0.1)) e) in
-          let own : row_mark r r.0.0 r.0.1 ≡ level r.1 = ap (λ (b : Bool). if b then level r.1 else 0) (tied_key r.0) in
-          let bound : max (row_mark r r.0.0 r.0.1) (mark x r.0.0 r.0.1) ≤ n = subst (λ (s : Tok). max (row_mark r r.0.0 s) (mark x r.0.0 s) ≤ n) (ap (λ (q : Key). q.1) k) (h r.0.0 (sym (ap (λ (q : Key). q.0) k))) in
-          omega (arith, own, bound)
-      | false ↦ λ e. omega arith
-    ] refl
+    | true ↦ λ e.
+        let k = key_exact (w, t) (f r.0.0, r.0.1) (is-Equal (key_cmp (w, t) (f r.0.0, r.0.1)) e) in
+        let own : row_mark r r.0.0 r.0.1 ≡ level r.1 = ap (λ (b : Bool). if b then level r.1 else 0) (tied_key r.0) in
+        let bound : max (row_mark r r.0.0 r.0.1) (mark x r.0.0 r.0.1) ≤ n = subst (λ (s : Tok). max (row_mark r r.0.0 s) (mark x r.0.0 s) ≤ n) (ap (λ (q : Key). q.1) k) (h r.0.0 (sym (ap (λ (q : Key). q.0) k))) in
+        omega (arith, own, bound)
+    | false ↦ λ e. omega arith
+  ] refl
 
 -- A mark of the moved rows comes from some value.
 pub map-from : (f : Val → Val) (x : List Row) (w : Val) (t : Tok) (n : ℕ) → 0 < n → n ≤ mark (map (moved f) x) w t → (u : Val) × (f u ≡ w) × (n ≤ mark x u t)
@@ -150,8 +151,11 @@ map-from f (r ∷ x) w t n pos h = choose (λ g. map-from f x w t n pos g) (eq_b
 -- Rows of the same marks are moved to rows of the same marks.
 map-alike : (f : Val → Val) (x y : List Row) → ((v : Val) (t : Tok) → mark x v t ≡ mark y v t) → (w : Val) (t : Tok) → mark (map (moved f) x) w t ≡ mark (map (moved f) y) w t
 map-alike f x y same w t =
-    omega (arith, map-le f x w t (mark (map (moved f) y) w t) (λ u e. subst (λ (z : Val). mark x u t ≤ mark (map (moved f) y) z t) e (omega (arith, same u t, map-ge f y u t))),
-        map-le f y w t (mark (map (moved f) x) w t) (λ u e. subst (λ (z : Val). mark y u t ≤ mark (map (moved f) x) z t) e (omega (arith, same u t, map-ge f x u t))))
+    omega (
+      arith,
+      map-le f x w t (mark (map (moved f) y) w t) (λ u e. subst (λ (z : Val). mark x u t ≤ mark (map (moved f) y) z t) e (omega (arith, same u t, map-ge f y u t))),
+      map-le f y w t (mark (map (moved f) x) w t) (λ u e. subst (λ (z : Val). mark y u t ≤ mark (map (moved f) x) z t) e (omega (arith, same u t, map-ge f x u t))),
+    )
 
 map-rows-append : (f : Val → Val) (x y : List Row) → map (moved f) (x ++ y) ≡ map (moved f) x ++ map (moved f) y
 map-rows-append f [] y = refl
@@ -167,9 +171,9 @@ map-monotone f x y a w t =
 pub map-join : (f : Val → Val) (x y : List Row) → map_set f (join x y) ≡ join (map_set f x) (map_set f y)
 map-join f x y = same_from_mark (map_set f (join x y)) (join (map_set f x) (map_set f y)) (ascending-of_rows (map (moved f) (join x y))) (ascending-join (map_set f x) (map_set f y))
     (λ w t.
-      let parts : mark (map (moved f) (x ++ y)) w t ≡ max (mark (map (moved f) x) w t) (mark (map (moved f) y) w t) =
-          ap (λ (rs : List Row). mark rs w t) (map-rows-append f x y) ∙ mark-append (map (moved f) x) (map (moved f) y) w t in
-      omega (arith, map-mark f (join x y) w t, map-alike f (join x y) (x ++ y) (mark-of_rows (x ++ y)) w t, parts, mark-join (map_set f x) (map_set f y) w t, map-mark f x w t, map-mark f y w t))
+    let parts : mark (map (moved f) (x ++ y)) w t ≡ max (mark (map (moved f) x) w t) (mark (map (moved f) y) w t) =
+    ap (λ (rs : List Row). mark rs w t) (map-rows-append f x y) ∙ mark-append (map (moved f) x) (map (moved f) y) w t in
+    omega (arith, map-mark f (join x y) w t, map-alike f (join x y) (x ++ y) (mark-of_rows (x ++ y)) w t, parts, mark-join (map_set f x) (map_set f y) w t, map-mark f x w t, map-mark f y w t))
 
 -- ---- product
 
@@ -190,7 +194,7 @@ four-tests Equal Greater Greater d = refl
 paired-mark : (r q : Row) (v w : Val) (t s : Tok) → row_mark (paired r q) (pair v w) (both t s) ≡ both_of (row_mark r v t) (row_mark q w s)
 paired-mark r q v w t s =
     ap (λ (b : Bool). if b then level (r.1 || q.1) else 0) (four-tests (val_cmp v r.0.0) (val_cmp w q.0.0) (tok_cmp t r.0.1) (tok_cmp s q.0.1))
-        ∙ both_of-levels (eq_by_cmp key_cmp (v, t) r.0) (eq_by_cmp key_cmp (w, s) q.0) r.1 q.1
+    ∙ both_of-levels (eq_by_cmp key_cmp (v, t) r.0) (eq_by_cmp key_cmp (w, s) q.0) r.1 q.1
 
 paired-all : (r : Row) (y : List Row) (v w : Val) (t s : Tok) → mark (map (paired r) y) (pair v w) (both t s) ≡ both_of (row_mark r v t) (mark y w s)
 paired-all r [] v w t s = sym (both_of-zero (row_mark r v t))
@@ -201,7 +205,7 @@ times-mark : (x y : List Row) (v w : Val) (t s : Tok) → mark (flat_map (λ r. 
 times-mark [] y v w t s = refl
 times-mark (r ∷ x) y v w t s =
     mark-append (map (paired r) y) (flat_map (λ r. map (paired r) y) x) (pair v w) (both t s)
-        ∙ (λ i. max (paired-all r y v w t s i) (times-mark x y v w t s i)) ∙ sym (both_of-max_left (row_mark r v t) (mark x v t) (mark y w s))
+    ∙ (λ i. max (paired-all r y v w t s i) (times-mark x y v w t s i)) ∙ sym (both_of-max_left (row_mark r v t) (mark x v t) (mark y w s))
 
 -- A value that is no pair, or a token that is no pair, has no row.
 abbrev IsApart : Val → Tok → Type 0
@@ -272,8 +276,8 @@ three-tests Equal Greater c d = refl
 met-mark : (r q : Row) → r.0.0 ≡ q.0.0 → (v : Val) (t s : Tok) → row_mark (met r q) v (both t s) ≡ both_of (row_mark r v t) (row_mark q v s)
 met-mark r q e v t s =
     ap (λ (b : Bool). if b then level (r.1 || q.1) else 0) (three-tests (val_cmp v r.0.0) (tok_cmp t r.0.1) (tok_cmp s q.0.1) Equal)
-        ∙ both_of-levels (eq_by_cmp key_cmp (v, t) r.0) (is_eq (ordering_then (val_cmp v r.0.0) (tok_cmp s q.0.1))) r.1 q.1
-        ∙ ap (λ (u : Val). both_of (row_mark r v t) (if is_eq (ordering_then (val_cmp v u) (tok_cmp s q.0.1)) then level q.1 else 0)) e
+    ∙ both_of-levels (eq_by_cmp key_cmp (v, t) r.0) (is_eq (ordering_then (val_cmp v r.0.0) (tok_cmp s q.0.1))) r.1 q.1
+    ∙ ap (λ (u : Val). both_of (row_mark r v t) (if is_eq (ordering_then (val_cmp v u) (tok_cmp s q.0.1)) then level q.1 else 0)) e
 
 apart-mark : (r q : Row) → is_of r.0.0 q ≡ false → (v : Val) (t s : Tok) → both_of (row_mark r v t) (row_mark q v s) ≡ 0
 apart-mark r q e v t s =
@@ -301,7 +305,7 @@ meet-mark : (x y : List Row) (v : Val) (t s : Tok) → mark (flat_map (λ r. map
 meet-mark [] y v t s = refl
 meet-mark (r ∷ x) y v t s =
     mark-append (map (met r) (filter (is_of r.0.0) y)) (flat_map (λ r. map (met r) (filter (is_of r.0.0) y)) x) v (both t s)
-        ∙ (λ i. max (met-all r y v t s i) (meet-mark x y v t s i)) ∙ sym (both_of-max_left (row_mark r v t) (mark x v t) (mark y v s))
+    ∙ (λ i. max (met-all r y v t s i) (meet-mark x y v t s i)) ∙ sym (both_of-max_left (row_mark r v t) (mark x v t) (mark y v s))
 
 none-met : (v : Val) (p k : ℕ) (r : Row) (y : List Row) → mark (map (met r) y) v (single p k) ≡ 0
 none-met v p k r [] = refl
@@ -363,10 +367,10 @@ changed-step : (s : List Row) (r : Row) (v : Val) (t : Tok) (n : ℕ)
     ≡ (if nat_lt (mark s v t) (max (row_mark r v t) n) then max (row_mark r v t) n else 0)
 changed-step s r v t n =
     elim (eq_by_cmp key_cmp (v, t) r.0) as (λ b. eq_by_cmp key_cmp (v, t) r.0 ≡ b
-        → (if nat_lt (mark s r.0.0 r.0.1) (level r.1) then max (if b then level r.1 else 0) (if nat_lt (mark s v t) n then n else 0) else (if nat_lt (mark s v t) n then n else 0))
-        ≡ (if nat_lt (mark s v t) (max (if b then level r.1 else 0) n) then max (if b then level r.1 else 0) n else 0)) [
+    → (if nat_lt (mark s r.0.0 r.0.1) (level r.1) then max (if b then level r.1 else 0) (if nat_lt (mark s v t) n then n else 0) else (if nat_lt (mark s v t) n then n else 0))
+    ≡ (if nat_lt (mark s v t) (max (if b then level r.1 else 0) n) then max (if b then level r.1 else 0) n else 0)) [
       | true ↦ λ e. subst (λ (k : Key). (if nat_lt (mark s k.0 k.1) (level r.1) then max (level r.1) (if nat_lt (mark s v t) n then n else 0) else (if nat_lt (mark s v t) n then n else 0))
-            ≡ (if nat_lt (mark s v t) (max (level r.1) n) then max (level r.1) n else 0))
+          ≡ (if nat_lt (mark s v t) (max (level r.1) n) then max (level r.1) n else 0))
           (key_exact (v, t) r.0 (is-Equal (key_cmp (v, t) r.0) e)) (changed-here (mark s v t) (level r.1) n)
       | false ↦ λ e. changed-elsewhere (nat_lt (mark s r.0.0 r.0.1) (level r.1)) (mark s v t) n
     ] refl
@@ -376,8 +380,8 @@ pub changed-mark : (s t : List Row) (v : Val) (w : Tok) → mark (changed s t) v
 changed-mark s [] v w = sym (changed-nothing (mark s v w))
 changed-mark s (r ∷ t) v w =
     elim (nat_lt (mark s r.0.0 r.0.1) (level r.1)) as (λ b. mark (cond b (r ∷ changed s t) (changed s t)) v w ≡ (if b then max (row_mark r v w) (mark (changed s t) v w) else mark (changed s t) v w)) [ true ↦ refl | false ↦ refl ]
-        ∙ subst (λ (m : ℕ). (if nat_lt (mark s r.0.0 r.0.1) (level r.1) then max (row_mark r v w) m else m) ≡ (if nat_lt (mark s v w) (max (row_mark r v w) (mark t v w)) then max (row_mark r v w) (mark t v w) else 0))
-            (sym (changed-mark s t v w)) (changed-step s r v w (mark t v w))
+    ∙ subst (λ (m : ℕ). (if nat_lt (mark s r.0.0 r.0.1) (level r.1) then max (row_mark r v w) m else m) ≡ (if nat_lt (mark s v w) (max (row_mark r v w) (mark t v w)) then max (row_mark r v w) (mark t v w) else 0))
+    (sym (changed-mark s t v w)) (changed-step s r v w (mark t v w))
 
 changed-join-number : (m n c : ℕ) → m ≤ n → c ≡ (if nat_lt m n then n else 0) → max m c ≡ n
 changed-join-number m n c a e = grind (arith, nat_tests, a, e)
@@ -401,25 +405,45 @@ map-increment f x x' up a = ap (map_set f) (sym (join-changed x x' up a)) ∙ ma
 pub union-increment : (x x' y y' : List Row) → IsAscending x' → IsAscending y' → IsAtMost x x' → IsAtMost y y' → union_set x' y' ≡ join (union_set x y) (join (changed x x') (changed y y'))
 union-increment x x' y y' up_x up_y a b =
     same_from_mark (join x' y') (join (join x y) (join (changed x x') (changed y y'))) (ascending-join x' y') (ascending-join (join x y) (join (changed x x') (changed y y')))
-        (λ v t. omega (arith, ap (λ (z : List Row). mark z v t) (join-changed x x' up_x a), ap (λ (z : List Row). mark z v t) (join-changed y y' up_y b), mark-join x' y' v t, mark-join x (changed x x') v t,
-          mark-join y (changed y y') v t, mark-join (join x y) (join (changed x x') (changed y y')) v t, mark-join x y v t, mark-join (changed x x') (changed y y') v t))
+    (λ v t. omega (
+      arith,
+      ap (λ (z : List Row). mark z v t) (join-changed x x' up_x a),
+      ap (λ (z : List Row). mark z v t) (join-changed y y' up_y b),
+      mark-join x' y' v t,
+      mark-join x (changed x x') v t,
+      mark-join y (changed y y') v t,
+      mark-join (join x y) (join (changed x x') (changed y y')) v t,
+      mark-join x y v t,
+      mark-join (changed x x') (changed y y') v t,
+    ))
 
 -- A process of two inputs that sends joins to joins, in each of them.
 increment-by : (F : List Row → List Row → List Row) → ((x x' y : List Row) → F (join x x') y ≡ join (F x y) (F x' y)) → ((x y y' : List Row) → F x (join y y') ≡ join (F x y) (F x y'))
     → (x x' y y' : List Row) → IsAscending x' → IsAscending y' → IsAtMost x x' → IsAtMost y y' → F x' y' ≡ join (F x y) (join (F (changed x x') y') (F x' (changed y y')))
 increment-by F left right x x' y y' up_x up_y a b =
     ap (F x') (sym (join-changed y y' up_y b)) ∙ right x' y (changed y y')
-        ∙ sym (same_from_mark (join (F x y) (join (F (changed x x') y') (F x' (changed y y')))) (join (F x' y) (F x' (changed y y'))) (ascending-join (F x y) (join (F (changed x x') y') (F x' (changed y y'))))
-        (ascending-join (F x' y) (F x' (changed y y'))) (λ v t.
-          omega (arith, ap (λ (z : List Row). mark z v t) less, ap (λ (z : List Row). mark z v t) more, mark-join (F x y) (F (changed x x') y) v t, mark-join (F (changed x x') y) (F (changed x x') (changed y y')) v t,
-            mark-join (F x y) (join (F (changed x x') y') (F x' (changed y y'))) v t, mark-join (F (changed x x') y') (F x' (changed y y')) v t, mark-join (F x' y) (F x' (changed y y')) v t,
-            ap (λ (z : List Row). mark z v t) both_more, mark-join (F x (changed y y')) (F (changed x x') (changed y y')) v t))) where
-  less : F x' y ≡ join (F x y) (F (changed x x') y)
-  less = ap (λ (z : List Row). F z y) (sym (join-changed x x' up_x a)) ∙ left x (changed x x') y
-  more : F (changed x x') y' ≡ join (F (changed x x') y) (F (changed x x') (changed y y'))
-  more = ap (F (changed x x')) (sym (join-changed y y' up_y b)) ∙ right (changed x x') y (changed y y')
-  both_more : F x' (changed y y') ≡ join (F x (changed y y')) (F (changed x x') (changed y y'))
-  both_more = ap (λ (z : List Row). F z (changed y y')) (sym (join-changed x x' up_x a)) ∙ left x (changed x x') (changed y y')
+    ∙ sym (same_from_mark (join (F x y) (join (F (changed x x') y') (F x' (changed y y')))) (join (F x' y) (F x' (changed y y'))) (ascending-join (F x y) (join (F (changed x x') y') (F x' (changed y y'))))
+    (ascending-join (F x' y) (F x' (changed y y'))) (λ v t.
+    omega (
+      arith,
+      ap (λ (z : List Row). mark z v t) less,
+      ap (λ (z : List Row). mark z v t) more,
+      mark-join (F x y) (F (changed x x') y) v t,
+      mark-join (F (changed x x') y) (F (changed x x') (changed y y')) v t,
+      mark-join (F x y) (join (F (changed x x') y') (F x' (changed y y'))) v t,
+      mark-join (F (changed x x') y') (F x' (changed y y')) v t,
+      mark-join (F x' y) (F x' (changed y y')) v t,
+      ap (λ (z : List Row). mark z v t) both_more,
+      mark-join (F x (changed y y')) (F (changed x x') (changed y y')) v t,
+    ))) where
+      less : F x' y ≡ join (F x y) (F (changed x x') y)
+      less = ap (λ (z : List Row). F z y) (sym (join-changed x x' up_x a)) ∙ left x (changed x x') y
+
+      more : F (changed x x') y' ≡ join (F (changed x x') y) (F (changed x x') (changed y y'))
+      more = ap (F (changed x x')) (sym (join-changed y y' up_y b)) ∙ right (changed x x') y (changed y y')
+
+      both_more : F x' (changed y y') ≡ join (F x (changed y y')) (F (changed x x') (changed y y'))
+      both_more = ap (λ (z : List Row). F z (changed y y')) (sym (join-changed x x' up_x a)) ∙ left x (changed x x') (changed y y')
 
 pub product-increment : (x x' y y' : List Row) → IsAscending x' → IsAscending y' → IsAtMost x x' → IsAtMost y y'
     → product_set x' y' ≡ join (product_set x y) (join (product_set (changed x x') y') (product_set x' (changed y y')))
@@ -428,3 +452,11 @@ product-increment = increment-by product_set product-join_left product-join_righ
 pub intersect-increment : (x x' y y' : List Row) → IsAscending x' → IsAscending y' → IsAtMost x x' → IsAtMost y y'
     → intersect_set x' y' ≡ join (intersect_set x y) (join (intersect_set (changed x x') y') (intersect_set x' (changed y y')))
 intersect-increment = increment-by intersect_set intersect-join_left intersect-join_right
+
+pub ruleset monotone = (map-monotone, filter-monotone, join-monotone, product-monotone, intersect-monotone)
+
+pub ruleset joins = (map-join, filter-join, product-join_left, product-join_right, intersect-join_left, intersect-join_right)
+
+pub ruleset changes = (ascending-changed, changed-mark, join-changed)
+
+pub ruleset increments = (map-increment, filter-increment, union-increment, product-increment, intersect-increment)

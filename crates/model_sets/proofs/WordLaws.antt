@@ -1,21 +1,20 @@
 -- What the processes give, in words: which rows there are, which are dead, and which values are visible.
-use Rattle.std.proofs.Common.{◌≡◌, ◌≢◌, ℕ, ◌≤◌, ◌<◌, max, Bool, true, false, cond, not, ◌||◌, if◌then◌else◌, ◌==◌, nat_lt, IsTrue, List, [], ◌∷◌, ◌++◌, map, filter, flat_map, refl, sym, ap, subst, ◌∙◌, arith, ◌↔◌, ◌⊎◌, inl, inr}
+use Rattle.std.proofs.Common.{◌≡◌, ◌≢◌, ℕ, ◌≤◌, ◌<◌, max, Bool, true, false, if◌then◌else◌, ◌==◌, nat_lt, IsTrue, List, [], ◌∷◌, refl, sym, ap, subst, ◌∙◌, arith, ◌↔◌, ◌⊎◌, inl, inr}
 use Rattle.std.proofs.lemmas.Bool.Decides.{nat_tests}
-use Rattle.std.specs.Ordering.{is_eq, eq_by_cmp, ordering_then}
+use Rattle.std.specs.Ordering.{is_eq, eq_by_cmp}
 use Rattle.std.specs.declared.cmp.Ordering.{Ordering}
-use Rattle.std.specs.declared.cmp.Ordering.TheVariants.{Less, Equal, Greater}
 use Rattle.std.specs.FinMap.Entries.{is_sorted, below_all}
 use Rattle.std.specs.Cmp.{tied_itself}
 use Rattle.model_values.specs.Value.{Val, int, text, pair, val_cmp, val_exact, val_total}
-use Rattle.model_values.specs.Token.{Tok, single, both, tok_cmp, tok_total}
-use Rattle.model_values.specs.Row.{Key, Row, key_cmp, key_total, key_exact}
-use Rattle.model_sets.specs.Rows.{level, row_mark, mark, HasRow, IsDeadIn, IsAscending, of_rows, join, IsAtMost}
-use Rattle.model_sets.specs.Values.{is_value, held, IsHeld, AreAscending, of_values, unite, live_values, visible}
-use Rattle.model_sets.specs.Equations.{moved, map_set, filter_set, union_set, product_set, intersect_set, both_of, product_mark, intersect_mark, changed}
+use Rattle.model_values.specs.Token.{Tok, single, both}
+use Rattle.model_values.specs.Row.{Key, Row, key_cmp, key_exact}
+use Rattle.model_sets.specs.Rows.{level, row_mark, mark, HasRow, IsDeadIn, IsAscending}
+use Rattle.model_sets.specs.Values.{is_value, held, IsHeld, AreAscending, live_values, visible}
+use Rattle.model_sets.specs.Equations.{map_set, filter_set, union_set, product_set, intersect_set, both_of}
 use Rattle.model_sets.specs.Algebra.{IsLive}
 use Rattle.model_sets.proofs.RowLaws.{and-left, and-right, is-Equal, mark-below, mark-small, mark-join}
 use Rattle.model_sets.proofs.ValueLaws.{held-small, held-visible, same_from_held}
-use Rattle.model_sets.proofs.EquationLaws.{tied_key, filter-mark, map-mark, map-ge, map-from, product-mark, intersect-mark, changed-mark}
+use Rattle.model_sets.proofs.EquationLaws.{tied_key, filter-mark, map-mark, map-ge, map-from, product-mark, intersect-mark}
 
 -- ---- numbers
 
@@ -29,8 +28,10 @@ both-two : (m n : ℕ) → m ≤ 2 → n ≤ 2 → both_of m n ≡ 2 → (0 < m)
 both-two m n a b h = (small, other, choose (m == 2) refl) where
   small : 0 < m
   small = grind (arith, nat_tests, h)
+
   other : 0 < n
   other = grind (arith, nat_tests, h)
+
   choose : (c : Bool) → (m == 2) ≡ c → (m ≡ 2) ⊎ (n ≡ 2)
   choose true e = inl (grind (arith, nat_tests, e))
   choose false e = inr (grind (arith, nat_tests, e, h, a, b))
@@ -49,6 +50,7 @@ filter-has p x v t = (λ h. there (p v) (subst (λ (m : ℕ). 0 < m) (filter-mar
   there : (b : Bool) → 0 < (if b then mark x v t else 0) → IsTrue b × HasRow x v t
   there true h = (refl, h)
   there false h = absurd (omega (arith, h))
+
   back : (b : Bool) → IsTrue b → HasRow x v t → 0 < (if b then mark x v t else 0)
   back true e h = h
   back false e h = cc
@@ -58,6 +60,7 @@ filter-dead p x v t = (λ h. there (p v) (sym (filter-mark p x v t) ∙ h), λ h
   there : (b : Bool) → (if b then mark x v t else 0) ≡ 2 → IsTrue b × IsDeadIn x v t
   there true h = (refl, h)
   there false h = absurd (omega (arith, h))
+
   back : (b : Bool) → IsTrue b → IsDeadIn x v t → (if b then mark x v t else 0) ≡ 2
   back true e h = h
   back false e h = cc
@@ -65,14 +68,16 @@ filter-dead p x v t = (λ h. there (p v) (sym (filter-mark p x v t) ∙ h), λ h
 -- ---- map
 
 pub map-has : (f : Val → Val) (x : List Row) (w : Val) (t : Tok) → HasRow (map_set f x) w t ↔ ((u : Val) × (f u ≡ w) × HasRow x u t)
-map-has f x w t =
-    (λ h. let found = map-from f x w t 1 (omega arith) (omega (arith, h, map-mark f x w t)) in (found.0, found.1, omega (arith, found.2)),
-     λ h. subst (λ (z : Val). HasRow (map_set f x) z t) h.1 (omega (arith, map-mark f x (f h.0) t, map-ge f x h.0 t, h.2)))
+map-has f x w t = (
+  λ h. let found = map-from f x w t 1 (omega arith) (omega (arith, h, map-mark f x w t)) in (found.0, found.1, omega (arith, found.2)),
+  λ h. subst (λ (z : Val). HasRow (map_set f x) z t) h.1 (omega (arith, map-mark f x (f h.0) t, map-ge f x h.0 t, h.2)),
+)
 
 pub map-dead : (f : Val → Val) (x : List Row) (w : Val) (t : Tok) → IsDeadIn (map_set f x) w t ↔ ((u : Val) × (f u ≡ w) × IsDeadIn x u t)
-map-dead f x w t =
-    (λ h. let found = map-from f x w t 2 (omega arith) (omega (arith, h, map-mark f x w t)) in (found.0, found.1, omega (arith, found.2, mark-small x found.0 t)),
-     λ h. subst (λ (z : Val). IsDeadIn (map_set f x) z t) h.1 (omega (arith, map-mark f x (f h.0) t, map-ge f x h.0 t, h.2, mark-small (map_set f x) (f h.0) t)))
+map-dead f x w t = (
+  λ h. let found = map-from f x w t 2 (omega arith) (omega (arith, h, map-mark f x w t)) in (found.0, found.1, omega (arith, found.2, mark-small x found.0 t)),
+  λ h. subst (λ (z : Val). IsDeadIn (map_set f x) z t) h.1 (omega (arith, map-mark f x (f h.0) t, map-ge f x h.0 t, h.2, mark-small (map_set f x) (f h.0) t)),
+)
 
 -- ---- union
 
@@ -81,6 +86,7 @@ union-has x y v t = (λ h. choose (nat_lt 0 (mark x v t)) refl h, back) where
   choose : (b : Bool) → nat_lt 0 (mark x v t) ≡ b → HasRow (union_set x y) v t → HasRow x v t ⊎ HasRow y v t
   choose true e h = inl (grind (arith, nat_tests, e))
   choose false e h = let none : mark x v t ≡ 0 = grind (arith, nat_tests, e) in inr (omega (arith, none, h, mark-join x y v t))
+
   back : HasRow x v t ⊎ HasRow y v t → HasRow (union_set x y) v t
   back (inl h) = omega (arith, h, mark-join x y v t)
   back (inr h) = omega (arith, h, mark-join x y v t)
@@ -90,6 +96,7 @@ union-dead x y v t = (λ h. choose (mark x v t == 2) refl h, back) where
   choose : (b : Bool) → (mark x v t == 2) ≡ b → IsDeadIn (union_set x y) v t → IsDeadIn x v t ⊎ IsDeadIn y v t
   choose true e h = inl (grind (arith, nat_tests, e))
   choose false e h = let other : mark x v t ≢ 2 = grind (arith, nat_tests, e) in inr (omega (arith, other, h, mark-join x y v t))
+
   back : IsDeadIn x v t ⊎ IsDeadIn y v t → IsDeadIn (union_set x y) v t
   back (inl h) = omega (arith, h, mark-join x y v t, mark-small y v t)
   back (inr h) = omega (arith, h, mark-join x y v t, mark-small x v t)
@@ -97,14 +104,16 @@ union-dead x y v t = (λ h. choose (mark x v t == 2) refl h, back) where
 -- ---- product
 
 pub product-has : (x y : List Row) (v w : Val) (t s : Tok) → HasRow (product_set x y) (pair v w) (both t s) ↔ (HasRow x v t × HasRow y w s)
-product-has x y v w t s =
-    (λ h. both-positive (mark x v t) (mark y w s) (subst (λ (m : ℕ). 0 < m) (product-mark x y (pair v w) (both t s)) h),
-     λ h. subst (λ (m : ℕ). 0 < m) (sym (product-mark x y (pair v w) (both t s))) (positive-both (mark x v t) (mark y w s) h.0 h.1))
+product-has x y v w t s = (
+  λ h. both-positive (mark x v t) (mark y w s) (subst (λ (m : ℕ). 0 < m) (product-mark x y (pair v w) (both t s)) h),
+  λ h. subst (λ (m : ℕ). 0 < m) (sym (product-mark x y (pair v w) (both t s))) (positive-both (mark x v t) (mark y w s) h.0 h.1),
+)
 
 pub product-dead : (x y : List Row) (v w : Val) (t s : Tok) → IsDeadIn (product_set x y) (pair v w) (both t s) ↔ (HasRow x v t × HasRow y w s × (IsDeadIn x v t ⊎ IsDeadIn y w s))
-product-dead x y v w t s =
-    (λ h. both-two (mark x v t) (mark y w s) (mark-small x v t) (mark-small y w s) (sym (product-mark x y (pair v w) (both t s)) ∙ h),
-     λ h. product-mark x y (pair v w) (both t s) ∙ two-both (mark x v t) (mark y w s) (mark-small x v t) (mark-small y w s) h.0 h.1 h.2)
+product-dead x y v w t s = (
+  λ h. both-two (mark x v t) (mark y w s) (mark-small x v t) (mark-small y w s) (sym (product-mark x y (pair v w) (both t s)) ∙ h),
+  λ h. product-mark x y (pair v w) (both t s) ∙ two-both (mark x v t) (mark y w s) (mark-small x v t) (mark-small y w s) h.0 h.1 h.2,
+)
 
 pub product-only : (x y : List Row) (u : Val) (r : Tok) → HasRow (product_set x y) u r → (v : Val) × (w : Val) × (t : Tok) × (s : Tok) × (u ≡ pair v w) × (r ≡ both t s)
 product-only x y (pair v w) (both t s) h = (v, w, t, s, refl, refl)
@@ -115,14 +124,16 @@ product-only x y (pair v w) (single q k) h = absurd (omega (arith, h, product-ma
 -- ---- intersection
 
 pub intersect-has : (x y : List Row) (v : Val) (t s : Tok) → HasRow (intersect_set x y) v (both t s) ↔ (HasRow x v t × HasRow y v s)
-intersect-has x y v t s =
-    (λ h. both-positive (mark x v t) (mark y v s) (subst (λ (m : ℕ). 0 < m) (intersect-mark x y v (both t s)) h),
-     λ h. subst (λ (m : ℕ). 0 < m) (sym (intersect-mark x y v (both t s))) (positive-both (mark x v t) (mark y v s) h.0 h.1))
+intersect-has x y v t s = (
+  λ h. both-positive (mark x v t) (mark y v s) (subst (λ (m : ℕ). 0 < m) (intersect-mark x y v (both t s)) h),
+  λ h. subst (λ (m : ℕ). 0 < m) (sym (intersect-mark x y v (both t s))) (positive-both (mark x v t) (mark y v s) h.0 h.1),
+)
 
 pub intersect-dead : (x y : List Row) (v : Val) (t s : Tok) → IsDeadIn (intersect_set x y) v (both t s) ↔ (HasRow x v t × HasRow y v s × (IsDeadIn x v t ⊎ IsDeadIn y v s))
-intersect-dead x y v t s =
-    (λ h. both-two (mark x v t) (mark y v s) (mark-small x v t) (mark-small y v s) (sym (intersect-mark x y v (both t s)) ∙ h),
-     λ h. intersect-mark x y v (both t s) ∙ two-both (mark x v t) (mark y v s) (mark-small x v t) (mark-small y v s) h.0 h.1 h.2)
+intersect-dead x y v t s = (
+  λ h. both-two (mark x v t) (mark y v s) (mark-small x v t) (mark-small y v s) (sym (intersect-mark x y v (both t s)) ∙ h),
+  λ h. intersect-mark x y v (both t s) ∙ two-both (mark x v t) (mark y v s) (mark-small x v t) (mark-small y v s) h.0 h.1 h.2,
+)
 
 pub intersect-only : (x y : List Row) (v : Val) (r : Tok) → HasRow (intersect_set x y) v r → (t : Tok) × (s : Tok) × (r ≡ both t s)
 intersect-only x y v (both t s) h = (t, s, refl)
@@ -158,6 +169,7 @@ live-in [] up v h = absurd (omega (arith, h))
 live-in (r ∷ x) up v h = choose (λ g. live-in x (and-right (below_all key_cmp r.0 x) (is_sorted key_cmp x) up) v g) (shows r v == 1) refl where
   none : mark x r.0.0 r.0.1 ≡ 0
   none = mark-below r.0 x (and-left (below_all key_cmp r.0 x) (is_sorted key_cmp x) up)
+
   choose : (held (live_values x) v ≡ 1 → (t : Tok) × IsLive x v t) → (b : Bool) → (shows r v == 1) ≡ b → (t : Tok) × IsLive (r ∷ x) v t
   choose later true e =
       let one : shows r v ≡ 1 = grind (arith, nat_tests, e) in
@@ -168,11 +180,11 @@ live-in (r ∷ x) up v h = choose (λ g. live-in x (and-right (below_all key_cmp
       let other : shows r v ≢ 1 = grind (arith, nat_tests, e) in
       let found = later (omega (arith, other, live-step r x v, h, shows-small r v)) in
       (found.0, apart found.0 (eq_by_cmp key_cmp (v, found.0) r.0) refl found.1) where
-    apart : (t : Tok) → (b : Bool) → eq_by_cmp key_cmp (v, t) r.0 ≡ b → mark x v t ≡ 1 → max (if b then level r.1 else 0) (mark x v t) ≡ 1
-    apart t true g m =
-        let gone : mark x v t ≡ 0 = subst (λ (k : Key). mark x k.0 k.1 ≡ 0) (sym (key_exact (v, t) r.0 (is-Equal (key_cmp (v, t) r.0) g))) none in
-        absurd (omega (arith, gone, m))
-    apart t false g m = omega (arith, m)
+        apart : (t : Tok) → (b : Bool) → eq_by_cmp key_cmp (v, t) r.0 ≡ b → mark x v t ≡ 1 → max (if b then level r.1 else 0) (mark x v t) ≡ 1
+        apart t true g m =
+            let gone : mark x v t ≡ 0 = subst (λ (k : Key). mark x k.0 k.1 ≡ 0) (sym (key_exact (v, t) r.0 (is-Equal (key_cmp (v, t) r.0) g))) none in
+            absurd (omega (arith, gone, m))
+        apart t false g m = omega (arith, m)
 
 -- A value that is live with some token is among the live ones.
 live-out : (x : List Row) (v : Val) (t : Tok) → IsLive x v t → held (live_values x) v ≡ 1
@@ -209,3 +221,7 @@ same_from_words s t up_s up_t same = same_from_held s t up_s up_t (λ v. choose 
       let not_s : held s v ≢ 1 = grind (arith, nat_tests, e) in
       let not_t : held t v ≢ 1 = grind (arith, nat_tests, g) in
       omega (arith, not_s, not_t, held-small s v, held-small t v)
+
+pub ruleset words = (map-has, map-dead, filter-has, filter-dead, union-has, union-dead, product-has, product-dead, product-only, intersect-has, intersect-dead, intersect-only)
+
+pub ruleset visible_words = (visible-live)

@@ -1,5 +1,5 @@
 -- The five processes over set states: which rows each result has, and which of them are dead. Each is a plain comprehension over rows, made a state by `of_rows`.
-use Rattle.std.specs.Prelude.{◌≡◌, ℕ, max, Bool, ◌||◌, if◌then◌else◌, ◌==◌, nat_lt, List, [], ◌∷◌, map, filter, flat_map}
+use Rattle.std.specs.Prelude.{ℕ, max, Bool, ◌||◌, if◌then◌else◌, ◌==◌, nat_lt, List, map, filter, flat_map}
 use Rattle.model_values.specs.Value.{Val, pair}
 use Rattle.model_values.specs.Token.{Tok, both}
 use Rattle.model_values.specs.Row.{Row}

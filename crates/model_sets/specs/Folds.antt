@@ -1,18 +1,18 @@
 -- Folds of a commutative group over the visible values, each value once, and a fold after a change from the fold before.
-use Rattle.std.specs.Prelude.{◌≡◌, ℕ, ◌==◌, Bool, if◌then◌else◌, List, filter, fold}
+use Rattle.std.specs.Prelude.{◌≡◌, ◌==◌, Bool, if◌then◌else◌, IsTrue, List, filter, fold}
 use Rattle.model_values.specs.Value.{Val}
 use Rattle.model_values.specs.Row.{Row}
 use Rattle.model_sets.specs.Values.{held, visible}
 
 -- What an operation on members is: associative and commutative, with a neutral element and inverses.
-pub record IsFoldGroup {A : Type 0} (IsMember : A → Type 0) (op : A → A → A) (neutral : A) (inverse : A → A) : Type 0 where
-  pub neutral_in : IsMember neutral
-  pub op_in : (a b : A) → IsMember a → IsMember b → IsMember (op a b)
-  pub inverse_in : (a : A) → IsMember a → IsMember (inverse a)
-  pub associative : (a b c : A) → IsMember a → IsMember b → IsMember c → op (op a b) c ≡ op a (op b c)
-  pub commutative : (a b : A) → IsMember a → IsMember b → op a b ≡ op b a
-  pub neutral_right : (a : A) → IsMember a → op a neutral ≡ a
-  pub inverse_right : (a : A) → IsMember a → op a (inverse a) ≡ neutral
+pub record IsFoldGroup {A : Type 0} (member : A → Bool) (op : A → A → A) (neutral : A) (inverse : A → A) : Type 0 where
+  pub neutral_in : IsTrue (member neutral)
+  pub op_in : (a b : A) → IsTrue (member a) → IsTrue (member b) → IsTrue (member (op a b))
+  pub inverse_in : (a : A) → IsTrue (member a) → IsTrue (member (inverse a))
+  pub associative : (a b c : A) → IsTrue (member a) → IsTrue (member b) → IsTrue (member c) → op (op a b) c ≡ op a (op b c)
+  pub commutative : (a b : A) → IsTrue (member a) → IsTrue (member b) → op a b ≡ op b a
+  pub neutral_right : (a : A) → IsTrue (member a) → op a neutral ≡ a
+  pub inverse_right : (a : A) → IsTrue (member a) → op a (inverse a) ≡ neutral
 
 -- The lifts of the values, combined in list order from the neutral element on.
 abbrev pub fold_of : {A : Type 0} → (A → A → A) → A → (Val → A) → List Val → A
