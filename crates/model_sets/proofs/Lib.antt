@@ -5,3 +5,4 @@ pub mod EquationLaws
 pub mod WordLaws
 pub mod AlgebraLaws
 pub mod FoldLaws
+pub mod LoopLaws

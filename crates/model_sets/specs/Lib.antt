@@ -4,3 +4,4 @@ pub mod Values
 pub mod Equations
 pub mod Algebra
 pub mod Folds
+pub mod Loops
