@@ -6,3 +6,4 @@ pub mod WordLaws
 pub mod AlgebraLaws
 pub mod FoldLaws
 pub mod LoopLaws
+pub mod UpdateLaws

@@ -1,20 +1,17 @@
 -- What loops over rows compute is what the definitions say.
-use Rattle.std.proofs.Common.{◌≡◌, ◌≢◌, ℕ, suc, is_some, ◌+◌, ◌≤◌, ◌<◌, max, Bool, true, false, cond, not, ◌&&◌, ◌||◌, if◌then◌else◌, ◌==◌, IsTrue, List, [], ◌∷◌, ◌++◌, map, filter, length, refl, sym, ap, subst, ◌∙◌, arith, Option, Some, None, All, slice_index_or, IsPermutation, IsSortedBy}
-use Rattle.std.proofs.lemmas.Bool.Decides.{nat_tests}
+use Rattle.std.proofs.Common.{◌≡◌, ℕ, suc, is_some, ◌+◌, ◌≤◌, max, Bool, true, false, cond, not, ◌&&◌, ◌||◌, if◌then◌else◌, ◌==◌, IsTrue, List, [], ◌∷◌, filter, length, refl, sym, ap, subst, ◌∙◌, arith, Option, Some, None, All, slice_index_or, IsPermutation, IsSortedBy}
 use Rattle.std.proofs.lemmas.List.Sorted.{All-permutation, IsPermutation-sym}
 use Rattle.std.proofs.lemmas.List.Elements.{All-cons, All-tail}
 use Rattle.std.specs.Ordering.{is_eq, is_lt, is_gt, eq_by_cmp, ordering_reverse, ordering_then}
 use Rattle.std.specs.declared.cmp.Ordering.{Ordering}
 use Rattle.std.specs.declared.cmp.Ordering.TheVariants.{Less, Equal, Greater}
 use Rattle.std.specs.FinMap.Entries.{by_order, is_sorted, below_all, find, length-put}
-use Rattle.std.specs.FinMap.Entries as entries
-use Rattle.std.specs.Cmp.{tied_itself}
 use Rattle.model_values.specs.Value.{Val, val_cmp, val_exact, val_total}
 use Rattle.model_values.specs.Token.{Tok, tok_cmp}
 use Rattle.model_values.specs.Row.{Key, Row, key_cmp, key_total, key_exact}
 use Rattle.model_sets.specs.Rows.{level, row_mark, mark, IsAscending, put, of_rows, join}
 use Rattle.model_sets.specs.Values.{is_value, held, entries_of, AreAscending, live_values, visible}
-use Rattle.model_sets.specs.Loops.{merge_row, merge, collapse_from, collapse, is_last, values_after, new_rows}
+use Rattle.model_sets.specs.Loops.{merge_row, merge, collapse_from, collapse, values_after, new_rows}
 use Rattle.model_sets.proofs.RowLaws.{and-left, and-right, and-both, is-Less, is-Equal, row_mark-or, mark-join, mark-of_rows, same_from_mark, ascending-join, ascending-of_rows, ascending-put, below-chain, as_T, found_level, mark-find, mark-put, put-entries, dead_with, join-append, join-row, join-nothing}
 use Rattle.model_sets.proofs.ValueLaws.{held-small, held-visible, same_from_held, ascending-visible}
 
@@ -138,9 +135,9 @@ ordered-from-sorted : (r : Row) (s : List Row) → IsSortedBy (λ (a b : Row). i
 ordered-from-sorted r [] h = refl
 ordered-from-sorted r (q ∷ s) h =
     and-both (not (is_lt (key_cmp q.0 r.0))) (is_ordered_from q.0 s) (ap not (h 0 r (omega arith) (omega arith)))
-        (ordered-from-sorted q s (λ k d a b. subst (λ (n : ℕ). is_lt (key_cmp (slice_index_or (r ∷ q ∷ s) n d).0 (slice_index_or (q ∷ s) k d).0) ≡ false) (one-more k) (h (suc k) d (omega arith) (omega (arith, b))))) where
-  one-more : (k : ℕ) → suc k + 1 ≡ suc (k + 1)
-  one-more k = omega arith
+    (ordered-from-sorted q s (λ k d a b. subst (λ (n : ℕ). is_lt (key_cmp (slice_index_or (r ∷ q ∷ s) n d).0 (slice_index_or (q ∷ s) k d).0) ≡ false) (one-more k) (h (suc k) d (omega arith) (omega (arith, b))))) where
+      one-more : (k : ℕ) → suc k + 1 ≡ suc (k + 1)
+      one-more k = omega arith
 
 pub is_ordered-sorted : (s : List Row) → IsSortedBy (λ (a b : Row). is_lt (key_cmp a.0 b.0)) s → IsTrue (is_ordered s)
 is_ordered-sorted [] h = refl
@@ -179,10 +176,10 @@ after-held u ((k, false) ∷ s) v e =
           omega (arith, none, after-held u s v e)
       | false ↦ λ g. first (λ h. after-held k.0 s v h) (eq_by_cmp val_cmp v k.0) refl
     ] refl where
-  first : (eq_by_cmp val_cmp v k.0 ≡ false → held (values_after (Some k.0) s) v ≡ held (live_values s) v) → (b : Bool) → eq_by_cmp val_cmp v k.0 ≡ b
-      → max (if b then 1 else 0) (held (values_after (Some k.0) s) v) ≡ max (if b then 1 else 0) (held (live_values s) v)
-  first rest true h = omega (arith, held-small (values_after (Some k.0) s) v, held-small (live_values s) v)
-  first rest false h = omega (arith, rest h)
+      first : (eq_by_cmp val_cmp v k.0 ≡ false → held (values_after (Some k.0) s) v ≡ held (live_values s) v) → (b : Bool) → eq_by_cmp val_cmp v k.0 ≡ b
+          → max (if b then 1 else 0) (held (values_after (Some k.0) s) v) ≡ max (if b then 1 else 0) (held (live_values s) v)
+      first rest true h = omega (arith, held-small (values_after (Some k.0) s) v, held-small (live_values s) v)
+      first rest false h = omega (arith, rest h)
 
 all-held : (s : List Row) (v : Val) → held (values_after None s) v ≡ held (live_values s) v
 all-held [] v = refl
@@ -201,11 +198,11 @@ none_less-below : (k : Key) (s : List Row) → IsTrue (below_all key_cmp k s) �
 none_less-below k [] h = refl
 none_less-below k (r ∷ s) h =
     and-both (not (is_gt (val_cmp k.0 r.0.0))) (none_less k.0 s) (first (val_cmp k.0 r.0.0) (tok_cmp k.1 r.0.1) (and-left (is_lt (key_cmp k r.0)) (below_all key_cmp k s) h))
-        (none_less-below k s (and-right (is_lt (key_cmp k r.0)) (below_all key_cmp k s) h)) where
-  first : (o p : Ordering) → IsTrue (is_lt (ordering_then o p)) → IsTrue (not (is_gt o))
-  first Less p e = refl
-  first Equal p e = refl
-  first Greater p e = cc
+    (none_less-below k s (and-right (is_lt (key_cmp k r.0)) (below_all key_cmp k s) h)) where
+      first : (o p : Ordering) → IsTrue (is_lt (ordering_then o p)) → IsTrue (not (is_gt o))
+      first Less p e = refl
+      first Equal p e = refl
+      first Greater p e = cc
 
 is-between : (o : Ordering) → IsTrue (not (is_gt o)) → is_eq o ≡ false → o ≡ Less
 is-between Less a b = refl
@@ -216,7 +213,7 @@ values-chain : (u v : Val) (s : List Val) → val_cmp u v ≡ Less → IsTrue (b
 values-chain u v [] e h = refl
 values-chain u v (w ∷ s) e h =
     and-both (is_lt (val_cmp u w)) (below_all val_cmp u (entries_of s))
-        (ap is_lt (val_total.trans u v w e (is-Less (val_cmp v w) (and-left (is_lt (val_cmp v w)) (below_all val_cmp v (entries_of s)) h)))) (values-chain u v s e (and-right (is_lt (val_cmp v w)) (below_all val_cmp v (entries_of s)) h))
+    (ap is_lt (val_total.trans u v w e (is-Less (val_cmp v w) (and-left (is_lt (val_cmp v w)) (below_all val_cmp v (entries_of s)) h)))) (values-chain u v s e (and-right (is_lt (val_cmp v w)) (below_all val_cmp v (entries_of s)) h))
 
 after-below : (u : Val) (s : List Row) → IsAscending s → IsTrue (none_less u s) → IsTrue (below_all val_cmp u (entries_of (values_after (Some u) s)))
 after-below u [] up h = refl
@@ -264,10 +261,10 @@ mark-none (Some false) = refl
 pub length-put_row : (r : Row) (s : List Row) → IsAscending s → length (put r s) ≡ (if mark s r.0.0 r.0.1 == 0 then length s + 1 else length s)
 length-put_row r s up =
     ap length (put-entries r s up) ∙ length-put key_cmp key_total r.0 (dead_with (find key_cmp r.0 s) r.1) s (as_T (is_sorted key_cmp s) up) ∙ turn (is_some (find key_cmp r.0 s))
-        ∙ ap (λ (b : Bool). if b then length s + 1 else length s) (sym (ap (λ (m : ℕ). m == 0) (mark-find s up r.0) ∙ mark-none (find key_cmp r.0 s))) where
-  turn : (b : Bool) → cond b (length s) (length s + 1) ≡ (if not b then length s + 1 else length s)
-  turn true = refl
-  turn false = refl
+    ∙ ap (λ (b : Bool). if b then length s + 1 else length s) (sym (ap (λ (m : ℕ). m == 0) (mark-find s up r.0) ∙ mark-none (find key_cmp r.0 s))) where
+      turn : (b : Bool) → cond b (length s) (length s + 1) ≡ (if not b then length s + 1 else length s)
+      turn true = refl
+      turn false = refl
 
 new_rows-put : (r : Row) (s t : List Row) → IsTrue (below_all key_cmp r.0 t) → new_rows (put r s) t ≡ new_rows s t
 new_rows-put r s [] h = refl
@@ -277,11 +274,11 @@ new_rows-put r s (q ∷ t) h =
     let same : mark (put r s) q.0.0 q.0.1 ≡ mark s q.0.0 q.0.1 = omega (arith, mark-put r s q.0.0 q.0.1, apart) in
     let rest = new_rows-put r s t (and-right (is_lt (key_cmp r.0 q.0)) (below_all key_cmp r.0 t) h) in
     ap (λ (m : ℕ). length (cond (m == 0) (q ∷ filter (λ p. mark (put r s) p.0.0 p.0.1 == 0) t) (filter (λ p. mark (put r s) p.0.0 p.0.1 == 0) t))) same
-        ∙ elim (mark s q.0.0 q.0.1 == 0) as (λ b. length (cond b (q ∷ filter (λ p. mark (put r s) p.0.0 p.0.1 == 0) t) (filter (λ p. mark (put r s) p.0.0 p.0.1 == 0) t))
-            ≡ length (cond b (q ∷ filter (λ p. mark s p.0.0 p.0.1 == 0) t) (filter (λ p. mark s p.0.0 p.0.1 == 0) t))) [
-          | true ↦ ap suc rest
-          | false ↦ rest
-        ]
+    ∙ elim (mark s q.0.0 q.0.1 == 0) as (λ b. length (cond b (q ∷ filter (λ p. mark (put r s) p.0.0 p.0.1 == 0) t) (filter (λ p. mark (put r s) p.0.0 p.0.1 == 0) t))
+    ≡ length (cond b (q ∷ filter (λ p. mark s p.0.0 p.0.1 == 0) t) (filter (λ p. mark s p.0.0 p.0.1 == 0) t))) [
+      | true ↦ ap suc rest
+      | false ↦ rest
+    ]
 
 -- A join has the rows of the first, and those of the second whose keys the first lacks.
 pub length-join : (s t : List Row) → IsAscending s → IsAscending t → length (join s t) ≡ length s + new_rows s t
@@ -292,7 +289,9 @@ length-join s (r ∷ t) up_s up_t =
     let step : join s (r ∷ t) ≡ join (put r s) t = join-append s (r ∷ []) t ∙ ap (λ (u : List Row). join u t) (join-row s r up_s) in
     let rest : length (join s (r ∷ t)) ≡ length (put r s) + new_rows s t = ap length step ∙ length-join (put r s) t (ascending-put r s up_s) later ∙ ap (λ (n : ℕ). length (put r s) + n) (new_rows-put r s t below) in
     rest ∙ ap (λ (n : ℕ). n + new_rows s t) (length-put_row r s up_s)
-        ∙ elim (mark s r.0.0 r.0.1 == 0) as (λ b. (if b then length s + 1 else length s) + new_rows s t ≡ length s + length (cond b (r ∷ filter (λ p. mark s p.0.0 p.0.1 == 0) t) (filter (λ p. mark s p.0.0 p.0.1 == 0) t))) [
-          | true ↦ omega arith
-          | false ↦ refl
-        ]
+    ∙ elim (mark s r.0.0 r.0.1 == 0) as (λ b. (if b then length s + 1 else length s) + new_rows s t ≡ length s + length (cond b (r ∷ filter (λ p. mark s p.0.0 p.0.1 == 0) t) (filter (λ p. mark s p.0.0 p.0.1 == 0) t))) [
+      | true ↦ omega arith
+      | false ↦ refl
+    ]
+
+pub ruleset loops = (merge-join, collapse-sorted, values_after-visible, length-join)

@@ -1,5 +1,5 @@
 -- What loops over rows compute: the merge of two states, rows collapsed after a sort, the values that come live along rows. Their laws say that this is the join, the state, the visible values.
-use Rattle.std.specs.Prelude.{◌≡◌, ℕ, ◌+◌, ◌==◌, Bool, false, ◌||◌, if◌then◌else◌, List, [], ◌∷◌, Option, Some, None, filter, length}
+use Rattle.std.specs.Prelude.{ℕ, ◌==◌, Bool, false, ◌||◌, if◌then◌else◌, List, [], ◌∷◌, Option, Some, None, filter, length}
 use Rattle.std.specs.Ordering.{eq_by_cmp}
 use Rattle.std.specs.FinMap.Entries.{by_order}
 use Rattle.model_values.specs.Value.{Val, val_cmp}

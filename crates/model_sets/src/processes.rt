@@ -1,10 +1,11 @@
 //! The five processes over set states: which rows they give, that they only grow, and that they may be followed by what changed.
 
-ghost use Rattle.std.specs.Prelude.{◌≡◌, ℕ, IsTrue, Bool, List, ◌↔◌, ◌⊎◌, nat_lt, if◌then◌else◌};
+ghost use Rattle.std.specs.Prelude.{◌≡◌, ◌≢◌, map, ℕ, IsTrue, Bool, List, ◌↔◌, ◌⊎◌, nat_lt, if◌then◌else◌};
 ghost use Rattle.model_values.specs.Value.{Val, pair};
 ghost use Rattle.model_values.specs.Token.{Tok, both};
 ghost use Rattle.model_values.specs.Row.{Row};
 ghost use Rattle.model_sets.specs.Rows.{mark, HasRow, IsDeadIn, IsAscending, join, IsAtMost};
+ghost use Rattle.model_sets.specs.Values.{held, IsHeld, of_values, visible};
 ghost use Rattle.model_sets.specs.Equations.{map_set, filter_set, union_set, product_set, intersect_set, changed};
 
 /// Which rows each process gives, and which of them are dead.
@@ -51,6 +52,12 @@ pub fn what_changed_is_what_is_more()
     ensures ascends { (s t : List Row) → IsAscending t → IsAscending (changed s t) }
     ensures rows { (s t : List Row) (v : Val) (w : Tok) → mark (changed s t) v w ≡ (if nat_lt (mark s v w) (mark t v w) then mark t v w else 0) }
     ensures joined { (s t : List Row) → IsAscending t → IsAtMost s t → join s (changed s t) ≡ t }
+{}
+
+/// A value that only one of a state and a greater one shows is among the values of the changed rows.
+#[tactic(auto, using(crate::proofs::UpdateLaws::change_values))]
+pub fn changed_rows_have_what_is_shown_anew()
+    ensures values { (s t : List Row) → IsAscending s → IsAscending t → IsAtMost s t → (v : Val) → held (visible s) v ≢ held (visible t) v → IsHeld (of_values (map (λ r. r.0.0) (changed s t))) v }
 {}
 
 /// A process over greater inputs is what it was, joined with what the changed rows give.
