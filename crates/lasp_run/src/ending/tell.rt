@@ -1,0 +1,93 @@
+//! The one line on `err`. No memory is taken, and a fault there changes no status.
+
+ghost use Rattle.std.specs.Prelude.{◌≡◌, ◌∷◌, [], map, codes, slice_index_or};
+ghost use Rattle.lasp_run.specs.Words.{words_of};
+ghost use Rattle.model_world.specs.Line.{line};
+ghost use Rattle.model_program.specs.Plan.{word_at};
+ghost use Rattle.model_program.specs.Line.{graph_why_text, script_why_text, refusal_words, line_of};
+ghost use Rattle.model_program.specs.Ends.{Tells, writing};
+
+use crate::ending::line::put_line;
+use itoa::Buffer;
+use lasp_edge::Sink;
+use model_program::{Failure, Refusal};
+use model_readings::{GraphWhy, ScriptWhy};
+
+/// The word at a place of the command line; no text where there is none.
+fn word(words: &[String], place: usize) -> &[u8]
+    ensures { result.now ≡ word_at (words_of words.now) place }
+{
+    match words.get(place) {
+        Some(word) => word.as_bytes(),
+        None => b"",
+    }
+}
+
+fn graph_why(why: GraphWhy) -> &'static [u8]
+    ensures { result.now ≡ graph_why_text why }
+{
+    match why {
+        GraphWhy::NotJson => b"NotJson",
+        GraphWhy::Shape => b"Shape",
+        GraphWhy::NameShape => b"NameShape",
+        GraphWhy::NameTaken => b"NameTaken",
+        GraphWhy::UnknownInput => b"UnknownInput",
+        GraphWhy::WrongKind => b"WrongKind",
+        GraphWhy::UnknownFunction => b"UnknownFunction",
+        GraphWhy::TooWide => b"TooWide",
+        GraphWhy::TooMany => b"TooMany",
+    }
+}
+
+fn script_why(why: ScriptWhy) -> &'static [u8]
+    ensures { result.now ≡ script_why_text why }
+{
+    match why {
+        ScriptWhy::NotJson => b"NotJson",
+        ScriptWhy::Shape => b"Shape",
+        ScriptWhy::NoSuchNode => b"NoSuchNode",
+        ScriptWhy::UnknownVar => b"UnknownVar",
+        ScriptWhy::WrongOp => b"WrongOp",
+        ScriptWhy::ValueRefused => b"ValueRefused",
+        ScriptWhy::NotSent => b"NotSent",
+        ScriptWhy::UnknownMark => b"UnknownMark",
+        ScriptWhy::TooMany => b"TooMany",
+        ScriptWhy::MarkTaken => b"MarkTaken",
+    }
+}
+
+/// Writes one line of words.
+pub fn tell<E: Sink>(err: &mut E, first: &[u8], rest: &[&[u8]])
+    ensures { Tells (writing (E.written err.old) (E.written err.new) (E.faults err.old) (E.faults err.new)) (line (first.now ∷ map (λ w. w.now) rest.now)) }
+{
+    let _ = put_line(err, first, rest);
+}
+
+fn tell_refusal<E: Sink>(words: &[String], refusal: &Refusal, err: &mut E)
+    ensures { Tells (writing (E.written err.old) (E.written err.new) (E.faults err.old) (E.faults err.new)) (line (refusal_words (words_of words.now) refusal.now)) }
+{
+    let mut first = Buffer::new();
+    let mut second = Buffer::new();
+    match refusal {
+        Refusal::Usage => tell(err, b"usage", &[]),
+        Refusal::TooLong(file) => tell(err, b"too long", &[word(words, *file), b"16777216"]),
+        Refusal::Graph(number, why) => tell(err, b"graph", &[first.format(*number).as_bytes(), graph_why(*why)]),
+        Refusal::Script(number, why) => tell(err, b"script", &[first.format(*number).as_bytes(), script_why(*why)]),
+        Refusal::TooLarge(command, node, name) => tell(
+            err,
+            b"too large",
+            &[first.format(*command).as_bytes(), second.format(*node).as_bytes(), name.as_str().as_bytes()],
+        ),
+    }
+}
+
+/// Writes the line of a failure.
+pub fn tell_failure<E: Sink>(words: &[String], failure: &Failure, err: &mut E)
+    ensures { Tells (writing (E.written err.old) (E.written err.new) (E.faults err.old) (E.faults err.new)) (line_of (words_of words.now) failure.now) }
+{
+    match failure {
+        Failure::Refused(refusal) => tell_refusal(words, refusal, err),
+        Failure::ReadFault(file) => tell(err, b"read fault", &[word(words, *file)]),
+        Failure::Memory => tell(err, b"out of memory", &[]),
+    }
+}

@@ -1,0 +1,21 @@
+//! Values, the tokens that mark where a value was added, texts and names: what every state of the runtime is made of.
+//! Contracts speak of them by plain data (`val_of`, `tok_of`, lists of bytes), since a boxed enum is otherwise seen with its pointers.
+#![tactic(auto)]
+
+mod name;
+mod print;
+mod text;
+mod token;
+mod value;
+mod values;
+
+pub use name::Name;
+pub use print::print_into;
+pub use print::print_value;
+pub use text::Text;
+pub use token::Token;
+pub use value::Value;
+pub use values::Values;
+
+#[cfg(test)]
+mod tests;

@@ -1,0 +1,2 @@
+//! Graphs of variables and their evaluation from scratch: definitions and laws, no code.
+#![tactic(auto)]

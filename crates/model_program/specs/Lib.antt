@@ -1,0 +1,5 @@
+pub mod Plan
+pub mod Follows
+pub mod Line
+pub mod Ends
+pub mod Program

@@ -1,0 +1,37 @@
+-- A plan: an answer, or a file to read and how to go on with its bytes. The order of refusals is the nesting of a plan.
+use Rattle.std.specs.Prelude.{ℕ, List, length, if◌then◌else◌, nat_lt, Option, Some, None, option_and_then, Result, Ok, Err, slice_index_or, []}
+use Rattle.model_program.specs.declared.refusal.Refusal.{Refusal}
+use Rattle.model_program.specs.declared.refusal.Refusal.TheVariants.{TooLong}
+
+-- the text to write, or a refusal
+abbrev pub Answer : Type 0
+Answer = Result (List ℕ) Refusal
+
+pub data Plan : Type 0 where
+  Says : Answer → Plan
+  -- the file is named by the place of its name among the words
+  Reads : ℕ → (List ℕ → Plan) → Plan
+
+-- goes on with what is there; a refusal ends the plan
+abbrev pub checked : {A E : Type 0} → (E → Refusal) → Result A E → (A → Plan) → Plan
+checked refuse (Ok x) next = next x
+checked refuse (Err e) next = Says (Err (refuse e))
+
+-- the most bytes that a file may have
+abbrev pub file_limit : ℕ
+file_limit = 16777216
+
+-- a file's bytes, or that there are too many
+abbrev pub within : ℕ → List ℕ → Result (List ℕ) Refusal
+within f bytes = if nat_lt file_limit (length bytes) then Err (TooLong f) else Ok bytes
+
+abbrev pub reading : ℕ → (List ℕ → Plan) → Plan
+reading f next = Reads f (λ bytes. checked (λ e. e) (within f bytes) next)
+
+abbrev pub word_at : List (List ℕ) → ℕ → List ℕ
+word_at words f = slice_index_or words f []
+
+-- what the plan comes to over these contents; None where it comes to a file of which nothing is told
+unfoldable pub told_answer : (List ℕ → Option (List ℕ)) → List (List ℕ) → Plan → Option Answer
+told_answer content words (Says answer) = Some answer
+told_answer content words (Reads f next) = option_and_then (λ bytes. told_answer content words (next bytes)) (content (word_at words f))

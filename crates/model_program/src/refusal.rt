@@ -1,0 +1,19 @@
+//! What the program refuses: answers that depend on its words and on the contents of its files alone.
+
+use lasp_value::Name;
+use model_readings::{GraphWhy, ScriptWhy};
+
+/// A refusal with its cause. A file is named by the place of its name among the words.
+#[derive(Drop)]
+pub enum Refusal {
+    /// The words are of no listed form.
+    Usage,
+    /// The file has more than 16,777,216 bytes.
+    TooLong(usize),
+    /// The graph is refused at this declaration.
+    Graph(u32, GraphWhy),
+    /// The script is refused at this command.
+    Script(u32, ScriptWhy),
+    /// At this command a variable of this node passes 65,536 rows.
+    TooLarge(u32, u8, Name),
+}

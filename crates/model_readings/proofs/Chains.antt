@@ -1,0 +1,25 @@
+-- What a chain of steps that passed says of each step.
+use Rattle.std.proofs.Common.{◌≡◌, refl, Bool, true, false, Option, Some, None, Result, Ok, Err}
+use Rattle.model_graph.specs.Chain.{◌>>=◌, check, or_else, refusing}
+
+-- the first step passed, and the others went on from it
+pub record Passed {A B E : Type 0} (r : Result A E) (f : A → Result B E) (y : B) : Type 0 where
+  pub value : A
+  pub first : r ≡ Ok value
+  pub then : f value ≡ Ok y
+
+pub passed : {A B E : Type 0} (r : Result A E) (f : A → Result B E) (y : B) → (r >>= f) ≡ Ok y → Passed r f y
+passed (Ok x) f y e = record { value = x; first = refl; then = e }
+passed (Err e) f y h = cc
+
+pub check_passed : {B E : Type 0} (b : Bool) (e : E) (f : Unit {0} → Result B E) (y : B) → (check b e >>= f) ≡ Ok y → (b ≡ true) × (f tt ≡ Ok y)
+check_passed true e f y h = (refl, h)
+check_passed false e f y h = cc
+
+pub or_else_passed : {A E : Type 0} (o : Option A) (e : E) (x : A) → or_else o e ≡ Ok x → o ≡ Some x
+or_else_passed (Some y) e x h = cc
+or_else_passed None e x h = cc
+
+pub refusing_passed : {A E F : Type 0} (f : E → F) (r : Result A E) (x : A) → refusing f r ≡ Ok x → r ≡ Ok x
+refusing_passed f (Ok y) x h = cc
+refusing_passed f (Err e) x h = cc

@@ -1,0 +1,4 @@
+pub mod Chains
+pub mod Names
+pub mod Graphs
+pub mod Scripts

@@ -1,0 +1,4 @@
+pub mod Tree
+pub mod Graph
+pub mod Script
+pub mod Lawful

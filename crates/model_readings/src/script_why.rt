@@ -1,0 +1,26 @@
+//! Why the bytes of a script are refused.
+
+/// Why a command, or a whole script, is refused.
+#[derive(Clone, Copy, PartialEq, Eq, Debug)]
+pub enum ScriptWhy {
+    /// The bytes aren't a text of JSON.
+    NotJson,
+    /// It is of none of the forms.
+    Shape,
+    /// There is no such node.
+    NoSuchNode,
+    /// The graph has no such variable.
+    UnknownVar,
+    /// The variable isn't of a kind that the word works on.
+    WrongOp,
+    /// The value is none that a set may hold, or a number is out of its range.
+    ValueRefused,
+    /// No such message was sent.
+    NotSent,
+    /// No earlier command makes the mark.
+    UnknownMark,
+    /// So many commands stand before it that it has no room.
+    TooMany,
+    /// An earlier command makes the mark.
+    MarkTaken,
+}

@@ -1,0 +1,5 @@
+pub mod Command
+pub mod Line
+pub mod World
+pub mod Report
+pub mod Stops

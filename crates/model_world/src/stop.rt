@@ -1,0 +1,8 @@
+//! Where a run of a script stops before its end.
+
+/// The first thing that stops a run. The first number is always the command's, counted from 0; the end of the script counts as one more command.
+#[derive(Clone, Copy, PartialEq, Eq, Debug)]
+pub enum Stop {
+    /// At this command a variable passes 65,536 rows: command, node, variable.
+    TooLarge(u32, u8, u8),
+}
