@@ -1,7 +1,7 @@
 -- Laws of the driver: what one node did, the world did.
 use Rattle.std.proofs.Common.{zero, suc, refl, sym, ap, subst, ◌∙◌, arith, get_or, drop}
-use Rattle.std.specs.Prelude.{◌≡◌, ◌≢◌, ℕ, ◌+◌, ◌<◌, ◌≤◌, List, [], ◌∷◌, map, length, Option, Some, None, slice_get, slice_set, slice_index_or, Result, Ok, Err, Bool, nat_lt, if◌then◌else◌}
-use Rattle.std.proofs.lemmas.List.{map-set, get_or-map, length-set, length-map, drop_more}
+use Rattle.std.specs.Prelude.{◌≡◌, ◌≢◌, ℕ, ◌+◌, ◌<◌, ◌≤◌, List, [], ◌∷◌, ◌++◌, map, length, Option, Some, None, slice_get, slice_set, slice_index_or, replicate, Result, Ok, Err, Bool, nat_lt, if◌then◌else◌}
+use Rattle.std.proofs.lemmas.List.{map-append, map-set, get_or-map, length-set, length-map, drop_more}
 use Rattle.std.proofs.Math.Seq.{map-set_same}
 use Rattle.std.proofs.lemmas.Bool.{le-ltb, lt-ltb}
 use Rattle.std.proofs.lemmas.Option.{slice_get_read, slice_get_within}
@@ -9,7 +9,7 @@ use Rattle.model_states.specs.Content.{Content, size_of, row_limit}
 use Rattle.model_states.specs.Update.{Op}
 use Rattle.model_graph.specs.Graph.{Decl}
 use Rattle.model_graph.specs.Evaluation.{content_at, first_large}
-use Rattle.model_world.specs.World.{Peer, Run, peer_at, count_at, updated, checked_update, shown_at, point_from, stop_from}
+use Rattle.model_world.specs.World.{Peer, Run, peer_at, count_at, updated, checked_update, shown_at, point_from, stop_from, fresh_peer}
 use Rattle.model_world.specs.declared.stop.Stop.{Stop}
 use Rattle.model_world.specs.declared.stop.Stop.TheVariants.{TooLarge}
 use Rattle.lasp_run.specs.Drive.{AreReady, AreSettled, AreSettledBelow, Updates, Settles}
@@ -178,5 +178,43 @@ ready-later decls number peer g many c nodes ready = record
     ; replicas = ready.replicas
     ; counts = λ p n e. omega (arith, ready.counts p n e)
     }
+
+-- what holds of each element and of a new one at the end holds of each after a push
+pub at-push : {X : Type 0} (P : ℕ → X → Type 0) (xs : List X) (y : X) → ((q : ℕ) (x : X) → slice_get xs q ≡ Some x → P q x) → P (length xs) y
+    → (q : ℕ) (x : X) → slice_get (xs ++ y ∷ []) q ≡ Some x → P q x
+at-push P [] y each here zero x e = subst (λ w. P zero w) (let same : y ≡ x = cc in same) here
+at-push P [] y each here (suc q) x e = absurd cc
+at-push P (z ∷ xs) y each here zero x e = each zero x e
+at-push P (z ∷ xs) y each here (suc q) x e = at-push (λ n. P (suc n)) xs y (λ n w h. each (suc n) w h) here q x e
+
+count-fresh : (many p : ℕ) → count_at (replicate many 0) p ≡ 0
+count-fresh zero p = refl
+count-fresh (suc many) zero = refl
+count-fresh (suc many) (suc p) = count-fresh many p
+
+length-push : {X : Type 0} (xs : List X) (y : X) → length (xs ++ y ∷ []) ≡ length xs + 1
+length-push [] y = refl
+length-push (x ∷ xs) y = omega (arith, length-push xs y)
+
+-- one more node to which nothing has happened
+pub ready-push : {N : Type 0} (decls : N → List Decl) (number : N → ℕ) (peer : N → Peer) (g : List Decl) (p many : ℕ) (nodes : List N) (new : N)
+    → AreReady decls number peer g p 1 nodes → decls new ≡ g → number new ≡ p → peer new ≡ fresh_peer g many → AreReady decls number peer g (p + 1) 1 (nodes ++ new ∷ [])
+ready-push decls number peer g p many nodes new ready graph same fresh = record
+    { size = omega (arith, length-push nodes new, ready.size)
+    ; graphs = at-push (λ q m. decls m ≡ g) nodes new ready.graphs graph
+    ; replicas = at-push (λ q m. number m ≡ q) nodes new ready.replicas (same ∙ sym ready.size)
+    ; counts = at-push (λ q m. count_at (peer m).counts q < 1) nodes new ready.counts
+        (subst (λ (r : Peer). count_at r.counts (length nodes) < 1) (sym fresh) (omega (arith, count-fresh many (length nodes))))
+    }
+
+replicate-push : {X : Type 0} (n : ℕ) (x : X) → replicate (suc n) x ≡ replicate n x ++ x ∷ []
+replicate-push zero x = refl
+replicate-push (suc n) x = ap (λ (xs : List _). x ∷ xs) (replicate-push n x)
+
+-- their replicas
+pub fresh-push : {N : Type 0} (peer : N → Peer) (p : ℕ) (fresh : Peer) (nodes : List N) (new : N)
+    → map peer nodes ≡ replicate p fresh → peer new ≡ fresh → map peer (nodes ++ new ∷ []) ≡ replicate (p + 1) fresh
+fresh-push peer p fresh nodes new all is =
+    map-append peer nodes (new ∷ []) ∙ ap (λ (rs : List Peer). rs ++ peer new ∷ []) all ∙ ap (λ (r : Peer). replicate p fresh ++ r ∷ []) is ∙ sym (ap (λ (n : ℕ). replicate n fresh) (let next : p + 1 ≡ suc p = omega arith in next) ∙ replicate-push p fresh)
 
 pub ruleset readiness = (ready-later)

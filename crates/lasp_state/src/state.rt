@@ -6,7 +6,7 @@ ghost use Rattle.model_states.specs.Update.{delta};
 ghost use Rattle.lasp_state.specs.State.{content_of, shown_state, op_of};
 
 use super::op::Op;
-use lasp_orset::OrSet;
+use lasp_orset::{OrSet, add_delta};
 use std::alloc::{AllocError, Global};
 
 /// What a variable holds. It only grows, by joins.
@@ -49,7 +49,7 @@ impl State {
         ensures { IfOk result (λ s. content_of s ≡ delta (op_of op.now) (content_of self.now) replica k) }
     {
         match (self, op) {
-            (State::Set(_), Op::Add(value)) => Ok(State::Set(OrSet::add_delta(alloc, value, replica, k)?)),
+            (State::Set(_), Op::Add(value)) => Ok(State::Set(add_delta(alloc, value, replica, k)?)),
             (State::Set(set), Op::Remove(value)) => Ok(State::Set(set.remove_delta(value)?)),
         }
     }

@@ -1,8 +1,10 @@
 //! The driver: the nodes of a run, and the lines that it printed.
 
-ghost use Rattle.std.specs.Prelude.{◌≡◌, ◌<◌, ◌≤◌, ◌+◌, ℕ, length, map, slice_get, Some, OnOk};
+ghost use Rattle.std.specs.Prelude.{◌≡◌, ◌<◌, ◌≤◌, ◌+◌, ℕ, length, map, slice_get, Some, OnOk, IfOk, List};
+ghost use Rattle.std.specs.Arc.{arc_value};
 ghost use Rattle.model_graph.specs.Graph.{Decl};
 ghost use Rattle.model_world.specs.World.{act, step, play, start, Update, Point, Show};
+ghost use Rattle.model_world.specs.Report.{report_of};
 ghost use Rattle.model_readings.specs.Lawful.{IsOrSetAt, IsLawful};
 ghost use Rattle.lasp_script.specs.Command.{command_of};
 ghost use Rattle.model_readings.specs.Script.{command_limit};
@@ -12,11 +14,12 @@ ghost use Rattle.lasp_run.specs.Driver.{run_of};
 
 use super::halt::Halt;
 use super::node::{Node, NodeStop};
-use super::text::print_line;
+use super::text::{print_line, push_known};
 use lasp_graph::Graph;
 use lasp_script::Command;
 use lasp_state::Op;
-use std::alloc::Global;
+use std::alloc::{AllocError, Global};
+use std::sync::Arc;
 
 /// The nodes of a run of one graph, each under its number, and the text so far.
 #[derive(Drop)]
@@ -28,6 +31,32 @@ pub struct Driver<N: Drop> {
 }
 
 impl<N: Node> Driver<N> {
+    /// So many nodes to which nothing has happened.
+    pub fn new(alloc: Global, graph: &Arc<Graph>, nodes: u8) -> Result<Driver<N>, AllocError>
+        ensures ready { IfOk result (λ d. AreReady N.decls N.number N.peer (arc_value graph.now) nodes 1 d.nodes.items) }
+        ensures start { IfOk result (λ d. run_of N.peer (arc_value graph.now) d ≡ start (arc_value graph.now) nodes) }
+    {
+        let mut all = Vec::new(alloc);
+        for p in 0..nodes {
+            all.push(N::new(alloc, graph, p, nodes)?)?;
+        }
+        Ok(Driver {
+            nodes: all,
+            text: String::new(alloc),
+        })
+    }
+
+    /// The report: the lines that were printed, and what each node knows.
+    pub fn report(self) -> Result<Vec<u8>, AllocError>
+        ensures { IfOk result (λ text. (g : List Decl) → text.items ≡ report_of (run_of N.peer g self)) }
+    {
+        let Driver { nodes, mut text } = self;
+        for p in 0..nodes.len() {
+            push_known(&mut text, p as u64, nodes[p].counts())?;
+        }
+        Ok(text.into_bytes())
+    }
+
     /// Command number c updates a source of a node.
     pub fn update(&mut self, alloc: Global, graph: &Graph, c: u32, p: u8, x: u8, op: &Op) -> Result<(), Halt>
         requires ready { AreReady N.decls N.number N.peer graph.now (length self.old.nodes.items) c self.old.nodes.items }

@@ -2,7 +2,7 @@
 
 ghost use Rattle.std.specs.Prelude.{◌≡◌, ◌++◌, ◌∷◌, [], OnOk, string_bytes, codes, map};
 ghost use Rattle.std.specs.Fmt.{decimal};
-ghost use Rattle.model_world.specs.Line.{line, known_line};
+ghost use Rattle.model_world.specs.Line.{line, line_rest, known_line};
 ghost use Rattle.lasp_state.specs.State.{shown_state};
 
 use lasp_state::State;
@@ -37,4 +37,23 @@ pub fn print_line(text: &mut String, p: u8, name: &str, state: &State) -> Result
     push_decimal(text, p as u64)?;
     push_word(text, name)?;
     push_state(text, state)
+}
+
+fn push_counts(text: &mut String, counts: &[u64]) -> Result<(), AllocError>
+    ensures { OnOk result (string_bytes text.new ≡ string_bytes text.old ++ line_rest (map decimal counts.now)) }
+{
+    for count in counts {
+        text.push(' ')?;
+        push_decimal(text, *count)?;
+    }
+    text.push('\n')
+}
+
+/// Appends the line of what a node knows: how many updates of each replica.
+pub fn push_known(text: &mut String, p: u64, counts: &[u64]) -> Result<(), AllocError>
+    ensures { OnOk result (string_bytes text.new ≡ string_bytes text.old ++ known_line p counts.now) }
+{
+    text.push_str("known ")?;
+    push_decimal(text, p)?;
+    push_counts(text, counts)
 }
