@@ -3,6 +3,8 @@ use Rattle.std.proofs.Common.{ap, sym, subst}
 use Rattle.std.specs.Prelude.{◌≡◌, ◌≢◌, ◌↔◌, List, Bool, IsTrue, Result, Ok, Err, IfOk}
 use Rattle.model_values.specs.Row.{Row}
 use Rattle.model_states.specs.Content.{Content, of_set}
+use Rattle.model_sets.specs.Rows.{IsAtMost}
+use Rattle.lasp_state.specs.State.{IsContentAtMost}
 
 differ-sets : (s t : List Row) → (s ≢ t) ↔ (of_set s ≢ of_set t)
 differ-sets s t = (λ h e. h (ap (λ (c : Content). c.rows) e), λ h e. h (ap of_set e))
@@ -18,3 +20,8 @@ pub grew-content : {E : Type 0} (r : Result Bool E) (s t : List Row) (new old : 
 grew-content (Ok grew) s t new old e f h =
     subst (λ (n : Content). IsTrue grew ↔ (n ≢ old)) (sym e) (subst (λ (o : Content). IsTrue grew ↔ (of_set s ≢ o)) (sym f) (grew-set {E = Unit {0}} (Ok grew) s t h))
 grew-content (Err e) s t new old p f h = h
+
+-- contents that are those of sets are in order exactly where the sets are
+pub order-content : (b : Bool) (s t : List Row) (small great : Content) → small ≡ of_set s → great ≡ of_set t → (IsTrue b ↔ IsAtMost s t) → IsTrue b ↔ IsContentAtMost small great
+order-content b s t small great e f h =
+    subst (λ (c : Content). IsTrue b ↔ IsContentAtMost c great) (sym e) (subst (λ (d : Content). IsTrue b ↔ IsContentAtMost (of_set s) d) (sym f) h)

@@ -1,7 +1,7 @@
 -- States and operations as plain data.
 use Rattle.std.specs.Prelude.{ℕ, List}
 use Rattle.model_values.specs.Text.{shown_values}
-use Rattle.model_sets.specs.Rows.{visible}
+use Rattle.model_sets.specs.Rows.{IsAtMost, visible}
 use Rattle.model_states.specs.Content.{Content, of_set}
 use Rattle.model_states.specs.Update as plain
 use Rattle.lasp_value.specs.Value.{val_of}
@@ -13,6 +13,10 @@ use Rattle.lasp_state.specs.declared.op.Op.TheVariants.{Add, Remove}
 -- what a state holds
 abbrev pub content_of : State → Content
 content_of (Set rows) = of_set rows
+
+-- the order of contents: that of their rows
+abbrev pub IsContentAtMost : Content → Content → Type 0
+IsContentAtMost s t = IsAtMost s.rows t.rows
 
 -- how it is printed
 abbrev pub shown_state : State → List ℕ

@@ -3,7 +3,7 @@
 ghost use Rattle.std.specs.Prelude.{◌≡◌, ◌≢◌, ◌↔◌, ◌++◌, IfOk, OnOk, OnErr, IsTrue, string_bytes};
 ghost use Rattle.model_states.specs.Content.{join_contents, least, size_of};
 ghost use Rattle.model_states.specs.Update.{delta};
-ghost use Rattle.lasp_state.specs.State.{content_of, shown_state, op_of};
+ghost use Rattle.lasp_state.specs.State.{content_of, shown_state, op_of, IsContentAtMost};
 
 use super::op::Op;
 use lasp_orset::{OrSet, add_delta};
@@ -30,6 +30,15 @@ impl State {
     {
         match self {
             State::Set(set) => Ok(State::Set(set.try_clone()?)),
+        }
+    }
+
+    /// The order: whether the other state knows all that this one knows.
+    pub fn le(&self, other: &State) -> bool
+        ensures { IsTrue result ↔ IsContentAtMost (content_of self.now) (content_of other.now) }
+    {
+        match (self, other) {
+            (State::Set(set), State::Set(bound)) => set.le(bound),
         }
     }
 
