@@ -1,2 +1,4 @@
 pub mod TellLaws
 pub mod DriveLaws
+pub mod PlainLaws
+pub mod PlayLaws

@@ -4,7 +4,10 @@ use Rattle.std.specs.declared.vec.Vec.{Vec}
 use Rattle.model_states.specs.Content.{Content, size_of, row_limit}
 use Rattle.model_graph.specs.Graph.{Decl}
 use Rattle.model_graph.specs.Evaluation.{content_at}
-use Rattle.model_world.specs.World.{Peer, Run, count_at, shown_at}
+use Rattle.model_world.specs.World.{Peer, Run, count_at, shown_at, ended}
+use Rattle.model_world.specs.Report.{report_of}
+use Rattle.model_world.specs.Command.{Script}
+use Rattle.model_graph.specs.Chain.{◌>>=◌}
 use Rattle.model_world.specs.declared.stop.Stop.{Stop}
 use Rattle.model_world.specs.declared.stop.Stop.TheVariants as stop
 use Rattle.lasp_run.specs.declared.drive.halt.Halt.{Halt}
@@ -29,6 +32,10 @@ abbrev pub Does : {A B : Type 0} → Result B Stop → Result A Halt → B → T
 Does expected (Ok done) new = expected ≡ Ok new
 Does expected (Err (halt.TooLarge c p x)) new = expected ≡ Err (stop.TooLarge c p x)
 Does expected (Err halt.Memory) new = Unit {0}
+
+-- the report of a script, or its stop
+abbrev pub reported : List Decl → Script → Result (List ℕ) Stop
+reported g script = ended g script >>= (λ run. Ok (report_of run))
 
 -- the text of the last world, or the world's stop, or want of memory
 abbrev pub Reports : {A : Type 0} → Result (List ℕ) Stop → Result (Vec ℕ A) Halt → Type 0

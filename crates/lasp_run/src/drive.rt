@@ -3,8 +3,10 @@
 mod driver;
 mod halt;
 mod node;
+mod plain;
 mod text;
 
-pub use driver::Driver;
+pub use driver::drive_on;
 pub use halt::Halt;
 pub use node::{Node, NodeStop};
+pub use plain::PlainNode;

@@ -3,3 +3,5 @@
 
 mod drive;
 mod ending;
+mod one_thread;
+mod open;

@@ -1,22 +1,22 @@
 //! The driver: the nodes of a run, and the lines that it printed.
 
-ghost use Rattle.std.specs.Prelude.{◌≡◌, ◌<◌, ◌≤◌, ◌+◌, ℕ, length, map, slice_get, Some, OnOk, IfOk, List};
+ghost use Rattle.std.specs.Prelude.{◌≡◌, ◌<◌, ◌≤◌, ◌+◌, ℕ, length, OnOk, IfOk, List};
 ghost use Rattle.std.specs.Arc.{arc_value};
 ghost use Rattle.model_graph.specs.Graph.{Decl};
 ghost use Rattle.model_world.specs.World.{act, step, play, start, Update, Point, Show};
 ghost use Rattle.model_world.specs.Report.{report_of};
-ghost use Rattle.model_readings.specs.Lawful.{IsOrSetAt, IsLawful};
+ghost use Rattle.model_readings.specs.Lawful.{IsOrSetAt, IsLawful, IsScript};
 ghost use Rattle.lasp_script.specs.Command.{command_of};
 ghost use Rattle.model_readings.specs.Script.{command_limit};
 ghost use Rattle.lasp_state.specs.State.{op_of};
-ghost use Rattle.lasp_run.specs.Drive.{Does, NamesOneOf, AreReady, AreSettled};
+ghost use Rattle.lasp_run.specs.Drive.{Does, Reports, reported, NamesOneOf, AreReady, AreSettled};
 ghost use Rattle.lasp_run.specs.Driver.{run_of};
 
 use super::halt::Halt;
 use super::node::{Node, NodeStop};
 use super::text::{print_line, push_known};
 use lasp_graph::Graph;
-use lasp_script::Command;
+use lasp_script::{Command, Script};
 use lasp_state::Op;
 use std::alloc::{AllocError, Global};
 use std::sync::Arc;
@@ -136,20 +136,32 @@ impl<N: Node> Driver<N> {
     }
 
     #[tactic(auto, unfolding(model_world::specs::World::play))]
-    /// Does the commands in order, the first being number 1, and settles every node at the end.
-    pub fn play(&mut self, alloc: Global, graph: &Graph, commands: &[Command]) -> Result<(), Halt>
+    /// Does the commands of a script in order, and settles every node at the end.
+    pub fn play(&mut self, alloc: Global, graph: &Graph, script: &Script) -> Result<(), Halt>
         requires ready { AreReady N.decls N.number N.peer graph.now (length self.old.nodes.items) 1 self.old.nodes.items }
-        requires few { length self.old.nodes.items ≤ 8 }
-        requires short { length commands.now < command_limit }
-        requires lawful { (i : ℕ) (k : Command) → slice_get commands.now i ≡ Some k → IsLawful graph.now (length self.old.nodes.items) (command_of k) }
+        requires nodes { length self.old.nodes.items ≡ script.now.nodes }
+        requires script { IsScript graph.now script.now }
         ensures within { NamesOneOf (length graph.now) result }
-        ensures done { Does (play 1 (run_of N.peer graph.now self.old) (map command_of commands.now)) result (run_of N.peer graph.now self.new) }
+        ensures done { Does (play 1 (run_of N.peer graph.now self.old) script.now.commands) result (run_of N.peer graph.now self.new) }
     {
         let mut c: u32 = 1;
-        for command in commands {
-            self.do_command(alloc, graph, c, command)?;
-            c += 1;
+        for i in 0..script.len() {
+            match self.do_command(alloc, graph, c, script.at(i)) {
+                Ok(()) => c += 1,
+                Err(halt) => return Err(halt),
+            }
         }
         self.point(alloc, graph, c)
     }
+}
+
+/// Runs a script against its graph on nodes of one engine, and writes its report.
+pub fn drive_on<N: Node>(alloc: Global, graph: &Arc<Graph>, script: &Script) -> Result<Vec<u8>, Halt>
+    requires { IsScript (arc_value graph.now) script.now }
+    ensures reports { Reports (reported (arc_value graph.now) script.now) result }
+    ensures within { NamesOneOf (length (arc_value graph.now)) result }
+{
+    let mut driver: Driver<N> = Driver::new(alloc, graph, script.nodes())?;
+    driver.play(alloc, graph, script)?;
+    Ok(driver.report()?)
 }

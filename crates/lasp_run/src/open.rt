@@ -1,0 +1,83 @@
+//! The parts of the program that read files: the graph, and the script against it.
+
+ghost use Rattle.std.specs.Prelude.{◌≡◌, ◌<◌, ◌≤◌, ℕ, List, length, IfOk};
+ghost use Rattle.model_graph.specs.Chain.{refusing};
+ghost use Rattle.model_readings.specs.Graph.{graph_of};
+ghost use Rattle.model_readings.specs.Script.{script_of};
+ghost use Rattle.model_readings.specs.Lawful.{IsScript};
+ghost use Rattle.model_program.specs.Plan.{reading};
+ghost use Rattle.model_program.specs.Follows.{view, Gives, Performs};
+ghost use Rattle.model_program.specs.Program.{graph_refused, script_refused, opening, scripting};
+ghost use Rattle.lasp_run.specs.Words.{words_of};
+
+use lasp_edge::{Fetch, Files};
+use lasp_graph::{Graph, GraphRefused, read_graph};
+use lasp_script::{Script, ScriptRefused, read_script};
+use model_program::{Failure, Refusal};
+use std::alloc::Global;
+
+/// The most bytes that a file may have.
+const FILE_LIMIT: u64 = 16_777_216;
+
+/// Reads the file that a word names.
+pub fn read_file<F: Files>(alloc: Global, words: &[String], file: usize, files: &mut F) -> Result<Vec<u8>, Failure>
+    requires { file < length words.now }
+    ensures same { (name : List ℕ) → F.content files.new name ≡ F.content files.old name }
+    ensures later { (name : List ℕ) → F.faults files.old name ≤ F.faults files.new name }
+    ensures part { Performs (λ bytes. bytes.items) (words_of words.now) (view (F.content files.old) (F.faults files.old) (F.faults files.new)) (reading file) result }
+{
+    match files.fetch(alloc, words[file].as_str(), FILE_LIMIT) {
+        Ok(bytes) => Ok(bytes),
+        Err(Fetch::Failed) => Err(Failure::ReadFault(file)),
+        Err(Fetch::TooLong) => Err(Failure::Refused(Refusal::TooLong(file))),
+        Err(Fetch::Memory) => Err(Failure::Memory),
+    }
+}
+
+fn graph_from(alloc: Global, bytes: &[u8]) -> Result<Graph, Failure>
+    ensures { Gives (λ g. g) (refusing graph_refused (graph_of bytes.now)) result }
+{
+    match read_graph(alloc, bytes) {
+        Ok(graph) => Ok(graph),
+        Err(GraphRefused::At { number, why }) => Err(Failure::Refused(Refusal::Graph(number, why))),
+        Err(GraphRefused::Memory) => Err(Failure::Memory),
+    }
+}
+
+fn script_from(alloc: Global, graph: &Graph, bytes: &[u8]) -> Result<Script, Failure>
+    ensures exact { Gives (λ s. s) (refusing script_refused (script_of graph.now bytes.now)) result }
+    ensures lawful { IfOk result (λ s. IsScript graph.now s) }
+{
+    match read_script(alloc, bytes, graph) {
+        Ok(script) => Ok(script),
+        Err(ScriptRefused::At { number, why }) => Err(Failure::Refused(Refusal::Script(number, why))),
+        Err(ScriptRefused::Memory) => Err(Failure::Memory),
+    }
+}
+
+/// Reads the graph: the second word's file.
+pub fn open_graph<F: Files>(alloc: Global, words: &[String], files: &mut F) -> Result<Graph, Failure>
+    requires { 1 < length words.now }
+    ensures same { (name : List ℕ) → F.content files.new name ≡ F.content files.old name }
+    ensures later { (name : List ℕ) → F.faults files.old name ≤ F.faults files.new name }
+    ensures part { Performs (λ g. g) (words_of words.now) (view (F.content files.old) (F.faults files.old) (F.faults files.new)) opening result }
+{
+    match read_file(alloc, words, 1, files) {
+        Ok(bytes) => graph_from(alloc, &bytes),
+        Err(failure) => Err(failure),
+    }
+}
+
+/// Reads the script against the graph: the third word's file.
+pub fn open_script<F: Files>(alloc: Global, words: &[String], graph: &Graph, files: &mut F) -> Result<Script, Failure>
+    requires { 2 < length words.now }
+    ensures same { (name : List ℕ) → F.content files.new name ≡ F.content files.old name }
+    ensures later { (name : List ℕ) → F.faults files.old name ≤ F.faults files.new name }
+    ensures part { Performs (λ s. s) (words_of words.now) (view (F.content files.old) (F.faults files.old) (F.faults files.new)) (scripting graph.now) result }
+    ensures lawful { IfOk result (λ s. IsScript graph.now s) }
+{
+    match read_file(alloc, words, 2, files) {
+        Ok(bytes) => script_from(alloc, graph, &bytes),
+        Err(failure) => Err(failure),
+    }
+}
