@@ -2,3 +2,4 @@ pub mod TellLaws
 pub mod DriveLaws
 pub mod PlainLaws
 pub mod PlayLaws
+pub mod PartLaws

@@ -3,5 +3,8 @@
 
 mod drive;
 mod ending;
-mod one_thread;
 mod open;
+mod program;
+
+pub use drive::{Halt, Node, NodeStop, PlainNode, drive_on};
+pub use program::one_thread;

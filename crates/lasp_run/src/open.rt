@@ -5,7 +5,7 @@ ghost use Rattle.model_graph.specs.Chain.{refusing};
 ghost use Rattle.model_readings.specs.Graph.{graph_of};
 ghost use Rattle.model_readings.specs.Script.{script_of};
 ghost use Rattle.model_readings.specs.Lawful.{IsScript};
-ghost use Rattle.model_program.specs.Plan.{reading};
+ghost use Rattle.model_program.specs.Plan.{reading, word_at};
 ghost use Rattle.model_program.specs.Follows.{view, Gives, Performs};
 ghost use Rattle.model_program.specs.Program.{graph_refused, script_refused, opening, scripting};
 ghost use Rattle.lasp_run.specs.Words.{words_of};
@@ -19,6 +19,15 @@ use std::alloc::Global;
 /// The most bytes that a file may have.
 const FILE_LIMIT: u64 = 16_777_216;
 
+/// The word that names a file.
+fn name_of(words: &[String], file: usize) -> &str
+    requires { file < length words.now }
+    ensures name { result.now ≡ word_at (words_of words.now) file }
+    ensures within { file < length (words_of words.now) }
+{
+    words[file].as_str()
+}
+
 /// Reads the file that a word names.
 pub fn read_file<F: Files>(alloc: Global, words: &[String], file: usize, files: &mut F) -> Result<Vec<u8>, Failure>
     requires { file < length words.now }
@@ -26,7 +35,7 @@ pub fn read_file<F: Files>(alloc: Global, words: &[String], file: usize, files: 
     ensures later { (name : List ℕ) → F.faults files.old name ≤ F.faults files.new name }
     ensures part { Performs (λ bytes. bytes.items) (words_of words.now) (view (F.content files.old) (F.faults files.old) (F.faults files.new)) (reading file) result }
 {
-    match files.fetch(alloc, words[file].as_str(), FILE_LIMIT) {
+    match files.fetch(alloc, name_of(words, file), FILE_LIMIT) {
         Ok(bytes) => Ok(bytes),
         Err(Fetch::Failed) => Err(Failure::ReadFault(file)),
         Err(Fetch::TooLong) => Err(Failure::Refused(Refusal::TooLong(file))),

@@ -1,6 +1,6 @@
 -- What a call that followed its plan answered, where the contents of the files that it read are told.
 use Rattle.std.proofs.Common.{refl, sym, ap, subst, ◌∙◌, arith}
-use Rattle.std.specs.Prelude.{◌≡◌, ◌<◌, ◌≤◌, ◌⊎◌, ℕ, List, length, Option, Some, None, IfSome, option_and_then, Result, Ok, Err}
+use Rattle.std.specs.Prelude.{◌≡◌, ◌≢◌, ◌<◌, ◌≤◌, ◌⊎◌, ℕ, List, length, Option, Some, None, IfSome, option_and_then, Result, Ok, Err}
 use mathlib.Core.Logic.{inl, inr}
 use Rattle.lasp_edge.specs.Faults.{Rose}
 use Rattle.lasp_edge.specs.Told.{Sees, Appends}
@@ -67,3 +67,10 @@ complete-ends words v text (Ok written) out err status quiet sound settles (inr 
 complete-ends words v text (Err (Refused e)) out err status quiet sound settles ends = absurd cc
 complete-ends words v text (Err (ReadFault f)) out err status quiet sound settles ends = absurd (quiet f settles.0 settles.1)
 complete-ends words v text (Err Memory) out err status quiet sound settles ends = inr ends.0
+
+-- with another status than 0 and 5 nothing was written
+pub quiet-ends : (words : List (List ℕ)) (answer : Result (List ℕ) Failure) (out err : Writing) (status : ℕ) → status ≢ 0 → status ≢ 5 → Ends words answer out err status → out.after ≡ out.before
+unfolding Ends
+quiet-ends words (Ok text) out err status not_done not_fault (inl (done, appends, same)) = absurd (not_done done)
+quiet-ends words (Ok text) out err status not_done not_fault (inr (fault, rose, part, line)) = absurd (not_fault fault)
+quiet-ends words (Err failure) out err status not_done not_fault ends = ends.1

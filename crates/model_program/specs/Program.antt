@@ -44,9 +44,13 @@ stopped g (stop.TooLarge command node x) = refusal.TooLarge command node (name_a
 abbrev pub run_answer : (Run → List ℕ) → List Decl → Script → Answer
 run_answer output g script = refusing (stopped g) (ended g script) >>= (λ run. Ok (output run))
 
+-- script, run, and then a text of its last world
+abbrev pub running_script : (Run → List ℕ) → List Decl → Plan
+running_script output g = scripting g (λ script. Says (run_answer output g script))
+
 -- graph, script, run, and then a text of its last world
 abbrev pub running : (Run → List ℕ) → Plan
-running output = opening (λ g. scripting g (λ script. Says (run_answer output g script)))
+running output = opening (λ g. running_script output g)
 
 abbrev pub plan_of : Form → Plan
 plan_of Plain = running report_of
