@@ -8,6 +8,7 @@ mod graph;
 mod kind;
 mod read;
 mod refused;
+mod tree;
 mod written;
 
 pub use decl::Decl;
@@ -16,6 +17,7 @@ pub use kind::Kind;
 pub use model_readings::GraphWhy;
 pub use read::{read_decl, read_graph};
 pub use refused::{DeclRefused, GraphRefused};
+pub use tree::{has_items, is_word_at, number_at, text_at};
 
 #[cfg(test)]
 mod tests;
