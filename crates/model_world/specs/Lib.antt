@@ -2,3 +2,4 @@ pub mod Command
 pub mod Line
 pub mod World
 pub mod Report
+pub mod Stops
