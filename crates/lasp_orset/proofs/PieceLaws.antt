@@ -1,14 +1,13 @@
 -- What is done in one piece, seen in all rows.
-use Rattle.std.proofs.Common.{◌≡◌, ℕ, zero, suc, ◌+◌, ◌-◌, ◌<◌, ◌≤◌, ◌≢◌, max, Bool, true, false, not, ◌&&◌, ◌||◌, IsTrue, nat_le, List, [], ◌∷◌, ◌++◌, length, drop, take, set, get_or, refl, sym, ap, subst, ◌∙◌, append_assoc, append-nil, length-append, arith, if◌then◌else◌, Result, Ok, Err, OnOk, OnErr, IfOk}
+use Rattle.std.proofs.Common.{◌≡◌, ℕ, zero, suc, ◌+◌, ◌-◌, ◌<◌, ◌≤◌, ◌≢◌, Bool, true, false, ◌||◌, IsTrue, nat_le, List, [], ◌∷◌, ◌++◌, length, drop, take, set, get_or, refl, sym, ap, subst, ◌∙◌, append_assoc, length-append, arith, if◌then◌else◌, Result, Ok, Err, OnOk, OnErr, IfOk}
 use Rattle.std.proofs.Math.Seq.{drop-cons}
-use Rattle.std.specs.Ordering.{is_eq, is_lt, ordering_reverse}
+use Rattle.std.specs.Ordering.{is_lt}
 use Rattle.std.specs.List.{insert}
-use Rattle.std.specs.declared.cmp.Ordering.{Ordering}
 use Rattle.std.specs.declared.cmp.Ordering.TheVariants.{Less, Equal, Greater}
 use Rattle.std.specs.FinMap.Entries.{by_order, is_sorted, below_all}
-use Rattle.model_values.specs.Row.{Key, Row, key_cmp, key_total, key_exact}
-use Rattle.model_sets.specs.Rows.{IsAscending, put, level, row_mark, mark}
-use Rattle.model_sets.proofs.RowLaws.{and-left, and-right, and-both, is-Less, mark-append}
+use Rattle.model_values.specs.Row.{Key, Row, key_cmp}
+use Rattle.model_sets.specs.Rows.{IsAscending, put, level, mark}
+use Rattle.model_sets.proofs.RowLaws.{and-left, and-right, and-both, mark-append}
 use Rattle.lasp_orset.specs.Pieces.{joined, AreFilled, first_cmp, top_cmp, IsPlace, is_covered}
 use Rattle.lasp_orset.proofs.PlaceLaws.{put-front, head-below, mark-above, row_mark-other}
 

@@ -1,5 +1,5 @@
 -- What the set's calls answer: soundness after a row came in, the order by look-ups, and joins by parts.
-use Rattle.std.proofs.Common.{◌≡◌, ◌≢◌, ℕ, suc, ◌+◌, ◌<◌, ◌≤◌, ◌^◌, max, Bool, true, false, ◌&&◌, IsTrue, nat_le, List, [], ◌∷◌, ◌++◌, length, take, get_or, refl, sym, ap, subst, ◌∙◌, append_assoc, append-nil, arith, if◌then◌else◌}
+use Rattle.std.proofs.Common.{◌≡◌, ◌≢◌, ℕ, ◌+◌, ◌<◌, ◌≤◌, ◌^◌, Bool, true, false, IsTrue, nat_le, List, [], ◌∷◌, ◌++◌, length, take, get_or, refl, sym, ap, subst, ◌∙◌, append_assoc, append-nil, arith, if◌then◌else◌}
 use Rattle.std.proofs.lemmas.Bool.Decides.{nat_tests}
 use Rattle.std.proofs.lemmas.List.{take_more}
 use Rattle.std.specs.Ordering.{is_eq, eq_by_cmp}
@@ -9,7 +9,7 @@ use Rattle.model_values.specs.Value.{Val}
 use Rattle.model_values.specs.Token.{Tok}
 use Rattle.model_values.specs.Row.{Key, Row, key_cmp, key_total, key_exact}
 use Rattle.model_sets.specs.Rows.{IsAscending, put, join, IsAtMost, level, row_mark, mark}
-use Rattle.model_sets.proofs.RowLaws.{and-left, and-right, and-both, is-Equal, ascending-put, join-row, join-append, join-right}
+use Rattle.model_sets.proofs.RowLaws.{and-left, and-right, and-both, is-Equal, ascending-put, join-append, join-right}
 use Rattle.lasp_orset.specs.Pieces.{joined, AreFilled, AreSound, is_covered}
 
 -- ---- soundness

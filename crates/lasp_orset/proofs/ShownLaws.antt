@@ -1,5 +1,5 @@
 -- A pass over ascending rows shows the visible values, each once.
-use Rattle.std.proofs.Common.{◌≡◌, ℕ, Bool, true, false, cond, not, ◌||◌, IsTrue, List, [], ◌∷◌, ◌++◌, map, filter, refl, sym, ap, subst, ◌∙◌, append_assoc, arith, if◌then◌else◌, Some, None}
+use Rattle.std.proofs.Common.{◌≡◌, ℕ, true, false, cond, not, ◌||◌, IsTrue, List, [], ◌∷◌, ◌++◌, map, filter, refl, sym, ap, ◌∙◌, append_assoc, if◌then◌else◌, Some, None}
 use Rattle.std.specs.Ordering.{is_eq, is_lt, eq_by_cmp}
 use Rattle.std.specs.declared.cmp.Ordering.TheVariants.{Less, Equal, Greater}
 use Rattle.std.specs.FinMap.Entries.{by_order, is_sorted, below_all}
@@ -8,9 +8,9 @@ use Rattle.model_values.specs.Token.{tok_cmp}
 use Rattle.model_values.specs.Row.{Key, Row, key_cmp}
 use Rattle.model_values.specs.Text.{shown, shown_after, shown_values}
 use Rattle.model_sets.specs.Rows.{IsAscending}
-use Rattle.model_sets.specs.Values.{add, of_values, live_values, visible}
+use Rattle.model_sets.specs.Values.{add, of_values, visible}
 use Rattle.model_sets.proofs.RowLaws.{and-left, and-right, is-Less}
-use Rattle.lasp_orset.specs.Shown.{is_last, values_after, shown_next, text_after}
+use Rattle.lasp_orset.specs.Shown.{values_after, text_after}
 use Rattle.lasp_orset.proofs.SpanLaws.{value-rises}
 
 -- Behind a row, its value and those still to be shown are the visible values with it.

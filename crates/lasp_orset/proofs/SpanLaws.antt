@@ -1,5 +1,5 @@
 -- The rows of one value stand in the pieces that a search finds, and what they say of it.
-use Rattle.std.proofs.Common.{◌≡◌, ◌≢◌, ℕ, zero, suc, ◌+◌, ◌-◌, ◌<◌, ◌≤◌, max, Bool, true, false, cond, not, ◌&&◌, ◌||◌, IsTrue, List, [], ◌∷◌, ◌++◌, map, filter, length, take, drop, refl, sym, ap, subst, ◌∙◌, append_assoc, append-nil, length-drop, arith, if◌then◌else◌}
+use Rattle.std.proofs.Common.{◌≡◌, ◌≢◌, ℕ, zero, suc, ◌-◌, ◌<◌, max, Bool, true, false, cond, not, ◌&&◌, ◌||◌, IsTrue, List, [], ◌∷◌, ◌++◌, map, filter, length, take, drop, refl, sym, ap, subst, ◌∙◌, append-nil, length-drop, arith, if◌then◌else◌}
 use Rattle.std.proofs.lemmas.List.{take_all}
 use Rattle.std.proofs.lemmas.List.Elements.{filter-append}
 use Rattle.std.specs.Ordering.{is_eq, is_lt, eq_by_cmp, ordering_reverse, ordering_then}
@@ -11,7 +11,7 @@ use Rattle.model_values.specs.Value.{Val, val_cmp, val_total, val_exact}
 use Rattle.model_values.specs.Token.{tok_cmp}
 use Rattle.model_values.specs.Row.{Key, Row, key_cmp}
 use Rattle.model_sets.specs.Rows.{IsAscending, put, of_rows, join, is_of, buried, remove_delta}
-use Rattle.model_sets.specs.Values.{held, is_value, IsHeld, live_values, visible}
+use Rattle.model_sets.specs.Values.{held, IsHeld, live_values, visible}
 use Rattle.model_sets.proofs.RowLaws.{and-left, and-right, and-both, is-Less, join-row, join-append, join-nothing, of_rows-ascending}
 use Rattle.model_sets.proofs.ValueLaws.{held-visible, held-small}
 use Rattle.lasp_orset.specs.Pieces.{joined, AreFilled, first_value_cmp, top_value_cmp}

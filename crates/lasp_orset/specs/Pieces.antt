@@ -1,8 +1,7 @@
 -- A set as a list of pieces, each a list of rows.
-use Rattle.std.specs.Prelude.{◌≡◌, ℕ, suc, ◌<◌, ◌≤◌, ◌^◌, ◌≢◌, Bool, ◌||◌, List, [], ◌∷◌, ◌++◌, length, drop, take, set, get_or, nat_le}
-use Rattle.std.specs.List.{insert}
+use Rattle.std.specs.Prelude.{◌≡◌, ℕ, suc, ◌<◌, ◌≤◌, ◌^◌, ◌≢◌, Bool, List, [], ◌∷◌, ◌++◌, length, drop, nat_le}
 use Rattle.std.specs.declared.cmp.Ordering.{Ordering}
-use Rattle.std.specs.declared.cmp.Ordering.TheVariants.{Less, Equal, Greater}
+use Rattle.std.specs.declared.cmp.Ordering.TheVariants.{Greater}
 use Rattle.model_values.specs.Value.{Val, val_cmp}
 use Rattle.model_values.specs.Row.{Key, Row, key_cmp}
 use Rattle.model_sets.specs.Rows.{IsAscending, level, mark}

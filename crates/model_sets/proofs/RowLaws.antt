@@ -133,7 +133,7 @@ find-below k (r ∷ s) h =
     ap (λ o. cond (is_eq o) (Some r.1) (find key_cmp k s)) (is-Less (key_cmp k r.0) (and-left (is_lt (key_cmp k r.0)) (below_all key_cmp k s) h))
     ∙ find-below k s (and-right (is_lt (key_cmp k r.0)) (below_all key_cmp k s) h)
 
-below-chain : (k l : Key) (s : List Row) → key_cmp k l ≡ Less → IsTrue (below_all key_cmp l s) → IsTrue (below_all key_cmp k s)
+pub below-chain : (k l : Key) (s : List Row) → key_cmp k l ≡ Less → IsTrue (below_all key_cmp l s) → IsTrue (below_all key_cmp k s)
 below-chain k l [] e h = refl
 below-chain k l (r ∷ s) e h =
     let rest = below-chain k l s e (and-right (is_lt (key_cmp l r.0)) (below_all key_cmp l s) h) in

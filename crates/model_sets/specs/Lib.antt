@@ -1,3 +1,7 @@
 -- What set states mean.
 pub mod Rows
 pub mod Values
+pub mod Equations
+pub mod Algebra
+pub mod Folds
+pub mod Loops

@@ -1,48 +1,23 @@
-//! What the states of observed-remove sets mean, and the laws of their join. There is nothing to run here: each function's contract is a group of laws.
+//! What the states of observed-remove sets mean, what the processes over them give, and the laws of both. There is nothing to run here: each function's contract is a group of laws.
 #![tactic(auto)]
 
-ghost use Rattle.std.specs.Prelude.{◌≡◌, ℕ, ◌≤◌, max, IsTrue, Bool, ◌||◌, List, [], ◌∷◌, ◌++◌, unwrap_or, ◌↔◌};
-ghost use Rattle.std.specs.FinMap.Entries.{put as put_entry, find};
-ghost use Rattle.model_values.specs.Value.{Val};
-ghost use Rattle.model_values.specs.Token.{Tok};
-ghost use Rattle.model_values.specs.Row.{Row, key_cmp};
-ghost use Rattle.model_sets.specs.Rows.{mark, row_mark, IsAscending, put, of_rows, join, IsAtMost};
-ghost use Rattle.model_sets.specs.Values.{held, AreAscending, add, unite, IsWithin, visible};
+mod algebra;
+mod folds;
+mod loops;
+mod plain;
+mod processes;
+mod states;
+mod updates;
 
-/// Set states are a lattice: the join is the least upper bound of the order.
-#[tactic(auto, using(crate::proofs::RowLaws::lattice))]
-pub fn states_are_a_lattice()
-    ensures ascends { (s t : List Row) → IsAscending (join s t) }
-    ensures idempotent { (s : List Row) → IsAscending s → join s s ≡ s }
-    ensures commutative { (s t : List Row) → join s t ≡ join t s }
-    ensures associative { (s t u : List Row) → join (join s t) u ≡ join s (join t u) }
-    ensures left { (s t : List Row) → IsAtMost s (join s t) }
-    ensures right { (s t : List Row) → IsAtMost t (join s t) }
-    ensures least { (s t u : List Row) → IsAtMost s u → IsAtMost t u → IsAtMost (join s t) u }
-    ensures at_most { (s t : List Row) → IsAscending t → IsAtMost s t → join s t ≡ t }
-    ensures antisymmetric { (s t : List Row) → IsAscending s → IsAscending t → IsAtMost s t → IsAtMost t s → s ≡ t }
-{}
-
-/// A state is told by its marks, and joins go row by row and part by part.
-#[tactic(auto, using(crate::proofs::RowLaws::parts))]
-pub fn joins_go_by_parts()
-    ensures same { (s t : List Row) → IsAscending s → IsAscending t → ((v : Val) (w : Tok) → mark s v w ≡ mark t v w) → s ≡ t }
-    ensures nothing { (s : List Row) → IsAscending s → join s [] ≡ s }
-    ensures row { (s : List Row) (r : Row) → IsAscending s → join s (r ∷ []) ≡ put r s }
-    ensures append { (s xs ys : List Row) → join s (xs ++ ys) ≡ join (join s xs) ys }
-    ensures any_order { (s t : List Row) → join s (of_rows t) ≡ join s t }
-{}
-
-/// Plain sets of values are a lattice under union, told by which values they hold.
-#[tactic(auto, using(crate::proofs::ValueLaws::union_lattice, crate::proofs::ValueLaws::visible_values))]
-pub fn plain_sets_are_a_lattice()
-    ensures same { (s t : List Val) → AreAscending s → AreAscending t → ((v : Val) → held s v ≡ held t v) → s ≡ t }
-    ensures idempotent { (s : List Val) → AreAscending s → unite s s ≡ s }
-    ensures commutative { (s t : List Val) → unite s t ≡ unite t s }
-    ensures associative { (s t u : List Val) → unite (unite s t) u ≡ unite s (unite t u) }
-    ensures left { (s t : List Val) → IsWithin s (unite s t) }
-    ensures right { (s t : List Val) → IsWithin t (unite s t) }
-    ensures least { (s t u : List Val) → IsWithin s u → IsWithin t u → IsWithin (unite s t) u }
-    ensures within { (s t : List Val) → AreAscending t → IsWithin s t → unite s t ≡ t }
-    ensures visible_ascends { (s : List Row) → AreAscending (visible s) }
-{}
+pub use algebra::{
+    processes_keep_dead_tokens, processes_show_the_plain_operations, visible_values_have_a_live_row,
+};
+pub use folds::folds_follow_a_change;
+pub use loops::loops_compute_the_definitions;
+pub use plain::{plain_operations_hold_these_values, plain_sets_are_a_lattice};
+pub use processes::{
+    changed_rows_have_what_is_shown_anew, processes_are_monotone, processes_follow_increments,
+    processes_have_these_rows, processes_send_joins_to_joins, what_changed_is_what_is_more,
+};
+pub use states::{joins_go_by_parts, states_are_a_lattice};
+pub use updates::adds_survive_removes_that_did_not_observe_them;

@@ -1,4 +1,4 @@
-use Rattle.std.proofs.Common.{◌≡◌, ◌∙◌, ap, subst, sym, List, ◌+◌, set}
+use Rattle.std.proofs.Common.{◌∙◌, ap, subst, sym, List, ◌+◌, set}
 use Rattle.model_values.specs.Row.{Row}
 use Rattle.lasp_orset.specs.Pieces.{joined, AreFilled}
 use Rattle.lasp_orset.proofs.PieceLaws.{halved-joined, halved-filled}

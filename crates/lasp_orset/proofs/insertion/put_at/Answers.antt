@@ -1,5 +1,4 @@
-use Rattle.std.proofs.Common.{◌≡◌, List, subst, sym}
-use Rattle.model_values.specs.Row.{Row}
+use Rattle.std.proofs.Common.{subst, sym}
 use Rattle.model_sets.specs.Rows.{IsAscending}
 use Rattle.lasp_orset.proofs.PieceLaws.{on_ok, if_ok, ascending-piece, placed-joined, placed-counted, placed-filled}
 use Rattle.lasp_orset.proofs.insertion.put_at.Goals as goal

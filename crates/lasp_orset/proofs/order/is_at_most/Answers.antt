@@ -1,4 +1,4 @@
-use Rattle.std.proofs.Common.{◌≡◌, ◌∙◌, ap}
+use Rattle.std.proofs.Common.{◌∙◌, ap}
 use Rattle.std.specs.List.{list_all}
 use Rattle.lasp_orset.specs.Pieces.{joined, is_covered}
 use Rattle.lasp_orset.proofs.SetLaws.{at_most-test}

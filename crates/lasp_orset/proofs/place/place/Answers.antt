@@ -1,4 +1,4 @@
-use Rattle.std.proofs.Common.{◌≡◌, ◌∙◌, ap, List, subst}
+use Rattle.std.proofs.Common.{◌∙◌, List, subst}
 use Rattle.model_values.specs.Row.{Row}
 use Rattle.lasp_orset.specs.Pieces.{IsRowPlace}
 use Rattle.lasp_orset.proofs.PlaceLaws.{placed-below, placed-tied, placed-above}

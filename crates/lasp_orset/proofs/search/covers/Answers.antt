@@ -1,4 +1,4 @@
-use Rattle.std.proofs.Common.{◌≡◌, ◌∙◌, List, subst, sym, ap}
+use Rattle.std.proofs.Common.{◌∙◌, List, subst, sym, ap}
 use Rattle.model_values.specs.Row.{Row}
 use Rattle.model_sets.specs.Rows.{IsAscending}
 use Rattle.lasp_orset.specs.Pieces.{is_covered}

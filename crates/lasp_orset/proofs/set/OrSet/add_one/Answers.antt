@@ -1,4 +1,4 @@
-use Rattle.std.proofs.Common.{◌≡◌, ◌∙◌, ap, sym}
+use Rattle.std.proofs.Common.{◌∙◌, ap, sym}
 use Rattle.model_sets.specs.Rows.{put}
 use Rattle.model_sets.proofs.RowLaws.{join-row}
 use Rattle.lasp_orset.proofs.PieceLaws.{on_ok}

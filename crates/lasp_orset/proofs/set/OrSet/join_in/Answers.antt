@@ -1,4 +1,4 @@
-use Rattle.std.proofs.Common.{◌≡◌, ◌∙◌, sym, refl}
+use Rattle.std.proofs.Common.{◌∙◌, sym, refl}
 use Rattle.model_sets.proofs.RowLaws.{join-at_most-right}
 use Rattle.lasp_orset.proofs.SetLaws.{at_most-unchanged}
 use Rattle.lasp_orset.proofs.set.OrSet.join_in.Goals as goal

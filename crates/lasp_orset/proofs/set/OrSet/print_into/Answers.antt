@@ -1,4 +1,4 @@
-use Rattle.std.proofs.Common.{◌≡◌, ◌∙◌, ap, List, ◌++◌, None}
+use Rattle.std.proofs.Common.{◌∙◌, ap, List, ◌++◌, None}
 use Rattle.std.specs.String.{string_bytes}
 use Rattle.model_values.specs.Row.{Row}
 use Rattle.lasp_orset.specs.Shown.{text_after}

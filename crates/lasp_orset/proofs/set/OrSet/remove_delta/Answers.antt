@@ -1,4 +1,4 @@
-use Rattle.std.proofs.Common.{◌≡◌, ◌∙◌, ap, filter, List}
+use Rattle.std.proofs.Common.{◌∙◌, ap, filter, List}
 use Rattle.model_values.specs.Row.{Row}
 use Rattle.model_sets.specs.Rows.{is_of, join, remove_delta}
 use Rattle.lasp_value.specs.Value.{val_of}
