@@ -48,6 +48,13 @@ impl Graph {
         self.decls.len() as u64
     }
 
+    /// Recalls, at no cost, that it is a graph.
+    pub fn recall(&self)
+        ensures { IsGraph self.now }
+    {
+        let _ = &self.decls;
+    }
+
     /// The declaration of the variable with this number.
     pub fn at(&self, i: u64) -> &Decl
         requires { i < length self.now }

@@ -20,6 +20,36 @@ fn a_union_of_two_sources_is_read(rt: HostRuntime) -> Result<(), Fail> {
     Ok(())
 }
 
+#[test]
+fn a_union_is_evaluated_from_its_sources(rt: HostRuntime) -> Result<(), Fail> {
+    let alloc = rt.alloc();
+    let text = "[[\"a\",\"orset\"],[\"b\",\"orset\"],[\"u\",\"union\",\"a\",\"b\"]]";
+    let graph = read_graph(alloc, text.as_bytes())?;
+    let mut sources = States::new(alloc);
+    sources.push(Arc::new(alloc, set_of(alloc, 5)?)?)?;
+    sources.push(Arc::new(alloc, set_of(alloc, 3)?)?)?;
+    sources.push(Arc::new(alloc, State::Set(OrSet::new(alloc)))?)?;
+    assert_eq!(rt; sources.len(), graph.len());
+    let states = eval_all(alloc, &graph, &sources)?;
+    let mut out = String::new(alloc);
+    for var in 0..states.len() {
+        states.at(var).print_into(&mut out)?;
+    }
+    assert_eq!(rt; out.as_str(), "[5][3][3,5]");
+    let first = Arc::new(alloc, set_of(alloc, 2)?)?;
+    let second = Some(Arc::new(alloc, set_of(alloc, 1)?)?);
+    let inputs = Inputs { first, second };
+    assert_eq!(rt; graph.at(2).kind, Kind::Union(0, 1));
+    out.clear();
+    eval_node(&graph, 2, &inputs)?.print_into(&mut out)?;
+    assert_eq!(rt; out.as_str(), "[1,2]");
+    Ok(())
+}
+
+fn set_of(alloc: Global, n: i64) -> Result<State, Fail> {
+    Ok(State::Set(add_delta(alloc, &Value::Int(n), 0, 1)?))
+}
+
 /// Each text with the declaration that is to blame, and why.
 const REFUSED: [(&str, u32, GraphWhy); 21] = [
     ("", 0, GraphWhy::NotJson),
