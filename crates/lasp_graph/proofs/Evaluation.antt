@@ -1,17 +1,16 @@
 -- What is evaluated stays, and the first variable that is too large is the first that was met.
-use Rattle.std.proofs.Common.{◌≡◌, ◌∙◌, sym, ap, refl, subst, ℕ, zero, suc, ◌+◌, ◌<◌, ◌≤◌, List, [], ◌∷◌, ◌++◌, length, get_or, take, Result, Ok, Err, Bool, true, false, cond, Option, Some, None, nat_lt, append_assoc, arith}
-use Rattle.std.specs.Prelude.{if◌then◌else◌}
+use Rattle.std.proofs.Common.{◌≡◌, ◌∙◌, sym, ap, refl, subst, ℕ, ◌+◌, ◌<◌, ◌≤◌, List, [], ◌∷◌, ◌++◌, length, take, Err, true, false, Some, None, nat_lt, append_assoc, arith}
 use Rattle.std.proofs.lemmas.List.{append-nil}
 use Rattle.std.proofs.lemmas.Bool.{lt-ltb, le-ltb}
 use Rattle.std.proofs.lemmas.Grind.{common_steps}
 use Rattle.lasp_graph.specs.Evaluated.{AreSmall, Becomes, Evaluates, stopped_at}
 use Rattle.std.specs.List.{slice_get}
-use Rattle.std.proofs.lemmas.Option.{slice_get_within, get_or_from_slice_get, slice_get-get_or}
+use Rattle.std.proofs.lemmas.Option.{slice_get_within, get_or_from_slice_get}
 use Rattle.model_sets.specs.Rows.{join}
 use Rattle.model_states.specs.Content.{Content, least, of_set, size_of, row_limit}
 use Rattle.model_graph.specs.Graph.{Kind, OrSet, Union, Decl, no_decl, kind_at}
-use Rattle.model_graph.specs.Evaluation.{content_at, evaluated, eval_from, eval, first_large}
-use Rattle.model_readings.specs.Lawful.{IsSetAt, AreInputs, IsNext, IsGraph}
+use Rattle.model_graph.specs.Evaluation.{content_at, evaluated, eval_from, first_large}
+use Rattle.model_readings.specs.Lawful.{AreInputs, IsGraph}
 use Rattle.lasp_graph.specs.declared.inputs.EvalRefused.{EvalRefused}
 use Rattle.lasp_graph.specs.declared.inputs.EvalRefused.TheVariants as node
 

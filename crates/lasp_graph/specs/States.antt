@@ -1,5 +1,5 @@
 -- Lists of contents as trees of numbers.
-use Rattle.std.specs.Prelude.{◌≡◌, List, refl}
+use Rattle.std.specs.Prelude.{List, refl}
 use Rattle.std.specs.Coded.{Coded, code_by, coded_list}
 use Rattle.model_values.specs.Row.{Row, coded_rows}
 use Rattle.model_states.specs.Content.{Content, of_set}

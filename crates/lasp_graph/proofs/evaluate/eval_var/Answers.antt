@@ -1,7 +1,6 @@
-use Rattle.std.proofs.Common.{◌≡◌, ◌∙◌, sym, ap, ◌<◌, length, arith}
+use Rattle.std.proofs.Common.{◌≡◌, ◌∙◌, ap}
 use Rattle.std.specs.Arc.{arc_value}
-use Rattle.model_graph.specs.Graph.{Kind, OrSet, Union, kind_at}
-use Rattle.model_states.specs.Content.{Content}
+use Rattle.model_graph.specs.Graph.{OrSet, Union, kind_at}
 use Rattle.lasp_state.specs.State.{content_of}
 use Rattle.lasp_graph.specs.Kind.{kind_of}
 use Rattle.lasp_graph.specs.Decl.{decl_of}
