@@ -8,7 +8,7 @@ use Rattle.model_readings.specs.Tree.{json_of}
 use Rattle.model_readings.specs.Graph.{tree_read, graph_of}
 use Rattle.model_readings.specs.declared.graph_why.GraphWhy.TheVariants as why
 
-json_of-Some : (bytes : List ℕ) (d : Data) → IsUtf8 bytes → read bytes ≡ Some d → json_of bytes ≡ Some d
+pub json_of-Some : (bytes : List ℕ) (d : Data) → IsUtf8 bytes → read bytes ≡ Some d → json_of bytes ≡ Some d
 unfolding json_of
 json_of-Some bytes d utf8 e = rw (is_utf8-from_IsUtf8 bytes utf8) e
 
@@ -16,7 +16,7 @@ unread : (bytes : List ℕ) (b : Bool) → is_utf8 bytes ≡ b → (IsUtf8 bytes
 unread bytes true t none = none (IsUtf8-from_is_utf8 bytes t)
 unread bytes false t none = refl
 
-json_of-None : (bytes : List ℕ) → (IsUtf8 bytes → read bytes ≡ None) → json_of bytes ≡ None
+pub json_of-None : (bytes : List ℕ) → (IsUtf8 bytes → read bytes ≡ None) → json_of bytes ≡ None
 unfolding json_of
 json_of-None bytes none = unread bytes _ refl none
 

@@ -2,3 +2,4 @@ pub mod Items
 pub mod Bytes
 pub mod Entries
 pub mod Declared
+pub mod Evaluation

@@ -3,3 +3,5 @@ pub mod Decl
 pub mod Kept
 pub mod Written
 pub mod Answers
+pub mod States
+pub mod Evaluated

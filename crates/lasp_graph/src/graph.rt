@@ -1,8 +1,10 @@
 //! The graph: declarations in order, found by their names.
 
 ghost use Rattle.std.specs.Prelude.{◌≡◌, ◌<◌, ◌++◌, ◌∷◌, [], length, slice_get, Some, IfSome, OnOk, OnErr};
+ghost use Rattle.model_graph.specs.Graph.{kind_at};
 ghost use Rattle.model_readings.specs.Graph.{place_of, variable_limit};
 ghost use Rattle.model_readings.specs.Lawful.{IsGraph, IsNext};
+ghost use Rattle.lasp_graph.specs.Kind.{kind_of};
 ghost use Rattle.lasp_graph.specs.Decl.{decl_of};
 
 use super::decl::Decl;
@@ -48,10 +50,18 @@ impl Graph {
         self.decls.len() as u64
     }
 
+    /// Recalls, at no cost, that it is a graph.
+    pub fn recall(&self)
+        ensures { IsGraph self.now }
+    {
+        let _ = &self.decls;
+    }
+
     /// The declaration of the variable with this number.
     pub fn at(&self, i: u64) -> &Decl
         requires { i < length self.now }
-        ensures { slice_get self.now i ≡ Some (decl_of result.now) }
+        ensures decl { slice_get self.now i ≡ Some (decl_of result.now) }
+        ensures kind { kind_at self.now i ≡ kind_of result.now.kind }
     {
         let (_, decl) = self.decls.get_index(i as usize).unwrap();
         decl

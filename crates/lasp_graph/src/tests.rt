@@ -1,7 +1,11 @@
 //! What graphs are read, and how bad ones are refused.
 
-use super::{Graph, GraphRefused, GraphWhy, Kind, read_graph};
+use super::{Graph, GraphRefused, GraphWhy, Inputs, Kind, States, eval_all, eval_node, read_graph};
+use lasp_orset::add_delta;
+use lasp_state::State;
+use lasp_value::Value;
 use std::alloc::Global;
+use std::sync::Arc;
 use std::test::Fail;
 
 #[test]
@@ -18,6 +22,57 @@ fn a_union_of_two_sources_is_read(rt: HostRuntime) -> Result<(), Fail> {
     assert_eq!(rt; graph.at(2).kind, Kind::Union(0, 1));
     assert_eq!(rt; graph.at(3).kind, Kind::Union(2, 2));
     Ok(())
+}
+
+const UNION: &str = "[[\"a\",\"orset\"],[\"b\",\"orset\"],[\"u\",\"union\",\"a\",\"b\"]]";
+
+#[test]
+fn a_union_is_evaluated_from_its_sources(rt: HostRuntime) -> Result<(), Fail> {
+    let graph = read_graph(rt.alloc(), UNION.as_bytes())?;
+    let sources = states_of(rt.alloc(), &[5, 3, 7])?;
+    assert_eq!(rt; sources.len(), graph.len());
+    let states = eval_all(rt.alloc(), &graph, &sources)?;
+    assert_eq!(rt; states.len(), 3);
+    let text = text_of(rt.alloc(), states.at(2))?;
+    assert_eq!(rt; text.as_str(), "[3,5]");
+    Ok(())
+}
+
+#[test]
+fn a_union_of_two_states_is_their_process(rt: HostRuntime) -> Result<(), Fail> {
+    let graph = read_graph(rt.alloc(), UNION.as_bytes())?;
+    assert_eq!(rt; graph.len(), 3);
+    let first = set_of(rt.alloc(), 2)?;
+    let second = set_of(rt.alloc(), 1)?;
+    let inputs = Inputs {
+        first,
+        second: Some(second),
+    };
+    if let Kind::Union(_, _) = graph.at(2).kind {
+        let state = eval_node(&graph, 2, &inputs)?;
+        let text = text_of(rt.alloc(), &state)?;
+        assert_eq!(rt; text.as_str(), "[1,2]");
+    }
+    Ok(())
+}
+
+fn set_of(alloc: Global, n: i64) -> Result<Arc<State>, Fail> {
+    let set = add_delta(alloc, &Value::Int(n), 0, 1)?;
+    Ok(Arc::new(alloc, State::Set(set))?)
+}
+
+fn states_of(alloc: Global, numbers: &[i64]) -> Result<States, Fail> {
+    let mut states = States::new(alloc);
+    for n in numbers {
+        states.push(set_of(alloc, *n)?)?;
+    }
+    Ok(states)
+}
+
+fn text_of(alloc: Global, state: &State) -> Result<String, Fail> {
+    let mut text = String::new(alloc);
+    state.print_into(&mut text)?;
+    Ok(text)
 }
 
 /// Each text with the declaration that is to blame, and why.

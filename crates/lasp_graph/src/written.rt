@@ -2,10 +2,11 @@
 
 ghost use Rattle.std.specs.Prelude.{◌≡◌, option_map, codes};
 ghost use Rattle.serde_json.specs.View.{view};
-ghost use Rattle.model_readings.specs.Tree.{text_at, is_word_at, has_items, two};
+ghost use Rattle.model_readings.specs.Tree.{text_at, two};
 ghost use Rattle.model_readings.specs.Graph.{form_of, written_of, union};
 ghost use Rattle.lasp_graph.specs.Written.{form_view, written_view};
 
+use super::tree::{has_items, is_word_at, text_at};
 use serde_json::Value as Json;
 
 /// The form of a declaration behind its name, with its inputs' names.
@@ -55,30 +56,4 @@ fn union_of(j: &Json) -> Option<Form<'_>>
     let x = text_at(j, 2)?;
     let y = text_at(j, 3)?;
     Some(Form::Union(x, y))
-}
-
-fn text_at(j: &Json, i: usize) -> Option<&str>
-    ensures { option_map (λ s. s.now) result ≡ text_at i (view j.now) }
-{
-    j.get(i).and_then(Json::as_str)
-}
-
-#[tactic(auto, unfolding(model_readings::specs::Tree::is_word_at))]
-fn is_word_at(j: &Json, i: usize, word: &str) -> bool
-    ensures { result ≡ is_word_at i word.now (view j.now) }
-{
-    match text_at(j, i) {
-        Some(text) => text == word,
-        None => false,
-    }
-}
-
-#[tactic(auto, using(crate::proofs::Items::lengths), unfolding(model_readings::specs::Tree::has_items))]
-fn has_items(j: &Json, n: usize) -> bool
-    ensures { result ≡ has_items n (view j.now) }
-{
-    match j.as_array() {
-        Some(items) => items.len() == n,
-        None => false,
-    }
 }

@@ -12,7 +12,7 @@ use Rattle.model_world.specs.Command.{Command, Add, Remove, Print, Script}
 use Rattle.model_readings.specs.declared.script_why.ScriptWhy.TheVariants as why
 use Rattle.model_readings.specs.Tree.{json_of, list_of, number_at, is_word_at, has_items}
 use Rattle.model_readings.specs.Graph.{place_of, numbered}
-use Rattle.model_readings.specs.Script.{node_limit, command_limit, Word, add, remove, print, word_of, below, node_of, value_of, is_orset, place_read, change_read, word_read, command_read, next_read, commands_read, in_range, nodes_of, script_from, parts_read, tree_read, script_of}
+use Rattle.model_readings.specs.Script.{node_limit, command_limit, Target, Word, add, remove, print, word_of, below, node_of, value_of, is_orset, place_read, change_read, word_read, command_read, next_read, commands_read, in_range, nodes_of, script_from, parts_read, tree_read, script_of}
 use Rattle.model_readings.specs.Lawful.{IsOrSetAt, IsLawful, IsScript}
 use Rattle.model_readings.proofs.Chains.{passed, check_passed, or_else_passed, refusing_passed}
 use Rattle.model_readings.proofs.Names.{found_within, found_at}
@@ -32,45 +32,57 @@ record IsPlace (g : List Decl) (nodes : ℕ) (place : ℕ × ℕ) : Type 0 where
   within : place.1 < length g
   declared : slice_get g place.1 ≡ Some (decl_at g place.1)
 
-place-place_read : (g : List Decl) (nodes : ℕ) (p : Num) (x : List ℕ) (place : ℕ × ℕ) → place_read g nodes p x ≡ Ok place → IsPlace g nodes place
+place-place_read : (g : List Decl) (nodes : ℕ) (t : Target) (place : ℕ × ℕ) → place_read g nodes t ≡ Ok place → IsPlace g nodes place
 unfolding place_read node_of
-place-place_read g nodes p x place e =
-    let node = passed (or_else (node_of nodes p) why.NoSuchNode) _ place e in
-    let var = passed (or_else (place_of x g) why.UnknownVar) _ place node.then in
-    let at = or_else_passed (place_of x g) why.UnknownVar var.value var.first in
+place-place_read g nodes t place e =
+    let node = passed (or_else (node_of nodes t.node) why.NoSuchNode) _ place e in
+    let var = passed (or_else (place_of t.var g) why.UnknownVar) _ place node.then in
+    let at = or_else_passed (place_of t.var g) why.UnknownVar var.value var.first in
     let same : (node.value, var.value) ≡ place = cc in
     subst (IsPlace g nodes) same (record {
-      node = node-below nodes (as_u64 p) node.value (or_else_passed (node_of nodes p) why.NoSuchNode node.value node.first);
-      within = found_within x g var.value at;
-      declared = found_at x g var.value at;
+      node = node-below nodes (as_u64 t.node) node.value (or_else_passed (node_of nodes t.node) why.NoSuchNode node.value node.first);
+      within = found_within t.var g var.value at;
+      declared = found_at t.var g var.value at;
     })
 
 is_orset-OrSet : (k : Kind) → is_orset k ≡ true → k ≡ OrSet
 is_orset-OrSet OrSet e = refl
 is_orset-OrSet (Union x y) e = cc
 
-lawful-change : (g : List Decl) (nodes : ℕ) (make : ℕ → ℕ → Val → Command)
-    → ((p x : ℕ) (v : Val) → p < nodes → IsOrSetAt g x → IsLawful g nodes (make p x v))
-    → (p : Num) (x : List ℕ) (v : Data) (k : Command) → change_read g nodes make p x v ≡ Ok k → IsLawful g nodes k
+-- a node and an observed-remove set that are read are there
+abbrev IsChange : List Decl → ℕ → ℕ × ℕ × Val → Type 0
+IsChange g nodes c = (c.0 < nodes) × IsOrSetAt g c.1
+
+change-change_read : (g : List Decl) (nodes : ℕ) (t : Target) (v : Data) (c : ℕ × ℕ × Val) → change_read g nodes t v ≡ Ok c → IsChange g nodes c
 unfolding change_read
-lawful-change g nodes make lawful p x v k e =
-    let place = passed (place_read g nodes p x) _ k e in
-    let there = place-place_read g nodes p x place.value place.first in
-    let set = check_passed (is_orset (decl_at g place.value.1).kind) why.WrongOp _ k place.then in
-    let value = passed (or_else (value_of v) why.ValueRefused) _ k set.1 in
-    let same : make place.value.0 place.value.1 value.value ≡ k = cc in
-    subst (IsLawful g nodes) same (lawful place.value.0 place.value.1 value.value there.node (record {
-      decl = decl_at g place.value.1;
-      declared = there.declared;
-      orset = is_orset-OrSet (decl_at g place.value.1).kind set.0;
-    }))
+change-change_read g nodes t v c e =
+    let place = passed (place_read g nodes t) _ c e in
+    let there = place-place_read g nodes t place.value place.first in
+    let set = check_passed (is_orset (decl_at g place.value.1).kind) why.WrongOp _ c place.then in
+    let value = passed (or_else (value_of v) why.ValueRefused) _ c set.1 in
+    let read : ℕ × ℕ × Val = (place.value.0, place.value.1, value.value) in
+    let same : read ≡ c = cc in
+    subst (IsChange g nodes) same (
+      there.node,
+      record {
+        decl = decl_at g place.value.1;
+        declared = there.declared;
+        orset = is_orset-OrSet (decl_at g place.value.1).kind set.0;
+      },
+    )
 
 lawful-word : (g : List Decl) (nodes : ℕ) (w : Word) (k : Command) → word_read g nodes w ≡ Ok k → IsLawful g nodes k
-lawful-word g nodes (add p x v) k e = lawful-change g nodes Add (λ p x v node set. (node, set)) p x v k e
-lawful-word g nodes (remove p x v) k e = lawful-change g nodes Remove (λ p x v node set. (node, set)) p x v k e
-lawful-word g nodes (print p x) k e =
-    let place = passed (place_read g nodes p x) _ k e in
-    let there = place-place_read g nodes p x place.value place.first in
+lawful-word g nodes (add t v) k e =
+    let c = passed (change_read g nodes t v) _ k e in
+    let same : Add c.value.0 c.value.1 c.value.2 ≡ k = cc in
+    subst (IsLawful g nodes) same (change-change_read g nodes t v c.value c.first)
+lawful-word g nodes (remove t v) k e =
+    let c = passed (change_read g nodes t v) _ k e in
+    let same : Remove c.value.0 c.value.1 c.value.2 ≡ k = cc in
+    subst (IsLawful g nodes) same (change-change_read g nodes t v c.value c.first)
+lawful-word g nodes (print t) k e =
+    let place = passed (place_read g nodes t) _ k e in
+    let there = place-place_read g nodes t place.value place.first in
     let same : Print place.value.0 place.value.1 ≡ k = cc in
     subst (IsLawful g nodes) same (there.node, there.within)
 

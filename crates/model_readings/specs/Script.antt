@@ -8,7 +8,7 @@ use Rattle.model_graph.specs.Graph.{Kind, OrSet, Union, Decl, decl_at}
 use Rattle.model_world.specs.Command.{Command, Add, Remove, Print, Script}
 use Rattle.model_readings.specs.declared.script_why.ScriptWhy.{ScriptWhy}
 use Rattle.model_readings.specs.declared.script_why.ScriptWhy.TheVariants as why
-use Rattle.model_readings.specs.Tree.{json_of, list_of, text_at, number_at, is_word_at, has_items, two, three}
+use Rattle.model_readings.specs.Tree.{json_of, list_of, text_at, number_at, is_word_at, has_items, two}
 use Rattle.model_readings.specs.Graph.{place_of, numbered}
 
 -- how many nodes a script may have
@@ -19,18 +19,30 @@ node_limit = 1
 abbrev pub command_limit : ℕ
 command_limit = 100000
 
--- commands as they are written: a number of JSON for the node, the variable's name, the value's tree
+-- what a command is about, as it is written: a number of JSON for the node, the variable's name
+pub record Target : Type 0 where
+  pub node : Num
+  pub var : List ℕ
+
+-- commands as they are written, with the value's tree
 pub data Word : Type 0 where
-  add : Num → List ℕ → Data → Word
-  remove : Num → List ℕ → Data → Word
-  print : Num → List ℕ → Word
+  add : Target → Data → Word
+  remove : Target → Data → Word
+  print : Target → Word
+
+abbrev pub target : Num → List ℕ → Target
+target node var = record { node = node; var = var }
+
+-- the node and the variable, which stand behind the word
+abbrev pub target_of : Data → Option Target
+target_of d = two target (number_at 1 d) (text_at 2 d)
 
 -- `["add",p,x,v]`, `["remove",p,x,v]` and `["print",p,x]`
 unfoldable pub word_of : Data → Option Word
 word_of d =
-    if is_word_at 0 (codes "add") d then (if has_items 4 d then three add (number_at 1 d) (text_at 2 d) (at 3 d) else None)
-    else (if is_word_at 0 (codes "remove") d then (if has_items 4 d then three remove (number_at 1 d) (text_at 2 d) (at 3 d) else None)
-    else (if is_word_at 0 (codes "print") d then (if has_items 3 d then two print (number_at 1 d) (text_at 2 d) else None)
+    if is_word_at 0 (codes "add") d then (if has_items 4 d then two add (target_of d) (at 3 d) else None)
+    else (if is_word_at 0 (codes "remove") d then (if has_items 4 d then two remove (target_of d) (at 3 d) else None)
+    else (if is_word_at 0 (codes "print") d then (if has_items 3 d then option_map print (target_of d) else None)
     else None))
 
 abbrev pub below : ℕ → ℕ → Option ℕ
@@ -49,24 +61,28 @@ is_orset OrSet = true
 is_orset (Union x y) = false
 
 -- a node and a variable
-unfoldable pub place_read : List Decl → ℕ → Num → List ℕ → Result (ℕ × ℕ) ScriptWhy
-place_read g nodes p x = do
-  node ← or_else (node_of nodes p) why.NoSuchNode
-  var ← or_else (place_of x g) why.UnknownVar
+unfoldable pub place_read : List Decl → ℕ → Target → Result (ℕ × ℕ) ScriptWhy
+place_read g nodes t = do
+  node ← or_else (node_of nodes t.node) why.NoSuchNode
+  var ← or_else (place_of t.var g) why.UnknownVar
   Ok (node, var)
 
+-- the variable is an observed-remove set
+abbrev pub orset_checked : List Decl → ℕ → Result (Unit {0}) ScriptWhy
+orset_checked g x = check (is_orset (decl_at g x).kind) why.WrongOp
+
 -- a node, an observed-remove set and a value
-unfoldable pub change_read : List Decl → ℕ → (ℕ → ℕ → Val → Command) → Num → List ℕ → Data → Result Command ScriptWhy
-change_read g nodes make p x v = do
-  place ← place_read g nodes p x
-  _ ← check (is_orset (decl_at g place.1).kind) why.WrongOp
+unfoldable pub change_read : List Decl → ℕ → Target → Data → Result (ℕ × ℕ × Val) ScriptWhy
+change_read g nodes t v = do
+  place ← place_read g nodes t
+  _ ← orset_checked g place.1
   value ← or_else (value_of v) why.ValueRefused
-  Ok (make place.0 place.1 value)
+  Ok (place.0, place.1, value)
 
 abbrev pub word_read : List Decl → ℕ → Word → Result Command ScriptWhy
-word_read g nodes (add p x v) = change_read g nodes Add p x v
-word_read g nodes (remove p x v) = change_read g nodes Remove p x v
-word_read g nodes (print p x) = place_read g nodes p x >>= λ place. Ok (Print place.0 place.1)
+word_read g nodes (add t v) = change_read g nodes t v >>= λ c. Ok (Add c.0 c.1 c.2)
+word_read g nodes (remove t v) = change_read g nodes t v >>= λ c. Ok (Remove c.0 c.1 c.2)
+word_read g nodes (print t) = place_read g nodes t >>= λ place. Ok (Print place.0 place.1)
 
 -- one command against the graph
 unfoldable pub command_read : List Decl → ℕ → Data → Result Command ScriptWhy

@@ -43,8 +43,3 @@ abbrev pub two : {A B C : Type 0} → (A → B → C) → Option A → Option B 
 two f None b = None
 two f (Some a) None = None
 two f (Some a) (Some b) = Some (f a b)
-
--- the third too
-abbrev pub three : {A B C D : Type 0} → (A → B → C → D) → Option A → Option B → Option C → Option D
-three f None b c = None
-three f (Some a) b c = two (f a) b c

@@ -1,0 +1,4 @@
+pub mod Command
+pub mod Kept
+pub mod Word
+pub mod Answers
