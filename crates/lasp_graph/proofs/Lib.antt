@@ -3,3 +3,4 @@ pub mod Bytes
 pub mod Entries
 pub mod Declared
 pub mod Evaluation
+pub mod StateLists

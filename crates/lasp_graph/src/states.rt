@@ -1,7 +1,9 @@
 //! The states of variables, shared.
 
-ghost use Rattle.std.specs.Prelude.{◌≡◌, ◌<◌, ◌++◌, ◌∷◌, [], length, slice_get, Some, OnOk, OnErr};
+ghost use Rattle.std.specs.Prelude.{◌≡◌, ◌<◌, ◌++◌, ◌∷◌, [], length, slice_get, slice_set, Some, OnOk, OnErr};
 ghost use Rattle.std.specs.Arc.{arc_value};
+ghost use Rattle.model_states.specs.Content.{join_contents};
+ghost use Rattle.model_graph.specs.Evaluation.{content_at};
 ghost use Rattle.lasp_state.specs.State.{content_of};
 
 use lasp_state::State;
@@ -62,4 +64,27 @@ impl States {
         self.states.push(state)?;
         Ok(())
     }
+
+    /// Joins a state into the one at a place: in place where nobody shares it, else into a copy of its list of shares. After a refusal all is as before.
+    pub fn join_at(&mut self, alloc: Global, i: u64, other: &State) -> Result<(), AllocError>
+        requires { i < length self.old }
+        ensures ok { OnOk result (self.new ≡ slice_set self.old i (join_contents (content_at self.old i) (content_of other.now))) }
+        ensures err { OnErr result (self.new ≡ self.old) }
+    {
+        join_shared(alloc, &mut self.states[i as usize], other)
+    }
+}
+
+fn join_shared(alloc: Global, shared: &mut Arc<State>, other: &State) -> Result<(), AllocError>
+    ensures ok { OnOk result (content_of (arc_value shared.new) ≡ join_contents (content_of (arc_value shared.old)) (content_of other.now)) }
+    ensures err { OnErr result (content_of (arc_value shared.new) ≡ content_of (arc_value shared.old)) }
+{
+    if let Some(state) = Arc::get_mut(shared) {
+        state.join_in(other)?;
+        return Ok(());
+    }
+    let mut copy = shared.try_clone()?;
+    copy.join_in(other)?;
+    *shared = Arc::new(alloc, copy)?;
+    Ok(())
 }
