@@ -1,0 +1,2 @@
+-- The laws by which the loops are proved.
+pub mod PutLaws
