@@ -1,6 +1,10 @@
 -- What is said of bytes that were read or written, where they are told at all.
 use Rattle.std.specs.Prelude.{◌≡◌, ℕ, List, ◌++◌, Option, None, Some, IfSome}
 
+-- nothing is told
+abbrev pub untold : Option (List ℕ)
+untold = None
+
 -- the bytes are those of the file, where its contents are told
 abbrev pub Sees : Option (List ℕ) → List ℕ → Type 0
 Sees told bytes = IfSome told (λ content. bytes ≡ content)

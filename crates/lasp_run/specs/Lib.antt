@@ -1,1 +1,3 @@
 pub mod Words
+pub mod Drive
+pub mod Driver

@@ -40,4 +40,4 @@ pub printed-more : (out before after cs : List ℕ) (c : ℕ) → before ≡ out
     → after ≡ out ++ (34 ∷ flat_map escaped (encode_utf8_all (cs ++ c ∷ [])))
 printed-more out before after cs c so_far more =
     rw (encodes-append cs (c ∷ []), append-nil (encode_utf8 c), flat_map-append escaped (encode_utf8_all cs) (encode_utf8 c))
-        (more ∙ ap (λ (b : List ℕ). b ++ flat_map escaped (encode_utf8 c)) so_far ∙ append_assoc out (34 ∷ flat_map escaped (encode_utf8_all cs)) (flat_map escaped (encode_utf8 c)))
+    (more ∙ ap (λ (b : List ℕ). b ++ flat_map escaped (encode_utf8 c)) so_far ∙ append_assoc out (34 ∷ flat_map escaped (encode_utf8_all cs)) (flat_map escaped (encode_utf8 c)))

@@ -10,8 +10,7 @@ mod value;
 mod values;
 
 pub use name::Name;
-pub use print::print_into;
-pub use print::print_value;
+pub use print::{print_into, print_value};
 pub use text::Text;
 pub use token::Token;
 pub use value::Value;

@@ -7,8 +7,7 @@ ghost use Rattle.lasp_value.specs.Value.{val_of};
 
 use super::text::Text;
 use super::value::Value;
-use std::alloc::AllocError;
-use std::alloc::Global;
+use std::alloc::{AllocError, Global};
 
 /// The compact JSON text of a value.
 pub fn print_value(alloc: Global, v: &Value) -> Result<Text, AllocError>
@@ -51,7 +50,11 @@ fn print_text(out: &mut String, text: &str) -> Result<(), AllocError>
 fn print_char(out: &mut String, c: char) -> Result<(), AllocError>
     ensures { OnOk result (string_bytes out.new ≡ string_bytes out.old ++ flat_map escaped (encode_utf8 c)) }
 {
-    if c < '\u{80}' { print_ascii(out, c) } else { out.push(c) }
+    if c < '\u{80}' {
+        print_ascii(out, c)
+    } else {
+        out.push(c)
+    }
 }
 
 #[tactic(auto, unfolding(model_values::specs::Text::escaped))]

@@ -6,8 +6,7 @@ ghost use Rattle.std.specs.Cmp.{partial_equiv_from_equiv};
 ghost use Rattle.model_values.specs.Size.{width};
 ghost use Rattle.lasp_value.specs.Token.{tok_of, token_cmp, token_total, token_equivalence, token_order};
 
-use std::alloc::AllocError;
-use std::alloc::Global;
+use std::alloc::{AllocError, Global};
 use std::cmp::Ordering;
 
 /// Where a row comes from.

@@ -7,8 +7,7 @@ ghost use Rattle.model_values.specs.Size.{leaves, text_bytes};
 ghost use Rattle.lasp_value.specs.Value.{val_of, value_cmp, value_total, value_equivalence, value_order};
 
 use super::text::Text;
-use std::alloc::AllocError;
-use std::alloc::Global;
+use std::alloc::{AllocError, Global};
 use std::cmp::Ordering;
 
 /// What sets hold. Numbers stand before texts, texts before pairs; numbers go by size, texts by their bytes, pairs by first, then second.

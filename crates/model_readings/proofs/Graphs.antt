@@ -9,7 +9,7 @@ use Rattle.model_graph.specs.Graph.{Kind, OrSet, Union, Decl, is_set, decl_at}
 use Rattle.lasp_value.specs.Name.{is_name}
 use Rattle.model_readings.specs.declared.graph_why.GraphWhy.TheVariants as why
 use Rattle.model_readings.specs.Tree.{json_of, list_of}
-use Rattle.model_readings.specs.Graph.{variable_limit, Form, orset, union, written_of, place_of, known, union_read, kind_read, declaration, decl_read, next_read, numbered, decls_read, graph_of}
+use Rattle.model_readings.specs.Graph.{variable_limit, Form, orset, union, written_of, place_of, known, union_read, kind_read, declaration, decl_read, next_read, numbered, decls_read, tree_read, graph_of}
 use Rattle.model_readings.specs.Lawful.{IsSetAt, AreInputs, IsNext, IsGraph}
 use Rattle.model_readings.proofs.Chains.{passed, check_passed, or_else_passed, refusing_passed}
 use Rattle.model_readings.proofs.Names.{none_named, found_at}
@@ -87,7 +87,7 @@ graph-decls_read before (d ∷ ds) g good e =
     (graph-push before decl.value good (ltb-true _ _ room.0) (next-decl_read before d decl.value room.1)) decl.then
 
 pub graph-graph_of : (bytes : List ℕ) (g : List Decl) → graph_of bytes ≡ Ok g → IsGraph g
-unfolding graph_of
+unfolding graph_of tree_read
 graph-graph_of bytes g e =
     let tree = passed (or_else (json_of bytes) (0, why.NotJson)) _ g e in
     let ds = passed (or_else (as_array tree.value) (0, why.Shape)) _ g tree.then in

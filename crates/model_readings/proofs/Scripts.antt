@@ -12,7 +12,7 @@ use Rattle.model_world.specs.Command.{Command, Add, Remove, Print, Script}
 use Rattle.model_readings.specs.declared.script_why.ScriptWhy.TheVariants as why
 use Rattle.model_readings.specs.Tree.{json_of, list_of, number_at, is_word_at, has_items}
 use Rattle.model_readings.specs.Graph.{place_of, numbered}
-use Rattle.model_readings.specs.Script.{node_limit, command_limit, Word, add, remove, print, word_of, below, node_of, value_of, is_orset, place_read, change_read, word_read, command_read, next_read, commands_read, in_range, nodes_of, script_from, parts_read, script_of}
+use Rattle.model_readings.specs.Script.{node_limit, command_limit, Word, add, remove, print, word_of, below, node_of, value_of, is_orset, place_read, change_read, word_read, command_read, next_read, commands_read, in_range, nodes_of, script_from, parts_read, tree_read, script_of}
 use Rattle.model_readings.specs.Lawful.{IsOrSetAt, IsLawful, IsScript}
 use Rattle.model_readings.proofs.Chains.{passed, check_passed, or_else_passed, refusing_passed}
 use Rattle.model_readings.proofs.Names.{found_within, found_at}
@@ -125,6 +125,7 @@ unfolding nodes_of
 nodes-nodes_of d k e = nodes-if (is_word_at 0 _ d && has_items 2 d) (option_and_then as_u64 (number_at 1 d)) k e
 
 script-parts_read : (g : List Decl) (ds : List Data) (s : Script) → parts_read g ds ≡ Ok s → IsScript g s
+unfolding parts_read
 script-parts_read g [] s e = cc
 script-parts_read g (d ∷ ds) s e =
     let nodes = passed (or_else (nodes_of d) (0, why.Shape)) _ s e in
@@ -135,7 +136,7 @@ script-parts_read g (d ∷ ds) s e =
     subst (IsScript g) same (record { some = range.0; most = range.1; few = lawful.few; each = lawful.each })
 
 pub script-script_of : (g : List Decl) (bytes : List ℕ) (s : Script) → script_of g bytes ≡ Ok s → IsScript g s
-unfolding script_of
+unfolding script_of tree_read
 script-script_of g bytes s e =
     let tree = passed (or_else (json_of bytes) (0, why.NotJson)) _ s e in
     let ds = passed (or_else (as_array tree.value) (0, why.Shape)) _ s tree.then in

@@ -91,9 +91,12 @@ decls_read before (d ∷ ds) = do
   decl ← numbered (length before) (next_read before d)
   decls_read (before ++ decl ∷ []) ds
 
--- the graph that the bytes are
-unfoldable pub graph_of : List ℕ → Result (List Decl) (ℕ × GraphWhy)
-graph_of bytes = do
-  tree ← or_else (json_of bytes) (0, why.NotJson)
+-- the graph that a tree is
+unfoldable pub tree_read : Data → Result (List Decl) (ℕ × GraphWhy)
+tree_read tree = do
   ds ← or_else (as_array tree) (0, why.Shape)
   decls_read [] (list_of ds)
+
+-- the graph that the bytes are
+unfoldable pub graph_of : List ℕ → Result (List Decl) (ℕ × GraphWhy)
+graph_of bytes = or_else (json_of bytes) (0, why.NotJson) >>= tree_read

@@ -99,16 +99,19 @@ abbrev pub script_from : ℕ → List Command → Script
 script_from nodes commands = record { nodes = nodes; commands = commands }
 
 -- the first part tells the nodes, the others are commands
-abbrev pub parts_read : List Decl → List Data → Result Script (ℕ × ScriptWhy)
+unfoldable pub parts_read : List Decl → List Data → Result Script (ℕ × ScriptWhy)
 parts_read g [] = Err (0, why.Shape)
 parts_read g (d ∷ ds) = do
   nodes ← or_else (nodes_of d) (0, why.Shape)
   commands ← commands_read g nodes [] ds
   Ok (script_from nodes commands)
 
--- the script that the bytes are, against a graph
-unfoldable pub script_of : List Decl → List ℕ → Result Script (ℕ × ScriptWhy)
-script_of g bytes = do
-  tree ← or_else (json_of bytes) (0, why.NotJson)
+-- the script that a tree is, against a graph
+unfoldable pub tree_read : List Decl → Data → Result Script (ℕ × ScriptWhy)
+tree_read g tree = do
   ds ← or_else (as_array tree) (0, why.Shape)
   parts_read g (list_of ds)
+
+-- the script that the bytes are, against a graph
+unfoldable pub script_of : List Decl → List ℕ → Result Script (ℕ × ScriptWhy)
+script_of g bytes = or_else (json_of bytes) (0, why.NotJson) >>= tree_read g

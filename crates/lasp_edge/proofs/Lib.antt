@@ -1,0 +1,2 @@
+mod ShelfLaws
+mod LoopLaws

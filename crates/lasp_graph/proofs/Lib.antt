@@ -1,0 +1,4 @@
+pub mod Items
+pub mod Bytes
+pub mod Entries
+pub mod Declared

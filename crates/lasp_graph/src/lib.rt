@@ -1,0 +1,21 @@
+//! Graphs: the variables of a runtime, each a source or a process over earlier variables, read from JSON.
+//!
+//! A graph is made by `read_graph`, which says of a refused file which declaration is to blame, and why. Contracts see a graph as the list of its declarations.
+#![tactic(auto)]
+
+mod decl;
+mod graph;
+mod kind;
+mod read;
+mod refused;
+mod written;
+
+pub use decl::Decl;
+pub use graph::Graph;
+pub use kind::Kind;
+pub use model_readings::GraphWhy;
+pub use read::{read_decl, read_graph};
+pub use refused::{DeclRefused, GraphRefused};
+
+#[cfg(test)]
+mod tests;

@@ -1,0 +1,126 @@
+//! What graphs are read, and how bad ones are refused.
+
+use super::{Graph, GraphRefused, GraphWhy, Kind, read_graph};
+use std::alloc::Global;
+use std::test::Fail;
+
+#[test]
+fn a_union_of_two_sources_is_read(rt: HostRuntime) -> Result<(), Fail> {
+    let text =
+        "[[\"a\",\"orset\"],[\"b_2\",\"orset\"],[\"u\",\"union\",\"a\",\"b_2\"],[\"w\",\"union\",\"u\",\"u\"]]";
+    let graph = read_graph(rt.alloc(), text.as_bytes())?;
+    assert_eq!(rt; graph.len(), 4);
+    assert_eq!(rt; graph.find("b_2"), Some(1));
+    assert_eq!(rt; graph.find("u"), Some(2));
+    assert_eq!(rt; graph.find("c"), None);
+    assert_eq!(rt; graph.at(1).name.as_str(), "b_2");
+    assert_eq!(rt; graph.at(1).kind, Kind::OrSet);
+    assert_eq!(rt; graph.at(2).kind, Kind::Union(0, 1));
+    assert_eq!(rt; graph.at(3).kind, Kind::Union(2, 2));
+    Ok(())
+}
+
+/// Each text with the declaration that is to blame, and why.
+const REFUSED: [(&str, u32, GraphWhy); 21] = [
+    ("", 0, GraphWhy::NotJson),
+    ("[[\"a\",\"orset\"]", 0, GraphWhy::NotJson),
+    ("[] []", 0, GraphWhy::NotJson),
+    ("{}", 0, GraphWhy::Shape),
+    ("1", 0, GraphWhy::Shape),
+    ("[\"a\"]", 0, GraphWhy::Shape),
+    ("[[]]", 0, GraphWhy::Shape),
+    ("[[\"a\"]]", 0, GraphWhy::Shape),
+    ("[[\"a\",\"orset\"],[\"b\",\"set\"]]", 1, GraphWhy::Shape),
+    ("[[\"a\",\"orset\",\"b\"]]", 0, GraphWhy::Shape),
+    ("[[1,\"orset\"]]", 0, GraphWhy::Shape),
+    (
+        "[[\"a\",\"orset\"],[\"u\",\"union\",\"a\"]]",
+        1,
+        GraphWhy::Shape,
+    ),
+    (
+        "[[\"a\",\"orset\"],[\"u\",\"union\",\"a\",1]]",
+        1,
+        GraphWhy::Shape,
+    ),
+    ("[[\"A\",\"orset\"]]", 0, GraphWhy::NameShape),
+    ("[[\"\",\"orset\"]]", 0, GraphWhy::NameShape),
+    (
+        "[[\"a\",\"orset\"],[\"a23456789012345678901234567890123\",\"orset\"]]",
+        1,
+        GraphWhy::NameShape,
+    ),
+    (
+        "[[\"a\",\"orset\"],[\"2\",\"union\",\"x\",\"a\"]]",
+        1,
+        GraphWhy::NameShape,
+    ),
+    (
+        "[[\"a\",\"orset\"],[\"b\",\"orset\"],[\"a\",\"union\",\"x\",\"b\"]]",
+        2,
+        GraphWhy::NameTaken,
+    ),
+    (
+        "[[\"a\",\"orset\"],[\"u\",\"union\",\"x\",\"a\"]]",
+        1,
+        GraphWhy::UnknownInput,
+    ),
+    (
+        "[[\"a\",\"orset\"],[\"u\",\"union\",\"a\",\"u\"]]",
+        1,
+        GraphWhy::UnknownInput,
+    ),
+    (
+        "[[\"a\",\"orset\"],[\"u\",\"union\",\"a\",\"b\"],[\"b\",\"orset\"]]",
+        1,
+        GraphWhy::UnknownInput,
+    ),
+];
+
+#[test]
+fn each_bad_graph_is_refused_by_its_number_and_cause(rt: HostRuntime) -> Result<(), Fail> {
+    for (text, number, why) in &REFUSED {
+        let is_so = is_refused(read_graph(rt.alloc(), text.as_bytes()), *number, *why);
+        assert!(rt; is_so, "{text}");
+    }
+    Ok(())
+}
+
+#[test]
+fn a_graph_has_room_for_64_variables(rt: HostRuntime) -> Result<(), Fail> {
+    let most = sources(rt.alloc(), 64)?;
+    let graph = read_graph(rt.alloc(), most.as_bytes())?;
+    assert_eq!(rt; graph.len(), 64);
+    assert_eq!(rt; graph.find("v63"), Some(63));
+    let more = sources(rt.alloc(), 65)?;
+    assert!(rt;
+        is_refused(
+            read_graph(rt.alloc(), more.as_bytes()),
+            64,
+            GraphWhy::TooMany
+        )
+    );
+    Ok(())
+}
+
+fn is_refused(read: Result<Graph, GraphRefused>, expected: u32, cause: GraphWhy) -> bool {
+    match read {
+        Err(GraphRefused::At { number, why }) => number == expected && why == cause,
+        _ => false,
+    }
+}
+
+/// The text of a graph of so many sources, `v0`, `v1` and so on.
+fn sources(alloc: Global, count: u32) -> Result<String, Fail> {
+    let mut text = String::new(alloc);
+    text.push('[')?;
+    for i in 0..count {
+        if i > 0 {
+            text.push(',')?;
+        }
+        let decl = format!(in alloc; "[\"v{i}\",\"orset\"]")?;
+        text.push_str(decl.as_str())?;
+    }
+    text.push(']')?;
+    Ok(text)
+}

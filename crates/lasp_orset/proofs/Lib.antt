@@ -1,0 +1,5 @@
+pub mod PlaceLaws
+pub mod PieceLaws
+pub mod SetLaws
+pub mod SpanLaws
+pub mod ShownLaws

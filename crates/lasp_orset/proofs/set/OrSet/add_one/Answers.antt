@@ -1,0 +1,9 @@
+use Rattle.std.proofs.Common.{◌∙◌, ap, sym}
+use Rattle.model_sets.specs.Rows.{put}
+use Rattle.model_sets.proofs.RowLaws.{join-row}
+use Rattle.lasp_orset.proofs.PieceLaws.{on_ok}
+use Rattle.lasp_orset.proofs.set.OrSet.add_one.Goals as goal
+
+pub returns-clause-ok : goal.returns-clause-ok
+returns-clause-ok c =
+    on_ok c.add.result (λ e. e ∙ ap (λ r. put r c.args.self.now) c.in_ok-try_clone.ensures ∙ sym (join-row c.args.self.now c.args.entry.now c.ascends.ensures)) c.add.ensures.ok

@@ -1,0 +1,38 @@
+//! The union of two sets.
+
+ghost use Rattle.std.specs.Prelude.{◌≡◌, ◌<◌, ◌≤◌, IfOk, length};
+ghost use Rattle.model_sets.specs.Rows.{join};
+ghost use Rattle.model_states.specs.Content.{row_limit};
+
+use super::SetRefused;
+use lasp_orset::OrSet;
+use std::alloc::AllocError;
+
+/// The most rows that a set variable may have, dead ones counted.
+const MOST_ROWS: u64 = 65_536;
+
+/// The rows of either set, dead where dead in either. It costs a share of the larger set and a search for each row of the smaller one.
+pub fn union_sets(x: &OrSet, y: &OrSet) -> Result<OrSet, SetRefused>
+    ensures ok { IfOk result (λ s. s ≡ join x.now y.now) }
+    ensures small { IfOk result (λ s. length s ≤ row_limit) }
+    ensures too_many { result ≡ Err SetRefused.TooManyRows → row_limit < length (join x.now y.now) }
+{
+    let all = joined(x, y)?;
+    if all.rows() > MOST_ROWS {
+        return Err(SetRefused::TooManyRows);
+    }
+    Ok(all)
+}
+
+fn joined(x: &OrSet, y: &OrSet) -> Result<OrSet, AllocError>
+    ensures { IfOk result (λ s. s ≡ join x.now y.now) }
+{
+    if x.rows() < y.rows() {
+        let mut all = y.try_clone()?;
+        all.join_in(x)?;
+        return Ok(all);
+    }
+    let mut all = x.try_clone()?;
+    all.join_in(y)?;
+    Ok(all)
+}
