@@ -1,5 +1,5 @@
 -- What the functions of the worked cases mean.
-use Rattle.std.specs.Prelude.{pos, Bool, false, int_lt, int_rem}
+use Rattle.std.specs.Prelude.{ℤ, pos, Bool, false, int_lt, int_rem}
 use Rattle.model_values.specs.Value.{Val, int, text, pair}
 
 -- A number's remainder by two; any other value as it is.
@@ -13,3 +13,9 @@ abbrev pub is_positive : Val → Bool
 is_positive (int n) = int_lt (pos 0) n
 is_positive (text t) = false
 is_positive (pair a b) = false
+
+-- A number itself; 0 of any other value.
+abbrev pub number_of : Val → ℤ
+number_of (int n) = n
+number_of (text t) = pos 0
+number_of (pair a b) = pos 0

@@ -1,13 +1,16 @@
 //! The worked cases of the definitions, against rows written by hand.
 //! A row is spelled as its value, its token after `@`, and `x` where it is dead.
 
-ghost use Rattle.plain_sets.specs.Rules.{parity_of, is_positive};
+ghost use Rattle.std.specs.Prelude.{pos};
+ghost use Rattle.std.specs.Int.{int_wrapping_add};
+ghost use mir.Syntax.{w128};
+ghost use Rattle.plain_sets.specs.Rules.{parity_of, is_positive, number_of};
 
 use super::{
-    Mapping, Predicate, Row, filter_set, intersect_sets, join, map_set, product_sets, remove_delta,
-    visible,
+    Combining, Mapping, Predicate, Row, filter_set, fold, intersect_sets, join, map_set,
+    product_sets, remove_delta, visible,
 };
-use lasp_value::{Token, Value, print_into};
+use lasp_value::{Token, Value, Values, print_into};
 use std::alloc::{AllocError, Global};
 use std::test::Fail;
 
@@ -33,6 +36,31 @@ impl Predicate for Positive {
         match value {
             Value::Int(n) => *n > 0,
             _ => false,
+        }
+    }
+}
+
+struct Sum;
+
+impl Combining for Sum {
+    ghost op = { λ _. int_wrapping_add w128 };
+
+    ghost neutral = { λ _. pos 0 };
+
+    ghost lift = { λ _. number_of };
+
+    fn op(&self, a: i128, b: i128) -> i128 {
+        a.wrapping_add(b)
+    }
+
+    fn neutral(&self) -> i128 {
+        0
+    }
+
+    fn lift(&self, value: &Value) -> i128 {
+        match value {
+            Value::Int(n) => *n as i128,
+            _ => 0,
         }
     }
 }
@@ -124,23 +152,18 @@ fn an_intersection_has_a_row_for_each_two_of_a_value(rt: HostRuntime) -> Result<
     Ok(())
 }
 
-fn shown(alloc: Global, here: &[Row], there: &[Row]) -> Result<String, AllocError> {
+fn shown(alloc: Global, here: &[Row], there: &[Row]) -> Result<Values, AllocError> {
     let both = join(alloc, here, there)?;
-    let values = visible(alloc, &both)?;
-    let mut out = String::new(alloc);
-    for i in 0..values.len() {
-        print_into(&mut out, values.at(i))?;
-        out.push(' ')?;
-    }
-    Ok(out)
+    visible(alloc, &both)
 }
 
 #[test]
-fn a_value_with_two_live_tokens_is_shown_once(rt: HostRuntime) -> Result<(), Fail> {
+fn a_value_with_two_live_tokens_counts_once(rt: HostRuntime) -> Result<(), Fail> {
     let alloc = rt.alloc();
-    let here = rows(alloc, &[(7, 1, false), (8, 3, true)])?;
+    let here = rows(alloc, &[(-1, 5, false), (7, 1, false), (8, 3, true)])?;
     let there = rows(alloc, &[(7, 2, false), (9, 4, false)])?;
-    let spelled = shown(alloc, &here, &there)?;
-    assert_eq!(rt; spelled.as_str(), "7 9 ");
+    let values = shown(alloc, &here, &there)?;
+    assert_eq!(rt; values.len(), 3);
+    assert_eq!(rt; fold(&Sum, &values), 15);
     Ok(())
 }
