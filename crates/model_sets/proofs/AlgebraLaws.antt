@@ -22,7 +22,7 @@ use Rattle.model_sets.proofs.WordLaws.{visible-live, same_from_words, both-one, 
 pub held-here : (v : Val) → is_value v v ≡ 1
 held-here v = ap (λ (o : Ordering). if is_eq o then 1 else 0) (tied_itself val_total v)
 
-same-value : (w v : Val) → is_value w v ≡ 1 → w ≡ v
+pub same-value : (w v : Val) → is_value w v ≡ 1 → w ≡ v
 same-value w v h = choose (eq_by_cmp val_cmp v w) refl h where
   choose : (b : Bool) → eq_by_cmp val_cmp v w ≡ b → ◌≡◌ {A = ℕ} (if b then 1 else 0) 1 → w ≡ v
   choose true e g = sym (val_exact v w (is-Equal (val_cmp v w) e))

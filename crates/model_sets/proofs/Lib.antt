@@ -7,3 +7,4 @@ pub mod AlgebraLaws
 pub mod FoldLaws
 pub mod LoopLaws
 pub mod UpdateLaws
+pub mod TestLaws

@@ -80,12 +80,12 @@ same-held s t up_s up_t v same = choose (held (visible s) v == 1) refl (held (vi
   choose true e c g =
       let one : held (visible s) v ≡ 1 = grind (arith, nat_tests, e) in
       let live = (visible-live s up_s v).0 one in
-      let other : held (visible t) v ≡ 1 = (visible-live t up_t v).1 (live.0, sym (same live.0) ∙ live.1) in
+      let other : held (visible t) v ≡ 1 = (visible-live t up_t v).1 (live.0, omega (arith, same live.0, live.1)) in
       omega (arith, one, other)
   choose false e true g =
       let one : held (visible t) v ≡ 1 = grind (arith, nat_tests, g) in
       let live = (visible-live t up_t v).0 one in
-      let other : held (visible s) v ≡ 1 = (visible-live s up_s v).1 (live.0, same live.0 ∙ live.1) in
+      let other : held (visible s) v ≡ 1 = (visible-live s up_s v).1 (live.0, omega (arith, same live.0, live.1)) in
       omega (arith, one, other)
   choose false e false g =
       let not_s : held (visible s) v ≢ 1 = grind (arith, nat_tests, e) in

@@ -5,3 +5,4 @@ pub mod Equations
 pub mod Algebra
 pub mod Folds
 pub mod Loops
+pub mod Tests

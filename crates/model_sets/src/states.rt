@@ -1,10 +1,12 @@
 //! Set states: a lattice under the join, in which a state is told by its marks.
 
-ghost use Rattle.std.specs.Prelude.{◌≡◌, List, [], ◌∷◌, ◌++◌};
+ghost use Rattle.std.specs.Prelude.{◌≡◌, IsTrue, ◌↔◌, List, [], ◌∷◌, ◌++◌};
 ghost use Rattle.model_values.specs.Value.{Val};
 ghost use Rattle.model_values.specs.Token.{Tok};
 ghost use Rattle.model_values.specs.Row.{Row};
 ghost use Rattle.model_sets.specs.Rows.{mark, IsAscending, put, of_rows, join, IsAtMost};
+ghost use Rattle.model_sets.specs.Tests.{is_at_most, is_within};
+ghost use Rattle.model_sets.specs.Values.{IsWithin};
 
 /// Set states are a lattice: the join is the least upper bound of the order.
 #[tactic(auto, using(crate::proofs::RowLaws::lattice))]
@@ -28,4 +30,11 @@ pub fn joins_go_by_parts()
     ensures row { (s : List Row) (r : Row) → IsAscending s → join s (r ∷ []) ≡ put r s }
     ensures append { (s xs ys : List Row) → join s (xs ++ ys) ≡ join (join s xs) ys }
     ensures any_order { (s t : List Row) → join s (of_rows t) ≡ join s t }
+{}
+
+/// The orders can be tested row by row and value by value.
+#[tactic(auto, using(crate::proofs::TestLaws::tests))]
+pub fn orders_can_be_tested()
+    ensures states { (s t : List Row) → IsTrue (is_at_most s t) ↔ IsAtMost s t }
+    ensures values { (s t : List Val) → IsTrue (is_within s t) ↔ IsWithin s t }
 {}

@@ -1,0 +1,3 @@
+-- The laws by which the loops are proved.
+pub mod FoldLaws
+pub mod PutLaws

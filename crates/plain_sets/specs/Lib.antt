@@ -1,0 +1,3 @@
+-- Words of the programs and of their proofs.
+pub mod Place
+pub mod Rules
