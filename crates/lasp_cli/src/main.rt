@@ -17,9 +17,17 @@ fn words_of(rt: &HostRuntime) -> io::Result<Vec<String>> {
 }
 
 fn main(rt: HostRuntime) -> ExitCode {
-    let Ok(words) = words_of(&rt) else {
-        let _ = rt.stderr().write_all(b"out of memory\n");
-        return ExitCode::from(7);
+    let words = match words_of(&rt) {
+        Ok(words) => words,
+        Err(e) if e.kind() == io::ErrorKind::OutOfMemory => {
+            let _ = rt.stderr().write_all(b"out of memory\n");
+            return ExitCode::from(7);
+        }
+        // a word that isn't UTF-8 is of no listed form
+        Err(_) => {
+            let _ = rt.stderr().write_all(b"usage\n");
+            return ExitCode::from(1);
+        }
     };
     let mut files = DirFiles::new(&rt);
     let mut out = StdSink::new(rt.stdout());

@@ -6,7 +6,7 @@ ghost use Rattle.lasp_edge.specs.Faults.{Rose};
 ghost use Rattle.lasp_edge.specs.Told.{Appends};
 ghost use Rattle.model_readings.specs.Lawful.{IsScript};
 ghost use Rattle.model_world.specs.Report.{report_of};
-ghost use Rattle.model_program.specs.Plan.{word_at, told_answer};
+ghost use Rattle.model_program.specs.Plan.{word_at, told_answer, Comes};
 ghost use Rattle.model_program.specs.Follows.{view, Gives, Follows};
 ghost use Rattle.model_program.specs.Ends.{Ends, writing, NoFault};
 ghost use Rattle.model_program.specs.Line.{status_of};
@@ -59,6 +59,7 @@ fn report_of_run<N: Node>(
 /// `plain`: reads the graph and the script, and runs them.
 fn run_plain<F: Files>(alloc: Global, words: &[String], files: &mut F) -> Result<Vec<u8>, Failure>
     requires { 2 < length words.now }
+    ensures same { (name : List ℕ) → F.content files.new name ≡ F.content files.old name }
     ensures later { (name : List ℕ) → F.faults files.old name ≤ F.faults files.new name }
     ensures follows { Follows (words_of words.now) (view (F.content files.old) (F.faults files.old) (F.faults files.new)) (running report_of) (answered result) }
 {
@@ -99,6 +100,8 @@ fn run_script(alloc: Global, graph: Graph, script: &Script) -> Result<Vec<u8>, F
 
 /// What the program's words come to: a text to write, or why there is none.
 fn answer<F: Files>(alloc: Global, words: &[String], files: &mut F) -> Result<Vec<u8>, Failure>
+    ensures same { (name : List ℕ) → F.content files.new name ≡ F.content files.old name }
+    ensures unread { form (words_of words.now) ≡ Form.Wrong → files.new ≡ files.old }
     ensures later { (name : List ℕ) → F.faults files.old name ≤ F.faults files.new name }
     ensures follows { Follows (words_of words.now) (view (F.content files.old) (F.faults files.old) (F.faults files.new)) (plan (words_of words.now)) (answered result) }
 {
@@ -115,7 +118,10 @@ fn run_words<F: Files, O: Sink, E: Sink>(
     out: &mut O,
     err: &mut E,
 ) -> u8
-    ensures { (answer : Result (List ℕ) Failure)
+    ensures same { (name : List ℕ) → F.content files.new name ≡ F.content files.old name }
+    ensures later { (name : List ℕ) → F.faults files.old name ≤ F.faults files.new name }
+    ensures unread { form (words_of words.now) ≡ Form.Wrong → files.new ≡ files.old }
+    ensures ends { (answer : Result (List ℕ) Failure)
         × Follows (words_of words.now) (view (F.content files.old) (F.faults files.old) (F.faults files.new)) (plan (words_of words.now)) answer
         × Ends (words_of words.now) answer (writing (O.written out.old) (O.written out.new) (O.faults out.old) (O.faults out.new)) (writing (E.written err.old) (E.written err.new) (E.faults err.old) (E.faults err.new)) result }
 {
@@ -133,17 +139,22 @@ pub fn one_thread<F: Files, O: Sink, E: Sink>(
     out: &mut O,
     err: &mut E,
 ) -> u8
+    // contents stay, and counts of faults don't fall
+    ensures same { (name : List ℕ) → F.content files.new name ≡ F.content files.old name }
+    ensures later { (name : List ℕ) → F.faults files.old name ≤ F.faults files.new name }
     // some answer follows the plan of the words, and the call ends by it
     ensures ends { (answer : Result (List ℕ) Failure)
         × Follows (words_of words.now) (view (F.content files.old) (F.faults files.old) (F.faults files.new)) (plan (words_of words.now)) answer
         × Ends (words_of words.now) answer (writing (O.written out.old) (O.written out.new) (O.faults out.old) (O.faults out.new)) (writing (E.written err.old) (E.written err.new) (E.faults err.old) (E.faults err.new)) result }
     // a refusal that the contents decide has its status, unless memory was wanting or a read of one of the files failed
     ensures refused { (x : Refusal) → told_answer (F.content files.old) (words_of words.now) (plan (words_of words.now)) ≡ Some (Err x)
-        → (result ≡ status_of (Failure.Refused x)) ⊎ ((result ≡ 7) ⊎ ((f : ℕ) × (result ≡ 4) × (f < length (words_of words.now)) × Rose (F.faults files.old (word_at (words_of words.now) f)) (F.faults files.new (word_at (words_of words.now) f)))) }
+        → (result ≡ status_of (Failure.Refused x)) ⊎ ((result ≡ 7) ⊎ ((f : ℕ) × (result ≡ 4) × Comes (F.content files.old) (words_of words.now) (plan (words_of words.now)) f × Rose (F.faults files.old (word_at (words_of words.now) f)) (F.faults files.new (word_at (words_of words.now) f)))) }
     // a text that the contents decide is written whole with status 0, unless memory was wanting, where nothing failed
     ensures complete { (text : List ℕ) → told_answer (F.content files.old) (words_of words.now) (plan (words_of words.now)) ≡ Some (Ok text)
-        → NoFault (words_of words.now) (view (F.content files.old) (F.faults files.old) (F.faults files.new)) → ¬ Rose (O.faults out.old) (O.faults out.new)
+        → NoFault (words_of words.now) (view (F.content files.old) (F.faults files.old) (F.faults files.new)) (plan (words_of words.now)) → ¬ Rose (O.faults out.old) (O.faults out.new)
         → ((result ≡ 0) × Appends (O.written out.old) text (O.written out.new)) ⊎ (result ≡ 7) }
+    // words of no listed form: no file is read
+    ensures unread { form (words_of words.now) ≡ Form.Wrong → files.new ≡ files.old }
     // with another status than 0 and 5 nothing is written to `out`
     ensures quiet { result ≢ 0 → result ≢ 5 → O.written out.new ≡ O.written out.old }
 {

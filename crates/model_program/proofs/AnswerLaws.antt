@@ -4,7 +4,7 @@ use Rattle.std.specs.Prelude.{◌≡◌, ◌≢◌, ◌<◌, ◌⊎◌, ℕ, Lis
 use mathlib.Core.Logic.{inl, inr}
 use Rattle.lasp_edge.specs.Faults.{Rose}
 use Rattle.lasp_edge.specs.Told.{Sees, Appends}
-use Rattle.model_program.specs.Plan.{Answer, Plan, Says, Reads, word_at, told_answer}
+use Rattle.model_program.specs.Plan.{Answer, Plan, Says, Reads, Comes, word_at, told_answer}
 use Rattle.model_program.specs.Follows.{View, Fails, Gives, Follows}
 use Rattle.model_program.specs.Line.{status_of}
 use Rattle.model_program.specs.Ends.{Writing, Ends, Settles, NoFault}
@@ -15,30 +15,40 @@ use Rattle.model_program.specs.declared.failure.Failure.TheVariants.{Refused, Re
 some-same : {A : Type 0} (x y : A) → Some x ≡ Some y → x ≡ y
 some-same x y e = cc
 
-settles-says : (words : List (List ℕ)) (v : View) (answer a : Answer) (r : Result (List ℕ) Failure) → Gives (λ (t : List ℕ). t) answer r → answer ≡ a → Settles words v a r
+settles-says : (words : List (List ℕ)) (v : View) (answer a : Answer) (r : Result (List ℕ) Failure) → Gives (λ (t : List ℕ). t) answer r → answer ≡ a → Settles words v (Says answer) a r
 settles-says words v answer a (Ok text) h e = sym e ∙ h
 settles-says words v answer a (Err (Refused x)) h e = sym e ∙ h
 settles-says words v answer a (Err (ReadFault f)) h e = absurd h
 settles-says words v answer a (Err Memory) h e = tt
 
-settles-fails : (words : List (List ℕ)) (v : View) (f : ℕ) (a : Answer) (r : Result (List ℕ) Failure) → Fails words v f r → Settles words v a r
-settles-fails words v f a (Ok text) h = absurd h
-settles-fails words v f a (Err (Refused x)) h = absurd h
-settles-fails words v f a (Err (ReadFault e)) h =
-    subst (λ (n : ℕ). (n < length words) × Rose (v.before (word_at words n)) (v.after (word_at words n))) (sym h.0) (h.1, h.2)
-settles-fails words v f a (Err Memory) h = tt
+settles-fails : (words : List (List ℕ)) (v : View) (f : ℕ) (next : List ℕ → Plan) (a : Answer) (r : Result (List ℕ) Failure) → Fails words v f r → Settles words v (Reads f next) a r
+unfolding Comes
+settles-fails words v f next a (Ok text) h = absurd h
+settles-fails words v f next a (Err (Refused x)) h = absurd h
+settles-fails words v f next a (Err (ReadFault e)) h = (inl h.0, subst (λ (n : ℕ). Rose (v.before (word_at words n)) (v.after (word_at words n))) (sym h.0) h.2)
+settles-fails words v f next a (Err Memory) h = tt
 
-told-seen : (next : List ℕ → Option Answer) (told : Option (List ℕ)) (bytes : List ℕ) (a : Answer) → Sees told bytes → option_and_then next told ≡ Some a → next bytes ≡ Some a
+-- what settles the rest of a plan settles the whole
+settles-rest : (words : List (List ℕ)) (v : View) (f : ℕ) (next : List ℕ → Plan) (bytes : List ℕ) (a : Answer) (r : Result (List ℕ) Failure)
+    → v.content (word_at words f) ≡ Some bytes → Settles words v (next bytes) a r → Settles words v (Reads f next) a r
+unfolding Comes
+settles-rest words v f next bytes a (Ok text) told h = h
+settles-rest words v f next bytes a (Err (Refused x)) told h = h
+settles-rest words v f next bytes a (Err (ReadFault e)) told h = (inr (bytes, told, h.0), h.1)
+settles-rest words v f next bytes a (Err Memory) told h = tt
+
+told-seen : (next : List ℕ → Option Answer) (told : Option (List ℕ)) (bytes : List ℕ) (a : Answer) → Sees told bytes → option_and_then next told ≡ Some a → (told ≡ Some bytes) × (next bytes ≡ Some a)
 told-seen next None bytes a sees e = absurd cc
-told-seen next (Some content) bytes a sees e = ap next sees ∙ e
+told-seen next (Some content) bytes a sees e = (ap Some (sym sees), ap next sees ∙ e)
 
--- where the plan comes to an answer over what is told, the result is that answer, want of memory, or a fault of one of the files
-pub follows-told : (words : List (List ℕ)) (v : View) (p : Plan) (r : Result (List ℕ) Failure) (a : Answer) → Follows words v p r → told_answer v.content words p ≡ Some a → Settles words v a r
+-- where the plan comes to an answer over what is told, the result is that answer, want of memory, or a fault of a file to which the plan comes
+pub follows-told : (words : List (List ℕ)) (v : View) (p : Plan) (r : Result (List ℕ) Failure) (a : Answer) → Follows words v p r → told_answer v.content words p ≡ Some a → Settles words v p a r
 unfolding Follows told_answer
 follows-told words v (Says answer) r a h e = settles-says words v answer a r h (some-same answer a e)
-follows-told words v (Reads f next) r a (inl fails) e = settles-fails words v f a r fails
+follows-told words v (Reads f next) r a (inl fails) e = settles-fails words v f next a r fails
 follows-told words v (Reads f next) r a (inr (bytes, sees, rest)) e =
-    follows-told words v (next bytes) r a rest (told-seen (λ read. told_answer v.content words (next read)) (v.content (word_at words f)) bytes a sees e)
+    let seen = told-seen (λ read. told_answer v.content words (next read)) (v.content (word_at words f)) bytes a sees e in
+    settles-rest words v f next bytes a r seen.0 (follows-told words v (next bytes) r a rest seen.1)
 
 ok-same : (x y : List ℕ) → ◌≡◌ {A = Answer} (Ok x) (Ok y) → x ≡ y
 ok-same x y e = cc
@@ -47,26 +57,26 @@ err-same : (x y : Refusal) → ◌≡◌ {A = Answer} (Err x) (Err y) → x ≡ 
 err-same x y e = cc
 
 -- a refusal that the contents decide: its status, or that of want of memory or of a fault
-pub refused-ends : (words : List (List ℕ)) (v : View) (x : Refusal) (answer : Result (List ℕ) Failure) (out err : Writing) (status : ℕ)
-    → Settles words v (Err x) answer → Ends words answer out err status
-    → (status ≡ status_of (Refused x)) ⊎ ((status ≡ 7) ⊎ ((f : ℕ) × (status ≡ 4) × (f < length words) × Rose (v.before (word_at words f)) (v.after (word_at words f))))
+pub refused-ends : (words : List (List ℕ)) (v : View) (p : Plan) (x : Refusal) (answer : Result (List ℕ) Failure) (out err : Writing) (status : ℕ)
+    → Settles words v p (Err x) answer → Ends words answer out err status
+    → (status ≡ status_of (Refused x)) ⊎ ((status ≡ 7) ⊎ ((f : ℕ) × (status ≡ 4) × Comes v.content words p f × Rose (v.before (word_at words f)) (v.after (word_at words f))))
 unfolding Ends
-refused-ends words v x (Ok text) out err status settles ends = absurd cc
-refused-ends words v x (Err (Refused e)) out err status settles ends = inl (ends.0 ∙ ap (λ (y : Refusal). status_of (Refused y)) (sym (err-same x e settles)))
-refused-ends words v x (Err (ReadFault f)) out err status settles ends = inr (inr (f, ends.0, settles.0, settles.1))
-refused-ends words v x (Err Memory) out err status settles ends = inr (inl ends.0)
+refused-ends words v p x (Ok text) out err status settles ends = absurd cc
+refused-ends words v p x (Err (Refused e)) out err status settles ends = inl (ends.0 ∙ ap (λ (y : Refusal). status_of (Refused y)) (sym (err-same x e settles)))
+refused-ends words v p x (Err (ReadFault f)) out err status settles ends = inr (inr (f, ends.0, settles.0, settles.1))
+refused-ends words v p x (Err Memory) out err status settles ends = inr (inl ends.0)
 
 -- an answer that the contents decide: it was written whole with status 0, or memory was wanting, where nothing failed
-pub complete-ends : (words : List (List ℕ)) (v : View) (text : List ℕ) (answer : Result (List ℕ) Failure) (out err : Writing) (status : ℕ)
-    → NoFault words v → ¬ Rose out.faults_before out.faults_after → Settles words v (Ok text) answer → Ends words answer out err status
+pub complete-ends : (words : List (List ℕ)) (v : View) (p : Plan) (text : List ℕ) (answer : Result (List ℕ) Failure) (out err : Writing) (status : ℕ)
+    → NoFault words v p → ¬ Rose out.faults_before out.faults_after → Settles words v p (Ok text) answer → Ends words answer out err status
     → ((status ≡ 0) × Appends out.before text out.after) ⊎ (status ≡ 7)
 unfolding Ends
-complete-ends words v text (Ok written) out err status quiet sound settles (inl (zero_is, appends, same)) =
+complete-ends words v p text (Ok written) out err status quiet sound settles (inl (zero_is, appends, same)) =
     inl (zero_is, subst (λ (t : List ℕ). Appends out.before t out.after) (sym (ok-same text written settles)) appends)
-complete-ends words v text (Ok written) out err status quiet sound settles (inr (five, rose, part, line)) = absurd (sound rose)
-complete-ends words v text (Err (Refused e)) out err status quiet sound settles ends = absurd cc
-complete-ends words v text (Err (ReadFault f)) out err status quiet sound settles ends = absurd (quiet f settles.0 settles.1)
-complete-ends words v text (Err Memory) out err status quiet sound settles ends = inr ends.0
+complete-ends words v p text (Ok written) out err status quiet sound settles (inr (five, rose, part, line)) = absurd (sound rose)
+complete-ends words v p text (Err (Refused e)) out err status quiet sound settles ends = absurd cc
+complete-ends words v p text (Err (ReadFault f)) out err status quiet sound settles ends = absurd (quiet f settles.0 settles.1)
+complete-ends words v p text (Err Memory) out err status quiet sound settles ends = inr ends.0
 
 -- with another status than 0 and 5 nothing was written
 pub quiet-ends : (words : List (List ℕ)) (answer : Result (List ℕ) Failure) (out err : Writing) (status : ℕ) → status ≢ 0 → status ≢ 5 → Ends words answer out err status → out.after ≡ out.before

@@ -4,7 +4,7 @@ use Rattle.lasp_edge.specs.Faults.{Rose}
 use Rattle.lasp_edge.specs.Told.{Appends, AppendsPrefix}
 use Rattle.model_world.specs.Line.{line}
 use Rattle.model_program.specs.Line.{status_of, line_of}
-use Rattle.model_program.specs.Plan.{Answer, word_at}
+use Rattle.model_program.specs.Plan.{Answer, Plan, Comes, word_at}
 use Rattle.model_program.specs.Follows.{View}
 use Rattle.model_program.specs.declared.failure.Failure.{Failure}
 use Rattle.model_program.specs.declared.failure.Failure.TheVariants.{Refused, ReadFault, Memory}
@@ -32,12 +32,12 @@ Ends words (Ok text) out err status =
 Ends words (Err failure) out err status = (status ≡ status_of failure) × (out.after ≡ out.before) × Tells err (line_of words failure)
 
 -- what a result is where the plan comes to this answer: the answer, want of memory, or a fault of one of the files
-abbrev pub Settles : List (List ℕ) → View → Answer → Result (List ℕ) Failure → Type 0
-Settles words v answer (Ok text) = answer ≡ Ok text
-Settles words v answer (Err (Refused e)) = answer ≡ Err e
-Settles words v answer (Err (ReadFault f)) = (f < length words) × Rose (v.before (word_at words f)) (v.after (word_at words f))
-Settles words v answer (Err Memory) = Unit {0}
+abbrev pub Settles : List (List ℕ) → View → Plan → Answer → Result (List ℕ) Failure → Type 0
+Settles words v p answer (Ok text) = answer ≡ Ok text
+Settles words v p answer (Err (Refused e)) = answer ≡ Err e
+Settles words v p answer (Err (ReadFault f)) = Comes v.content words p f × Rose (v.before (word_at words f)) (v.after (word_at words f))
+Settles words v p answer (Err Memory) = Unit {0}
 
--- no count of the files that the words name rose
-abbrev pub NoFault : List (List ℕ) → View → Type 0
-NoFault words v = (f : ℕ) → f < length words → ¬ Rose (v.before (word_at words f)) (v.after (word_at words f))
+-- no count of a file to which the plan comes rose
+abbrev pub NoFault : List (List ℕ) → View → Plan → Type 0
+NoFault words v p = (f : ℕ) → Comes v.content words p f → ¬ Rose (v.before (word_at words f)) (v.after (word_at words f))

@@ -1,5 +1,5 @@
 -- A plan: an answer, or a file to read and how to go on with its bytes. The order of refusals is the nesting of a plan.
-use Rattle.std.specs.Prelude.{ℕ, List, length, if◌then◌else◌, nat_lt, Option, Some, option_and_then, Result, Ok, Err, slice_index_or, []}
+use Rattle.std.specs.Prelude.{◌≡◌, ◌⊎◌, ℕ, List, length, if◌then◌else◌, nat_lt, Option, Some, option_and_then, Result, Ok, Err, slice_index_or, []}
 use Rattle.model_program.specs.declared.refusal.Refusal.{Refusal}
 use Rattle.model_program.specs.declared.refusal.Refusal.TheVariants.{TooLong}
 
@@ -30,6 +30,11 @@ reading f next = Reads f (λ bytes. checked (λ e. e) (within f bytes) next)
 
 abbrev pub word_at : List (List ℕ) → ℕ → List ℕ
 word_at words f = slice_index_or words f []
+
+-- over these contents the plan comes to reading this file
+unfoldable pub Comes : (List ℕ → Option (List ℕ)) → List (List ℕ) → Plan → ℕ → Type 0
+Comes content words (Says answer) f = ⊥
+Comes content words (Reads e next) f = (f ≡ e) ⊎ ((bytes : List ℕ) × (content (word_at words e) ≡ Some bytes) × Comes content words (next bytes) f)
 
 -- what the plan comes to over these contents; None where it comes to a file of which nothing is told
 unfoldable pub told_answer : (List ℕ → Option (List ℕ)) → List (List ℕ) → Plan → Option Answer

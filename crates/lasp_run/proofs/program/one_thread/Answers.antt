@@ -9,16 +9,16 @@ use Rattle.lasp_run.proofs.program.one_thread.Goals as goal
 pub returns-clause-refused : goal.returns-clause-refused
 returns-clause-refused g c = λ x told.
     let v : View = view (g.F.Files.content c.args.files.now) (g.F.Files.faults c.args.files.now) (g.F.Files.faults c.run_words.new.files) in
-    refused-ends (words_of c.args.words.now) v x c.run_words.ensures.0 _ _ c.run_words.result (follows-told (words_of c.args.words.now) v (plan (words_of c.args.words.now)) c.run_words.ensures.0 (Err x) c.run_words.ensures.1 told) c.run_words.ensures.2
+    refused-ends (words_of c.args.words.now) v (plan (words_of c.args.words.now)) x c.run_words.ensures.ends.0 _ _ c.run_words.result (follows-told (words_of c.args.words.now) v (plan (words_of c.args.words.now)) c.run_words.ensures.ends.0 (Err x) c.run_words.ensures.ends.1 told) c.run_words.ensures.ends.2
 
 pub returns-clause-complete : goal.returns-clause-complete
 returns-clause-complete g c = λ text told quiet sound.
     let v : View = view (g.F.Files.content c.args.files.now) (g.F.Files.faults c.args.files.now) (g.F.Files.faults c.run_words.new.files) in
     let out : Writing = writing (g.O.Sink.written c.args.out.now) (g.O.Sink.written c.run_words.new.out) (g.O.Sink.faults c.args.out.now) (g.O.Sink.faults c.run_words.new.out) in
-    complete-ends (words_of c.args.words.now) v text c.run_words.ensures.0 out _ c.run_words.result quiet sound (follows-told (words_of c.args.words.now) v (plan (words_of c.args.words.now)) c.run_words.ensures.0 (Ok text) c.run_words.ensures.1 told) c.run_words.ensures.2
+    complete-ends (words_of c.args.words.now) v (plan (words_of c.args.words.now)) text c.run_words.ensures.ends.0 out _ c.run_words.result quiet sound (follows-told (words_of c.args.words.now) v (plan (words_of c.args.words.now)) c.run_words.ensures.ends.0 (Ok text) c.run_words.ensures.ends.1 told) c.run_words.ensures.ends.2
 
 pub returns-clause-quiet : goal.returns-clause-quiet
 returns-clause-quiet g c = λ not_done not_fault.
     let out : Writing = writing (g.O.Sink.written c.args.out.now) (g.O.Sink.written c.run_words.new.out) (g.O.Sink.faults c.args.out.now) (g.O.Sink.faults c.run_words.new.out) in
     let err : Writing = writing (g.E.Sink.written c.args.err.now) (g.E.Sink.written c.run_words.new.err) (g.E.Sink.faults c.args.err.now) (g.E.Sink.faults c.run_words.new.err) in
-    quiet-ends (words_of c.args.words.now) c.run_words.ensures.0 out err c.run_words.result not_done not_fault c.run_words.ensures.2
+    quiet-ends (words_of c.args.words.now) c.run_words.ensures.ends.0 out err c.run_words.result not_done not_fault c.run_words.ensures.ends.2
