@@ -1,0 +1,72 @@
+-- Which journals a replica may have.
+use Rattle.std.specs.Prelude.{◌≡◌, ◌≢◌, ℕ, ◌<◌, ◌≤◌, IsTrue, IsFalse, List, [], ◌∷◌, ◌++◌, length, take, map, filter}
+use Rattle.model_values.specs.Value.{Val}
+use Rattle.model_values.specs.Size.{IsOfWidth}
+use Rattle.model_states.specs.Content.{Content, size_of, row_limit}
+use Rattle.model_states.specs.Update.{Op, Add, Remove}
+use Rattle.model_graph.specs.Graph.{Kind, OrSet, Union, Decl, is_source, is_set, name_at, kind_at, decl_at}
+use Rattle.model_graph.specs.Evaluation.{content_at}
+use Rattle.model_journal.specs.Order.{IsOrdered}
+use Rattle.model_journal.specs.Entry.{Sent, Message, Act, Update, Deliver, Bind, Extend, Entry, Frame}
+use Rattle.model_journal.specs.Clean.{IsInput}
+use Rattle.model_journal.specs.Journal.{Journal, Snapshot, snapshot_at, count_at, next, run, start}
+
+-- the most variables, and the most updates of one replica
+abbrev pub variable_limit : ℕ
+variable_limit = 64
+
+abbrev pub count_limit : ℕ
+count_limit = 100000
+
+-- the declaration may follow these: its name is new, its inputs are earlier sets, and there is room
+pub record MayFollow (g : List Decl) (d : Decl) : Type 0 where
+  pub new : (x : ℕ) → x < length g → name_at g x ≢ d.name
+  pub earlier : (x : ℕ) → IsInput d.kind x → x < length g
+  pub sets : (x : ℕ) → IsInput d.kind x → IsTrue (is_set (kind_at g x))
+  pub room : length g < variable_limit
+
+-- each declaration may follow those before it
+abbrev pub IsGraph : List Decl → Type 0
+IsGraph g = (y : ℕ) → y < length g → MayFollow (take y g) (decl_at g y)
+
+-- the operation is one of the kind
+abbrev pub IsOpOf : Kind → Op → Type 0
+IsOpOf OrSet op = Unit {0}
+IsOpOf (Union x y) op = ⊥
+
+-- a value in the operation is of width 1
+abbrev pub IsSmallOp : Op → Type 0
+IsSmallOp (Add v) = IsOfWidth 1 v
+IsSmallOp (Remove v) = IsOfWidth 1 v
+
+-- the sources among some declarations, in their order
+abbrev pub sources_among : List Decl → List Decl
+sources_among g = filter (λ d. is_source d.kind) g
+
+-- the variable is declared and derived
+pub record IsDerived (g : List Decl) (y : ℕ) : Type 0 where
+  pub declared : y < length g
+  pub process : IsFalse (is_source (kind_at g y))
+
+-- what an entry may do after a journal
+abbrev pub IsLawful : Frame → Journal → Act → Type 0
+IsLawful X j (Update x op) = (x < length j.now.graph) × IsOpOf (kind_at j.now.graph x) op × IsSmallOp op
+IsLawful X j (Deliver m) = (length m.counts ≡ X.nodes) × ((more : List Decl) × (map (λ s. s.decl) m.sources ++ more ≡ sources_among j.now.graph))
+IsLawful X j (Bind y n) = (n ≤ length j.past) × IsDerived (snapshot_at j n).graph y
+IsLawful X j (Extend d) = MayFollow j.now.graph d
+
+-- no content and no count is past its limit
+pub record IsWithinLimits (s : Snapshot) : Type 0 where
+  pub contents : (x : ℕ) → size_of (content_at s.contents x) ≤ row_limit
+  pub counts : (q : ℕ) → count_at s.counts q ≤ count_limit
+
+-- each entry in turn is lawful, and what stands after it is within the limits
+abbrev pub IsLegalFrom : Frame → Journal → List Entry → Type 0
+IsLegalFrom X j [] = Unit {0}
+IsLegalFrom X j (e ∷ entries) = IsLawful X j e.act × IsWithinLimits (next X j e).now × IsLegalFrom X (next X j e) entries
+
+-- the opening graph is a graph, the replica is one of the nodes, and the entries are legal one after the other
+pub record IsLegal (X : Frame) (entries : List Entry) : Type 0 where
+  pub opening : IsGraph X.opening
+  pub member : X.replica < X.nodes
+  pub in_turn : IsLegalFrom X (start X) entries

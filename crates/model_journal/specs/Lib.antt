@@ -1,0 +1,5 @@
+pub mod Order
+pub mod Entry
+pub mod Journal
+pub mod Clean
+pub mod Legal
