@@ -1,7 +1,7 @@
 -- When a derived variable has taken in the present contents of its inputs.
 use Rattle.std.specs.Prelude.{◌≡◌, ℕ, max, ◌⊎◌, if◌then◌else◌, ◌==◌, List, [], ◌∷◌}
 use Rattle.model_graph.specs.Graph.{Kind, OrSet, Union, kind_at}
-use Rattle.model_journal.specs.Entry.{Entry, Frame}
+use Rattle.model_journal.specs.Entry.{Bind, Entry, Frame}
 use Rattle.model_journal.specs.Journal.{Journal, snapshot_at, journal, graph}
 
 -- x is an input of a variable of this kind
@@ -32,3 +32,8 @@ greatest_bound (b ∷ binds) y = if b.0 == y then max b.1 (greatest_bound binds 
 
 abbrev pub base : Frame → List Entry → ℕ → ℕ
 base X entries y = greatest_bound (journal X entries).binds y
+
+-- the entries have a bind of y that read the contents after the first n entries
+abbrev pub HasBind : List Entry → ℕ → ℕ → Type 0
+HasBind [] y n = ⊥
+HasBind (e ∷ entries) y n = (e.act ≡ Bind y n) ⊎ HasBind entries y n

@@ -1,11 +1,11 @@
 -- What a list of entries comes to: a machine that takes one entry after the other and keeps what stood before each.
 use Rattle.std.specs.Prelude.{ℕ, zero, suc, ◌+◌, max, if◌then◌else◌, ◌==◌, List, [], ◌∷◌, ◌++◌, length, Option, Some, None, slice_index_or, slice_set, replicate}
 use Rattle.model_states.specs.Content.{Content, least, join_contents}
-use Rattle.model_states.specs.Update.{Op, delta}
-use Rattle.model_graph.specs.Graph.{Kind, Decl, kind_at, is_source}
+use Rattle.model_states.specs.Update.{delta}
+use Rattle.model_graph.specs.Graph.{Decl, kind_at, is_source}
 use Rattle.model_graph.specs.Evaluation.{content_at, equation}
 use Rattle.model_journal.specs.Order.{is_content_at_most}
-use Rattle.model_journal.specs.Entry.{Sent, Message, Act, Update, Deliver, Bind, Extend, Entry, Frame}
+use Rattle.model_journal.specs.Entry.{Sent, Act, Update, Deliver, Bind, Extend, Entry, Frame}
 
 -- what stands after some entries: the graph, the content of each variable, the counts, and how often each variable grew
 pub record Snapshot : Type 0 where

@@ -1,15 +1,13 @@
 -- Which journals a replica may have.
 use Rattle.std.specs.Prelude.{◌≡◌, ◌≢◌, ℕ, ◌<◌, ◌≤◌, IsTrue, IsFalse, List, [], ◌∷◌, ◌++◌, length, take, map, filter}
-use Rattle.model_values.specs.Value.{Val}
 use Rattle.model_values.specs.Size.{IsOfWidth}
-use Rattle.model_states.specs.Content.{Content, size_of, row_limit}
+use Rattle.model_states.specs.Content.{size_of, row_limit}
 use Rattle.model_states.specs.Update.{Op, Add, Remove}
 use Rattle.model_graph.specs.Graph.{Kind, OrSet, Union, Decl, is_source, is_set, name_at, kind_at, decl_at}
 use Rattle.model_graph.specs.Evaluation.{content_at}
-use Rattle.model_journal.specs.Order.{IsOrdered}
-use Rattle.model_journal.specs.Entry.{Sent, Message, Act, Update, Deliver, Bind, Extend, Entry, Frame}
+use Rattle.model_journal.specs.Entry.{Act, Update, Deliver, Bind, Extend, Entry, Frame}
 use Rattle.model_journal.specs.Clean.{IsInput}
-use Rattle.model_journal.specs.Journal.{Journal, Snapshot, snapshot_at, count_at, next, run, start}
+use Rattle.model_journal.specs.Journal.{Journal, Snapshot, snapshot_at, count_at, next, start}
 
 -- the most variables, and the most updates of one replica
 abbrev pub variable_limit : ℕ
