@@ -82,7 +82,7 @@ versions-grow X h k = (journal-later X h k).counted
 
 -- ---- clean
 
-max-version : (j : Journal) → IsGood j → (m n x : ℕ) → max ((snapshot_at j m).versions x) ((snapshot_at j n).versions x) ≡ (snapshot_at j (max m n)).versions x
+pub max-version : (j : Journal) → IsGood j → (m n x : ℕ) → max ((snapshot_at j m).versions x) ((snapshot_at j n).versions x) ≡ (snapshot_at j (max m n)).versions x
 max-version j good m n x = choose (below-or-not m n) where
   choose : (m < n) ⊎ (n ≤ m) → max ((snapshot_at j m).versions x) ((snapshot_at j n).versions x) ≡ (snapshot_at j (max m n)).versions x
   choose (inl h) =
@@ -96,7 +96,7 @@ max-version j good m n x = choose (below-or-not m n) where
       let left : max ((snapshot_at j m).versions x) ((snapshot_at j n).versions x) ≡ (snapshot_at j m).versions x = omega (arith, up) in
       left ∙ ap (λ (i : ℕ). (snapshot_at j i).versions x) top
 
-read-is : (j : Journal) → IsGood j → (binds : List (ℕ × ℕ)) (y x : ℕ) → greatest_read j binds y x ≡ (snapshot_at j (greatest_bound binds y)).versions x
+pub read-is : (j : Journal) → IsGood j → (binds : List (ℕ × ℕ)) (y x : ℕ) → greatest_read j binds y x ≡ (snapshot_at j (greatest_bound binds y)).versions x
 read-is j good [] y x = sym (good.uncounted x)
 read-is j good (b ∷ binds) y x =
     elim (b.0 == y) as (λ c. (if c then max ((snapshot_at j b.1).versions x) (greatest_read j binds y x) else greatest_read j binds y x) ≡ (snapshot_at j (if c then max b.1 (greatest_bound binds y) else greatest_bound binds y)).versions x) [
@@ -105,14 +105,14 @@ read-is j good (b ∷ binds) y x =
     ]
 
 -- an input whose version was applied is as it was at the base, and the other way round
-applied-same : (j : Journal) → IsGood j → (y x : ℕ) → greatest_read j j.binds y x ≡ j.now.versions x → content_at (snapshot_at j (greatest_bound j.binds y)).contents x ≡ content_at j.now.contents x
+pub applied-same : (j : Journal) → IsGood j → (y x : ℕ) → greatest_read j j.binds y x ≡ j.now.versions x → content_at (snapshot_at j (greatest_bound j.binds y)).contents x ≡ content_at j.now.contents x
 applied-same j good y x e =
     let n = greatest_bound j.binds y in
     let later = to-now j good n in
     same-content (content_at (snapshot_at j n).contents x) (content_at j.now.contents x) (good.tidy n x) (now-tidy j good x) (later.grown x)
     (later.same x (sym (read-is j good j.binds y x) ∙ e))
 
-same-applied : (j : Journal) → IsGood j → (y x : ℕ) → content_at (snapshot_at j (greatest_bound j.binds y)).contents x ≡ content_at j.now.contents x → greatest_read j j.binds y x ≡ j.now.versions x
+pub same-applied : (j : Journal) → IsGood j → (y x : ℕ) → content_at (snapshot_at j (greatest_bound j.binds y)).contents x ≡ content_at j.now.contents x → greatest_read j j.binds y x ≡ j.now.versions x
 same-applied j good y x same = read-is j good j.binds y x ∙ choose (below-or-not ((snapshot_at j (greatest_bound j.binds y)).versions x) (j.now.versions x)) where
   old : Snapshot
   old = snapshot_at j (greatest_bound j.binds y)

@@ -91,7 +91,7 @@ settled-at g env ss edges settled (suc n) x low h = choose (λ z i. let earlier 
   choose inputs false e = settled.derived x h e
       ∙ equation-alike (kind_at g x) env (eval g ss) inputs
 
-same-lists : (ss ts : List Content) → length ss ≡ length ts → ((x : ℕ) → x < length ss → content_at ss x ≡ content_at ts x) → ss ≡ ts
+pub same-lists : (ss ts : List Content) → length ss ≡ length ts → ((x : ℕ) → x < length ss → content_at ss x ≡ content_at ts x) → ss ≡ ts
 same-lists [] [] e same = refl
 same-lists [] (t ∷ ts) e same = absurd (omega (arith, e))
 same-lists (s ∷ ss) [] e same = absurd (omega (arith, e))

@@ -5,3 +5,5 @@ pub mod StepLaws
 pub mod GoodLaws
 pub mod JournalLaws
 pub mod CleanLaws
+pub mod WordLaws
+pub mod EntryLaws

@@ -13,7 +13,7 @@ pub gained-length : (gains : ℕ → Option Content) (n : ℕ) (ss : List Conten
 gained-length gains n [] = refl
 gained-length gains n (s ∷ ss) = omega (arith, gained-length gains (n + 1) ss)
 
-gained-at : (gains : ℕ → Option Content) (n : ℕ) (ss : List Content) (x : ℕ) → x < length ss → content_at (gained gains n ss) x ≡ with_gain (content_at ss x) (gains (n + x))
+pub gained-at : (gains : ℕ → Option Content) (n : ℕ) (ss : List Content) (x : ℕ) → x < length ss → content_at (gained gains n ss) x ≡ with_gain (content_at ss x) (gains (n + x))
 gained-at gains n [] x h = absurd (omega (arith, h))
 gained-at gains n (s ∷ ss) zero h = let here : n ≡ n + 0 = omega arith in ap (λ (i : ℕ). with_gain s (gains i)) here
 gained-at gains n (s ∷ ss) (suc x) h =

@@ -1,8 +1,9 @@
 -- When a derived variable has taken in the present contents of its inputs.
-use Rattle.std.specs.Prelude.{◌≡◌, ℕ, max, ◌⊎◌, if◌then◌else◌, ◌==◌, List, [], ◌∷◌}
+use Rattle.std.specs.Prelude.{◌≡◌, ℕ, max, ◌⊎◌, if◌then◌else◌, ◌==◌, List, [], ◌∷◌, take}
+use Rattle.model_states.specs.Content.{least}
 use Rattle.model_graph.specs.Graph.{Kind, OrSet, Union, kind_at}
 use Rattle.model_journal.specs.Entry.{Bind, Entry, Frame}
-use Rattle.model_journal.specs.Journal.{Journal, snapshot_at, journal, graph}
+use Rattle.model_journal.specs.Journal.{Journal, snapshot_at, journal, graph, val}
 
 -- x is an input of a variable of this kind
 abbrev pub IsInput : Kind → ℕ → Type 0
@@ -37,3 +38,11 @@ base X entries y = greatest_bound (journal X entries).binds y
 abbrev pub HasBind : List Entry → ℕ → ℕ → Type 0
 HasBind [] y n = ⊥
 HasBind (e ∷ entries) y n = (e.act ≡ Bind y n) ⊎ HasBind entries y n
+
+-- a bind of y read the inputs as they are
+abbrev pub HasReadPresent : Frame → List Entry → ℕ → Type 0
+HasReadPresent X entries y = (n : ℕ) × HasBind entries y n × ((x : ℕ) → IsInput (kind_at (graph X entries) y) x → val X (take n entries) x ≡ val X entries x)
+
+-- every input of y is least
+abbrev pub AreInputsLeast : Frame → List Entry → ℕ → Type 0
+AreInputsLeast X entries y = (x : ℕ) → IsInput (kind_at (graph X entries) y) x → val X entries x ≡ least

@@ -142,3 +142,14 @@ sources_from (d ∷ g) (s ∷ contents) = (if is_source d.kind then s else least
 
 abbrev pub sources : Frame → List Entry → List Content
 sources X entries = sources_from (graph X entries) (vals X entries)
+
+-- what entries declare, in order
+abbrev pub declared_by : Act → List Decl
+declared_by (Update y op) = []
+declared_by (Deliver m) = []
+declared_by (Bind y n) = []
+declared_by (Extend d) = d ∷ []
+
+abbrev pub declared : List Entry → List Decl
+declared [] = []
+declared (e ∷ entries) = declared_by e.act ++ declared entries

@@ -3,8 +3,17 @@
 
 mod clean;
 mod derived;
+mod entries;
 mod prefixes;
 
-pub use clean::clean_variables_equal_their_equations;
+pub use clean::{
+    applied_versions_are_the_greatest_read, clean_variables_equal_their_equations,
+    clean_variables_have_read_their_inputs,
+};
 pub use derived::derived_contents_stay_below_evaluation;
+pub use entries::{
+    a_bind_changes_its_variable, a_declaration_adds_a_variable, a_delivery_changes_sources,
+    an_update_changes_its_variable, legal_entries_go_one_by_one,
+    versions_count_where_a_variable_grew,
+};
 pub use prefixes::journals_only_grow;
