@@ -13,7 +13,7 @@ use Rattle.model_journal.proofs.PlaceLaws.{at-past, below-or-not}
 use Rattle.model_journal.proofs.ContentLaws.{at_most-least, at_most-same, same-content, equation-monotone, equation-alike}
 use Rattle.model_journal.proofs.EvalLaws.{below-eval, settled-eval}
 use Rattle.model_journal.proofs.GoodLaws.{IsGood, to-now, now-tidy}
-use Rattle.model_journal.proofs.JournalLaws.{journal-past, journal-prefix, journal-push, journal-good, journal-later, vals-grow}
+use Rattle.model_journal.proofs.JournalLaws.{journal-past, journal-prefix, journal-push, journal-good, journal-later, vals-grow, counts-length}
 
 -- ---- what stood after the first n entries
 
@@ -65,7 +65,7 @@ pub val-below-eval : (X : Frame) (h : List Entry) → IsLegal X h → (y : ℕ) 
 val-below-eval X h legal y low =
     let good = journal-good X h legal in
     below-eval (graph X h) (vals X h) (sources X h) good.earlier
-    (record { source = λ x small e. sources-at (graph X h) (vals X h) x small good.shape e; derived = λ x small e. val-bounded X h legal x (record { declared = small; process = e }) }) y low
+    (record { source = λ x small e. at_most-same (val X h x) (content_at (sources X h) x) (sources-at (graph X h) (vals X h) x small good.shape e); derived = λ x small e. val-bounded X h legal x (record { declared = small; process = e }) }) y low
 
 -- so all contents are at most what evaluation gives
 pub vals-below-eval : (X : Frame) (h : List Entry) → IsLegal X h → ContentsAtMost (vals X h) (eval (graph X h) (sources X h))
@@ -136,7 +136,7 @@ all-clean X h legal clean =
       derived = λ x small e. (let d : IsDerived (graph X h) x = record { declared = small; process = e } in clean-equal X h legal x d (clean x d));
     }) good.shape
 
-pub ruleset prefixes = (snapshot-take, journal-past, journal-push, vals-grow, versions-grow)
+pub ruleset prefixes = (snapshot-take, journal-past, journal-push, vals-grow, versions-grow, counts-length)
 
 pub ruleset derived = (val-based, val-bounded, vals-below-eval, vals-length)
 

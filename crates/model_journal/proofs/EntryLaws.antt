@@ -10,7 +10,7 @@ use Rattle.model_journal.specs.Order.{IsContentAtMost, is_content_at_most}
 use Rattle.model_journal.specs.Entry.{Message, Act, Update, Deliver, Bind, Extend, Entry, Frame}
 use Rattle.model_journal.specs.Journal.{Snapshot, Journal, snapshot_at, count_at, sent_at, source_number, gain, with_gain, gained, graph_after, greater_counts, version_after, snapshot_after, binds_after, next, run, start, journal, graph, vals, val, counts, declared_by, declared}
 use Rattle.model_journal.specs.Clean.{version, applied, greatest_bound, base}
-use Rattle.model_journal.specs.Legal.{IsDerived, IsLawful, IsWithinLimits, IsLegalFrom, IsLegal}
+use Rattle.model_journal.specs.Legal.{IsDerived, IsLawful, IsValidSnapshot, IsLegalFrom, IsLegal}
 use Rattle.model_journal.proofs.PlaceLaws.{at-kept, equal-numbers}
 use Rattle.model_journal.proofs.ContentLaws.{test-from-at_most, at_most-from-test}
 use Rattle.model_journal.proofs.EvalLaws.{same-lists}
@@ -134,14 +134,14 @@ legal-first X h k legal = record { opening = legal.opening; member = legal.membe
 pub legal-last : (X : Frame) (h : List Entry) (e : Entry) → IsLegal X (h ++ e ∷ []) → IsLawful X (journal X h) e.act
 legal-last X h e legal = (legal-from-parts X (start X) h (e ∷ []) legal.in_turn).1.0
 
-pub legal-limits : (X : Frame) (h : List Entry) (e : Entry) → IsLegal X (h ++ e ∷ []) → IsWithinLimits (journal X (h ++ e ∷ [])).now
-legal-limits X h e legal = subst (λ (j : Journal). IsWithinLimits j.now) (sym (journal-push X h e)) (legal-from-parts X (start X) h (e ∷ []) legal.in_turn).1.1
+pub legal-valid : (X : Frame) (h : List Entry) (e : Entry) → IsLegal X (h ++ e ∷ []) → IsValidSnapshot X.nodes (journal X (h ++ e ∷ [])).now
+legal-valid X h e legal = subst (λ (j : Journal). IsValidSnapshot X.nodes j.now) (sym (journal-push X h e)) (legal-from-parts X (start X) h (e ∷ []) legal.in_turn).1.1
 
-pub legal-push : (X : Frame) (h : List Entry) (e : Entry) → IsLegal X h → IsLawful X (journal X h) e.act → IsWithinLimits (journal X (h ++ e ∷ [])).now → IsLegal X (h ++ e ∷ [])
+pub legal-push : (X : Frame) (h : List Entry) (e : Entry) → IsLegal X h → IsLawful X (journal X h) e.act → IsValidSnapshot X.nodes (journal X (h ++ e ∷ [])).now → IsLegal X (h ++ e ∷ [])
 legal-push X h e legal lawful small = record {
   opening = legal.opening;
   member = legal.member;
-  in_turn = legal-from-both X (start X) h (e ∷ []) legal.in_turn (lawful, subst (λ (j : Journal). IsWithinLimits j.now) (journal-push X h e) small, tt);
+  in_turn = legal-from-both X (start X) h (e ∷ []) legal.in_turn (lawful, subst (λ (j : Journal). IsValidSnapshot X.nodes j.now) (journal-push X h e) small, tt);
 }
 
 -- ---- applied versions
@@ -197,4 +197,4 @@ pub ruleset declarations = (extend-vals, extend-counts, graph-is)
 
 pub ruleset versions = (version-start, version-still, version-up)
 
-pub ruleset legal = (legal-first, legal-last, legal-limits, legal-push)
+pub ruleset legal = (legal-first, legal-last, legal-valid, legal-push)

@@ -6,7 +6,7 @@ use Rattle.model_graph.specs.Evaluation.{content_at, equation, evaluated, eval_f
 use Rattle.model_journal.specs.Order.{IsContentAtMost}
 use Rattle.model_journal.specs.Clean.{IsInput}
 use Rattle.model_journal.proofs.PlaceLaws.{at-append, at-last, length-append}
-use Rattle.model_journal.proofs.ContentLaws.{at_most-chain, at_most-same, equation-monotone, equation-alike}
+use Rattle.model_journal.proofs.ContentLaws.{at_most-chain, equation-monotone, equation-alike}
 
 pub eval_from-length : (g : List Decl) (done ss : List Content) → length (eval_from g done ss) ≡ length done + length g
 eval_from-length [] done ss = omega arith
@@ -54,15 +54,15 @@ HasEarlierInputs g = (y x : ℕ) → IsInput (kind_at g y) x → x < y
 pub eval-length : (g : List Decl) (ss : List Content) → length (eval g ss) ≡ length g
 eval-length g ss = omega (arith, eval_from-length g [] ss)
 
-eval-at : (g : List Decl) (ss : List Content) → HasEarlierInputs g → (x : ℕ) → x < length g → content_at (eval g ss) x ≡ value_in (kind_at g x) (eval g ss) ss x
+pub eval-at : (g : List Decl) (ss : List Content) → HasEarlierInputs g → (x : ℕ) → x < length g → content_at (eval g ss) x ≡ value_in (kind_at g x) (eval g ss) ss x
 eval-at g ss edges x h =
     let here : 0 + x ≡ x = omega arith in
     subst (λ (n : ℕ). content_at (eval g ss) n ≡ value_in (kind_at g x) (eval g ss) ss n) here
     (eval_from-at g [] ss x h (λ i small z input. let low = edges i z input in omega (arith, low)))
 
--- a source is what is given, a derived variable is at most its equation
+-- a source is at most what is given, a derived variable is at most its equation
 pub record IsBelow (g : List Decl) (env ss : List Content) : Type 0 where
-  pub source : (x : ℕ) → x < length g → is_source (kind_at g x) ≡ true → content_at env x ≡ content_at ss x
+  pub source : (x : ℕ) → x < length g → is_source (kind_at g x) ≡ true → IsContentAtMost (content_at env x) (content_at ss x)
   pub derived : (x : ℕ) → x < length g → is_source (kind_at g x) ≡ false → IsContentAtMost (content_at env x) (equation (kind_at g x) env)
 
 below-at : (g : List Decl) (env ss : List Content) → HasEarlierInputs g → IsBelow g env ss → (n x : ℕ) → x < n → x < length g → IsContentAtMost (content_at env x) (content_at (eval g ss) x)
@@ -70,7 +70,7 @@ below-at g env ss edges below zero x low h = absurd (omega (arith, low))
 below-at g env ss edges below (suc n) x low h =
     subst (λ (s : Content). IsContentAtMost (content_at env x) s) (sym (eval-at g ss edges x h)) (choose (λ z i. let earlier = edges x z i in below-at g env ss edges below n z (omega (arith, earlier, low)) (omega (arith, earlier, h))) (is_source (kind_at g x)) refl) where
       choose : ((z : ℕ) → IsInput (kind_at g x) z → IsContentAtMost (content_at env z) (content_at (eval g ss) z)) → (b : Bool) → is_source (kind_at g x) ≡ b → IsContentAtMost (content_at env x) (if b then content_at ss x else equation (kind_at g x) (eval g ss))
-      choose inputs true e = at_most-same (content_at env x) (content_at ss x) (below.source x h e)
+      choose inputs true e = below.source x h e
       choose inputs false e = at_most-chain (content_at env x) (equation (kind_at g x) env) (equation (kind_at g x) (eval g ss)) (below.derived x h e)
           (equation-monotone (kind_at g x) env (eval g ss) inputs)
 

@@ -1,8 +1,9 @@
 -- The laws of journals, each from what holds of every journal that legal entries lead to.
-use Rattle.std.proofs.Common.{◌≡◌, ℕ, ◌+◌, ◌≤◌, List, [], ◌∷◌, ◌++◌, length, refl, sym, ap, subst, ◌∙◌, arith}
+use Rattle.std.proofs.Common.{◌≡◌, ℕ, ◌+◌, ◌≤◌, List, [], ◌∷◌, ◌++◌, length, refl, sym, ap, subst, ◌∙◌, arith, zero, suc, replicate}
+use Rattle.std.proofs.lemmas.List.{length-set}
 use Rattle.model_journal.specs.Order.{ContentsAtMost}
-use Rattle.model_journal.specs.Entry.{Entry, Frame}
-use Rattle.model_journal.specs.Journal.{Journal, snapshot_at, snapshot_after, next, run, start, journal, vals}
+use Rattle.model_journal.specs.Entry.{Act, Update, Deliver, Bind, Extend, Entry, Frame}
+use Rattle.model_journal.specs.Journal.{Journal, snapshot_at, snapshot_after, next, run, start, journal, vals, count_at, counts_after, greater_counts, counts}
 use Rattle.model_journal.specs.Legal.{IsLegalFrom, IsLegal}
 use Rattle.model_journal.proofs.PlaceLaws.{at-past, at-kept, length-append}
 use Rattle.model_journal.proofs.StepLaws.{IsLater, later-itself, later-chain, step-later}
@@ -53,3 +54,27 @@ journal-later X h k = subst (λ (j : Journal). IsLater (journal X h).now j.now) 
 
 pub vals-grow : (X : Frame) (h k : List Entry) → ContentsAtMost (vals X h) (vals X (h ++ k))
 vals-grow X h k = (journal-later X h k).grown
+
+-- ---- counts
+
+greater-length : (cs ds : List ℕ) → length (greater_counts cs ds) ≡ length cs
+greater-length [] ds = refl
+greater-length (c ∷ cs) [] = refl
+greater-length (c ∷ cs) (d ∷ ds) = omega (arith, greater-length cs ds)
+
+after-length : (X : Frame) (cs : List ℕ) (act : Act) → length (counts_after X cs act) ≡ length cs
+after-length X cs (Update y op) = length-set cs X.replica (count_at cs X.replica + 1)
+after-length X cs (Deliver m) = greater-length cs m.counts
+after-length X cs (Bind y n) = refl
+after-length X cs (Extend d) = refl
+
+run-length : (X : Frame) (j : Journal) (h : List Entry) → length (run X j h).now.counts ≡ length j.now.counts
+run-length X j [] = refl
+run-length X j (e ∷ h) = run-length X (next X j e) h ∙ after-length X j.now.counts e.act
+
+zeros-length : (n : ℕ) → length {A = ℕ} (replicate n 0) ≡ n
+zeros-length zero = refl
+zeros-length (suc n) = omega (arith, zeros-length n)
+
+pub counts-length : (X : Frame) (h : List Entry) → length (counts X h) ≡ X.nodes
+counts-length X h = run-length X (start X) h ∙ zeros-length X.nodes

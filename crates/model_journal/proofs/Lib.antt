@@ -7,3 +7,4 @@ pub mod JournalLaws
 pub mod CleanLaws
 pub mod WordLaws
 pub mod EntryLaws
+pub mod EvaluationLaws

@@ -9,7 +9,7 @@ ghost use Rattle.model_journal.specs.Order.{IsContentAtMost};
 ghost use Rattle.model_journal.specs.Entry.{Message, Update, Deliver, Bind, Extend, Entry, Frame};
 ghost use Rattle.model_journal.specs.Journal.{journal, graph, vals, val, counts, count_at, greater_counts, sent_at, source_number, declared};
 ghost use Rattle.model_journal.specs.Clean.{version, applied};
-ghost use Rattle.model_journal.specs.Legal.{IsDerived, IsLawful, IsWithinLimits, IsLegal};
+ghost use Rattle.model_journal.specs.Legal.{IsDerived, IsLawful, IsValidSnapshot, IsLegal};
 
 /// An update joins its delta into the variable that it names, and is counted at its replica.
 #[tactic(auto, using(crate::proofs::EntryLaws::updates))]
@@ -54,11 +54,11 @@ pub fn versions_count_where_a_variable_grew()
     ensures grew { (X : Frame) (entries : List Entry) (e : Entry) (x : ℕ) → (IsContentAtMost (val X (entries ++ e ∷ []) x) (val X entries x) → ⊥) → version X (entries ++ e ∷ []) x ≡ version X entries x + 1 }
 {}
 
-/// The first entries of a legal list are legal, and legal entries may be followed by a lawful one that keeps the limits.
+/// The first entries of a legal list are legal, and legal entries may be followed by a lawful one that leaves everything valid.
 #[tactic(auto, using(crate::proofs::EntryLaws::legal))]
 pub fn legal_entries_go_one_by_one()
     ensures first { (X : Frame) (entries more : List Entry) → IsLegal X (entries ++ more) → IsLegal X entries }
     ensures last { (X : Frame) (entries : List Entry) (e : Entry) → IsLegal X (entries ++ e ∷ []) → IsLawful X (journal X entries) e.act }
-    ensures limits { (X : Frame) (entries : List Entry) (e : Entry) → IsLegal X (entries ++ e ∷ []) → IsWithinLimits (journal X (entries ++ e ∷ [])).now }
-    ensures push { (X : Frame) (entries : List Entry) (e : Entry) → IsLegal X entries → IsLawful X (journal X entries) e.act → IsWithinLimits (journal X (entries ++ e ∷ [])).now → IsLegal X (entries ++ e ∷ []) }
+    ensures valid { (X : Frame) (entries : List Entry) (e : Entry) → IsLegal X (entries ++ e ∷ []) → IsValidSnapshot X.nodes (journal X (entries ++ e ∷ [])).now }
+    ensures push { (X : Frame) (entries : List Entry) (e : Entry) → IsLegal X entries → IsLawful X (journal X entries) e.act → IsValidSnapshot X.nodes (journal X (entries ++ e ∷ [])).now → IsLegal X (entries ++ e ∷ []) }
 {}

@@ -4,6 +4,7 @@
 mod clean;
 mod derived;
 mod entries;
+mod evaluation;
 mod prefixes;
 
 pub use clean::{
@@ -16,4 +17,5 @@ pub use entries::{
     an_update_changes_its_variable, legal_entries_go_one_by_one,
     versions_count_where_a_variable_grew,
 };
+pub use evaluation::{evaluation_is_monotone, evaluation_solves_the_equations};
 pub use prefixes::journals_only_grow;
