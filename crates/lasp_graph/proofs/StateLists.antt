@@ -20,7 +20,7 @@ pub join-at-ok : {E Z : Type 0} (r : Result (Unit {0}) E) (states : List (Arc St
 join-at-ok {Z = Z} (Ok done) states i old new delta within found h =
     map-set (λ (s : Arc State Z). held s) states i new
     ∙ ap (λ (c : Content). slice_set (map (λ (s : Arc State Z). held s) states) i c)
-        (h ∙ ap (λ (c : Content). join_contents c delta) (ap (λ (s : Arc State Z). held s) found ∙ sym (get_or-map (λ (s : Arc State Z). held s) states i old least within)))
+    (h ∙ ap (λ (c : Content). join_contents c delta) (ap (λ (s : Arc State Z). held s) found ∙ sym (get_or-map (λ (s : Arc State Z). held s) states i old least within)))
 join-at-ok (Err e) states i old new delta within found h = tt
 
 -- and one in which none was

@@ -40,15 +40,15 @@ ready-update decls number peer g many c nodes p x op n new ready within found gr
     let counted : count_at (peer n).counts p < c = ready.counts p n there in
     let numbered : number n ≡ p = ready.replicas p n there in
     let most : count_at (peer new).counts p ≤ count_at (peer n).counts p + 1 =
-        subst (λ (r : Peer). count_at r.counts p ≤ count_at (peer n).counts p + 1) (sym is)
-            (subst (λ (q : ℕ). count_at (slice_set (peer n).counts q (count_at (peer n).counts q + 1)) p ≤ count_at (peer n).counts p + 1) (sym numbered)
-                (count-set (peer n).counts p (count_at (peer n).counts p + 1))) in
-    record
-        { size = length-set nodes p new ∙ ready.size
-        ; graphs = at-set (λ q m. decls m ≡ g) nodes p new (λ q m _ h. ready.graphs q m h) (graph ∙ ready.graphs p n there)
-        ; replicas = at-set (λ q m. number m ≡ q) nodes p new (λ q m _ h. ready.replicas q m h) (same ∙ numbered)
-        ; counts = at-set (λ q m. count_at (peer m).counts q < c + 1) nodes p new (λ q m _ h. omega (arith, ready.counts q m h)) (omega (arith, most, counted))
-        }
+    subst (λ (r : Peer). count_at r.counts p ≤ count_at (peer n).counts p + 1) (sym is)
+    (subst (λ (q : ℕ). count_at (slice_set (peer n).counts q (count_at (peer n).counts q + 1)) p ≤ count_at (peer n).counts p + 1) (sym numbered)
+    (count-set (peer n).counts p (count_at (peer n).counts p + 1))) in
+    record {
+      size = length-set nodes p new ∙ ready.size;
+      graphs = at-set (λ q m. decls m ≡ g) nodes p new (λ q m _ h. ready.graphs q m h) (graph ∙ ready.graphs p n there);
+      replicas = at-set (λ q m. number m ≡ q) nodes p new (λ q m _ h. ready.replicas q m h) (same ∙ numbered);
+      counts = at-set (λ q m. count_at (peer m).counts q < c + 1) nodes p new (λ q m _ h. omega (arith, ready.counts q m h)) (omega (arith, most, counted));
+    }
 
 -- the replica that the world updates is the node's
 same-peer : {N : Type 0} (decls : N → List Decl) (number : N → ℕ) (peer : N → Peer) (g : List Decl) (many c : ℕ) (nodes : List N) (p x : ℕ) (op : Op) (n : N)
@@ -75,8 +75,8 @@ update-done decls number peer g text many c nodes p x op n new ready within foun
     let run : Run = run_from g (map peer nodes) text in
     let few : size_of (content_at (peer new).contents x) ≤ row_limit = subst (λ (r : Peer). size_of (content_at r.contents x) ≤ row_limit) (sym is) small in
     subst (λ (r : Peer). checked_update c p x run r ≡ Ok (run_from g (map peer (slice_set nodes p new)) text)) (is ∙ same)
-        (ap (λ (b : Bool). checked_by c p x run (peer new) b) (le-ltb row_limit (size_of (content_at (peer new).contents x)) few)
-        ∙ ap (λ (ps : List Peer). Ok (run_from g ps text)) (sym (map-set peer nodes p new)))
+    (ap (λ (b : Bool). checked_by c p x run (peer new) b) (le-ltb row_limit (size_of (content_at (peer new).contents x)) few)
+    ∙ ap (λ (ps : List Peer). Ok (run_from g ps text)) (sym (map-set peer nodes p new)))
 
 -- a node that stopped at a variable has too many rows there
 pub stopped-large : (expected new : Peer) (x : ℕ) (stop : NodeStop) (y : ℕ) → stop ≡ node.TooLarge y → Updates {A = Unit {0}} expected x (Err stop) new → row_limit < size_of (content_at expected.contents x)
@@ -90,7 +90,7 @@ pub update-stops : {N : Type 0} (decls : N → List Decl) (number : N → ℕ) (
     → checked_update c p x (run_from g (map peer nodes) text) (updated p x op (peer_at (map peer nodes) p)) ≡ Err (TooLarge c p x)
 update-stops decls number peer g text many c nodes p x op n ready within found large =
     subst (λ (r : Peer). checked_update c p x (run_from g (map peer nodes) text) r ≡ Err (TooLarge c p x)) (same-peer decls number peer g many c nodes p x op n ready within found)
-        (ap (λ (b : Bool). checked_by c p x (run_from g (map peer nodes) text) (updated (number n) x op (peer n)) b) (lt-ltb row_limit (size_of (content_at (updated (number n) x op (peer n)).contents x)) large))
+    (ap (λ (b : Bool). checked_by c p x (run_from g (map peer nodes) text) (updated (number n) x op (peer n)) b) (lt-ltb row_limit (size_of (content_at (updated (number n) x op (peer n)).contents x)) large))
 
 -- a node that stopped at a variable of its graph is too large there first
 pub stopped-first : (large : Option ℕ) (many : ℕ) (stop : NodeStop) (y : ℕ) → stop ≡ node.TooLarge y → Settles {A = Unit {0}} large many (Err stop) → large ≡ Some y
@@ -102,8 +102,8 @@ point-here : {N : Type 0} (peer : N → Peer) (run : Run) (c p : ℕ) (nodes : L
     → point_from c p (drop p (map peer nodes)) run ≡ stop_from (first_large 0 (shown_at run.graph (peer n))) c p (point_from c (p + 1) (drop (p + 1) (map peer nodes)) run)
 point-here peer run c p nodes n within found =
     ap (λ (rs : List Peer). point_from c p rs run)
-        (drop_more (map peer nodes) p (peer n) (subst (λ (k : ℕ). p < k) (sym (length-map nodes peer)) within)
-        ∙ ap (λ (r : Peer). r ∷ drop (p + 1) (map peer nodes)) (get_or-map peer nodes p n (peer n) within ∙ ap peer (sym found)))
+    (drop_more (map peer nodes) p (peer n) (subst (λ (k : ℕ). p < k) (sym (length-map nodes peer)) within)
+    ∙ ap (λ (r : Peer). r ∷ drop (p + 1) (map peer nodes)) (get_or-map peer nodes p n (peer n) within ∙ ap peer (sym found)))
 
 -- a node that shows too many rows stops the point
 pub point-stops : {N : Type 0} (peer : N → Peer) (run : Run) (c p : ℕ) (nodes : List N) (n : N) (x : ℕ) → p < length nodes → n ≡ get_or nodes p n
@@ -125,12 +125,12 @@ pub ready-settle : {N : Type 0} (decls : N → List Decl) (number : N → ℕ) (
     → decls new ≡ decls n → number new ≡ number n → peer new ≡ peer n → AreReady decls number peer g many c (slice_set nodes p new)
 ready-settle decls number peer g many c nodes p n new ready within found graph same kept =
     let there : slice_get nodes p ≡ Some n = slice_get_read nodes (length nodes) p n refl within found in
-    record
-        { size = length-set nodes p new ∙ ready.size
-        ; graphs = at-set (λ q m. decls m ≡ g) nodes p new (λ q m _ h. ready.graphs q m h) (graph ∙ ready.graphs p n there)
-        ; replicas = at-set (λ q m. number m ≡ q) nodes p new (λ q m _ h. ready.replicas q m h) (same ∙ ready.replicas p n there)
-        ; counts = at-set (λ q m. count_at (peer m).counts q < c) nodes p new (λ q m _ h. ready.counts q m h) (subst (λ (r : Peer). count_at r.counts p < c) (sym kept) (ready.counts p n there))
-        }
+    record {
+      size = length-set nodes p new ∙ ready.size;
+      graphs = at-set (λ q m. decls m ≡ g) nodes p new (λ q m _ h. ready.graphs q m h) (graph ∙ ready.graphs p n there);
+      replicas = at-set (λ q m. number m ≡ q) nodes p new (λ q m _ h. ready.replicas q m h) (same ∙ ready.replicas p n there);
+      counts = at-set (λ q m. count_at (peer m).counts q < c) nodes p new (λ q m _ h. ready.counts q m h) (subst (λ (r : Peer). count_at r.counts p < c) (sym kept) (ready.counts p n there));
+    }
 
 -- the replicas are as before
 pub same-peers : {N : Type 0} (peer : N → Peer) (nodes : List N) (p : ℕ) (n new : N) → n ≡ get_or nodes p n → peer new ≡ peer n → map peer (slice_set nodes p new) ≡ map peer nodes
@@ -142,7 +142,7 @@ pub settled-next : {N : Type 0} (decls : N → List Decl) (peer : N → Peer) (s
     → AreSettledBelow decls peer shown (p + 1) (slice_set nodes p new)
 settled-next decls peer shown nodes p n new before is graph kept =
     at-set (λ q m. q < p + 1 → shown m ≡ shown_at (decls m) (peer m)) nodes p new (λ q m other h below. before q m h (omega (arith, other, below)))
-        (λ _. is ∙ ap (λ (g : List Decl). shown_at g (peer n)) (sym graph) ∙ ap (λ (r : Peer). shown_at (decls new) r) (sym kept))
+    (λ _. is ∙ ap (λ (g : List Decl). shown_at g (peer n)) (sym graph) ∙ ap (λ (r : Peer). shown_at (decls new) r) (sym kept))
 
 -- and where all nodes stand below, all do
 pub all-settled : {N : Type 0} (decls : N → List Decl) (peer : N → Peer) (shown : N → List Content) (nodes : List N) (p : ℕ) → length nodes ≤ p
@@ -156,8 +156,8 @@ pub point-halts : {N : Type 0} (decls : N → List Decl) (number : N → ℕ) (p
 point-halts decls number peer g run many c p nodes n stop x graph ready within found is settles =
     let there : slice_get nodes p ≡ Some n = slice_get_read nodes (length nodes) p n refl within found in
     point-stops peer run c p nodes n x within found
-        (ap (λ (h : List Decl). first_large 0 (shown_at h (peer n))) (graph ∙ sym (ready.graphs p n there))
-        ∙ stopped-first (first_large 0 (shown_at (decls n) (peer n))) (length (decls n)) stop x is settles)
+    (ap (λ (h : List Decl). first_large 0 (shown_at h (peer n))) (graph ∙ sym (ready.graphs p n there))
+    ∙ stopped-first (first_large 0 (shown_at (decls n) (peer n))) (length (decls n)) stop x is settles)
 
 -- a node that was settled leaves the point to the others
 pub point-passes : {N : Type 0} (decls : N → List Decl) (number : N → ℕ) (peer : N → Peer) (g : List Decl) (run : Run) (many c p : ℕ) (nodes : List N) (n new : N)
@@ -172,12 +172,12 @@ point-passes decls number peer g run many c p nodes n new graph ready within fou
 -- with more room there is room
 pub ready-later : {N : Type 0} (decls : N → List Decl) (number : N → ℕ) (peer : N → Peer) (g : List Decl) (many c : ℕ) (nodes : List N)
     → AreReady decls number peer g many c nodes → AreReady decls number peer g many (c + 1) nodes
-ready-later decls number peer g many c nodes ready = record
-    { size = ready.size
-    ; graphs = ready.graphs
-    ; replicas = ready.replicas
-    ; counts = λ p n e. omega (arith, ready.counts p n e)
-    }
+ready-later decls number peer g many c nodes ready = record {
+  size = ready.size;
+  graphs = ready.graphs;
+  replicas = ready.replicas;
+  counts = λ p n e. omega (arith, ready.counts p n e);
+}
 
 -- what holds of each element and of a new one at the end holds of each after a push
 pub at-push : {X : Type 0} (P : ℕ → X → Type 0) (xs : List X) (y : X) → ((q : ℕ) (x : X) → slice_get xs q ≡ Some x → P q x) → P (length xs) y
@@ -199,13 +199,13 @@ length-push (x ∷ xs) y = omega (arith, length-push xs y)
 -- one more node to which nothing has happened
 pub ready-push : {N : Type 0} (decls : N → List Decl) (number : N → ℕ) (peer : N → Peer) (g : List Decl) (p many : ℕ) (nodes : List N) (new : N)
     → AreReady decls number peer g p 1 nodes → decls new ≡ g → number new ≡ p → peer new ≡ fresh_peer g many → AreReady decls number peer g (p + 1) 1 (nodes ++ new ∷ [])
-ready-push decls number peer g p many nodes new ready graph same fresh = record
-    { size = omega (arith, length-push nodes new, ready.size)
-    ; graphs = at-push (λ q m. decls m ≡ g) nodes new ready.graphs graph
-    ; replicas = at-push (λ q m. number m ≡ q) nodes new ready.replicas (same ∙ sym ready.size)
-    ; counts = at-push (λ q m. count_at (peer m).counts q < 1) nodes new ready.counts
-        (subst (λ (r : Peer). count_at r.counts (length nodes) < 1) (sym fresh) (omega (arith, count-fresh many (length nodes))))
-    }
+ready-push decls number peer g p many nodes new ready graph same fresh = record {
+  size = omega (arith, length-push nodes new, ready.size);
+  graphs = at-push (λ q m. decls m ≡ g) nodes new ready.graphs graph;
+  replicas = at-push (λ q m. number m ≡ q) nodes new ready.replicas (same ∙ sym ready.size);
+  counts = at-push (λ q m. count_at (peer m).counts q < 1) nodes new ready.counts
+      (subst (λ (r : Peer). count_at r.counts (length nodes) < 1) (sym fresh) (omega (arith, count-fresh many (length nodes))));
+}
 
 replicate-push : {X : Type 0} (n : ℕ) (x : X) → replicate (suc n) x ≡ replicate n x ++ x ∷ []
 replicate-push zero x = refl

@@ -13,7 +13,7 @@ length-eval_from [] done sources = omega arith
 length-eval_from (d ∷ g) done sources =
     let pushed : length (done ++ evaluated d.kind done sources ∷ []) ≡ length done + 1 = length-push done (evaluated d.kind done sources) in
     omega (arith, length-eval_from g (done ++ evaluated d.kind done sources ∷ []) sources, pushed)
-    where
+  where
     length-push : {X : Type 0} (xs : List X) (y : X) → length (xs ++ y ∷ []) ≡ length xs + 1
     length-push [] y = refl
     length-push (x ∷ xs) y = omega (arith, length-push xs y)
@@ -24,7 +24,7 @@ shown-within g sources shown x is within = omega (arith, ap (λ (cs : List Conte
 
 large-here : (b : Bool) (x y many : ℕ) (rest : Option ℕ) → (rest ≡ Some y → y < (x + 1) + many) → (if b then Some x else rest) ≡ Some y → y < x + suc many
 large-here true x y many rest below e = omega (arith, same x y e)
-    where
+  where
     same : (x y : ℕ) → Some x ≡ Some y → x ≡ y
     same x y e = cc
 large-here false x y many rest below e = omega (arith, below e)

@@ -30,7 +30,12 @@ fn end_with_text<O: Sink, E: Sink>(words: &[String], text: &[u8], out: &mut O, e
 
 #[tactic(auto, unfolding(model_program::specs::Ends::Ends))]
 /// Writes the text, or says why there is none, and answers the status.
-pub fn end<O: Sink, E: Sink>(words: &[String], answer: Result<Vec<u8>, Failure>, out: &mut O, err: &mut E) -> u8
+pub fn end<O: Sink, E: Sink>(
+    words: &[String],
+    answer: Result<Vec<u8>, Failure>,
+    out: &mut O,
+    err: &mut E,
+) -> u8
     ensures { Ends (words_of words.now) (answered answer) (writing (O.written out.old) (O.written out.new) (O.faults out.old) (O.faults out.new))
         (writing (E.written err.old) (E.written err.new) (E.faults err.old) (E.faults err.new)) result }
 {

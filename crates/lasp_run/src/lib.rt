@@ -8,3 +8,6 @@ mod program;
 
 pub use drive::{Halt, Node, NodeStop, PlainNode, drive_on};
 pub use program::one_thread;
+
+#[cfg(test)]
+mod tests;

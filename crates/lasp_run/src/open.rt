@@ -29,7 +29,12 @@ fn name_of(words: &[String], file: usize) -> &str
 }
 
 /// Reads the file that a word names.
-pub fn read_file<F: Files>(alloc: Global, words: &[String], file: usize, files: &mut F) -> Result<Vec<u8>, Failure>
+pub fn read_file<F: Files>(
+    alloc: Global,
+    words: &[String],
+    file: usize,
+    files: &mut F,
+) -> Result<Vec<u8>, Failure>
     requires { file < length words.now }
     ensures same { (name : List ℕ) → F.content files.new name ≡ F.content files.old name }
     ensures later { (name : List ℕ) → F.faults files.old name ≤ F.faults files.new name }
@@ -59,13 +64,19 @@ fn script_from(alloc: Global, graph: &Graph, bytes: &[u8]) -> Result<Script, Fai
 {
     match read_script(alloc, bytes, graph) {
         Ok(script) => Ok(script),
-        Err(ScriptRefused::At { number, why }) => Err(Failure::Refused(Refusal::Script(number, why))),
+        Err(ScriptRefused::At { number, why }) => Err(Failure::Refused(Refusal::Script(
+            number, why,
+        ))),
         Err(ScriptRefused::Memory) => Err(Failure::Memory),
     }
 }
 
 /// Reads the graph: the second word's file.
-pub fn open_graph<F: Files>(alloc: Global, words: &[String], files: &mut F) -> Result<Graph, Failure>
+pub fn open_graph<F: Files>(
+    alloc: Global,
+    words: &[String],
+    files: &mut F,
+) -> Result<Graph, Failure>
     requires { 1 < length words.now }
     ensures same { (name : List ℕ) → F.content files.new name ≡ F.content files.old name }
     ensures later { (name : List ℕ) → F.faults files.old name ≤ F.faults files.new name }
@@ -78,7 +89,12 @@ pub fn open_graph<F: Files>(alloc: Global, words: &[String], files: &mut F) -> R
 }
 
 /// Reads the script against the graph: the third word's file.
-pub fn open_script<F: Files>(alloc: Global, words: &[String], graph: &Graph, files: &mut F) -> Result<Script, Failure>
+pub fn open_script<F: Files>(
+    alloc: Global,
+    words: &[String],
+    graph: &Graph,
+    files: &mut F,
+) -> Result<Script, Failure>
     requires { 2 < length words.now }
     ensures same { (name : List ℕ) → F.content files.new name ≡ F.content files.old name }
     ensures later { (name : List ℕ) → F.faults files.old name ≤ F.faults files.new name }

@@ -38,7 +38,11 @@ fn read_form(words: &[String]) -> Form
 }
 
 /// Runs a script that was read against its graph, and gives its report.
-fn report_of_run<N: Node>(alloc: Global, graph: &Arc<Graph>, script: &Script) -> Result<Vec<u8>, Failure>
+fn report_of_run<N: Node>(
+    alloc: Global,
+    graph: &Arc<Graph>,
+    script: &Script,
+) -> Result<Vec<u8>, Failure>
     requires { IsScript (arc_value graph.now) script.now }
     ensures { Gives (λ text. text.items) (run_answer report_of (arc_value graph.now) script.now) result }
 {
@@ -65,7 +69,12 @@ fn run_plain<F: Files>(alloc: Global, words: &[String], files: &mut F) -> Result
 }
 
 /// The same, once the graph is read.
-fn run_graph<F: Files>(alloc: Global, words: &[String], graph: Graph, files: &mut F) -> Result<Vec<u8>, Failure>
+fn run_graph<F: Files>(
+    alloc: Global,
+    words: &[String],
+    graph: Graph,
+    files: &mut F,
+) -> Result<Vec<u8>, Failure>
     requires { 2 < length words.now }
     ensures same { (name : List ℕ) → F.content files.new name ≡ F.content files.old name }
     ensures later { (name : List ℕ) → F.faults files.old name ≤ F.faults files.new name }
@@ -99,7 +108,13 @@ fn answer<F: Files>(alloc: Global, words: &[String], files: &mut F) -> Result<Ve
     }
 }
 
-fn run_words<F: Files, O: Sink, E: Sink>(alloc: Global, words: &[String], files: &mut F, out: &mut O, err: &mut E) -> u8
+fn run_words<F: Files, O: Sink, E: Sink>(
+    alloc: Global,
+    words: &[String],
+    files: &mut F,
+    out: &mut O,
+    err: &mut E,
+) -> u8
     ensures { (answer : Result (List ℕ) Failure)
         × Follows (words_of words.now) (view (F.content files.old) (F.faults files.old) (F.faults files.new)) (plan (words_of words.now)) answer
         × Ends (words_of words.now) answer (writing (O.written out.old) (O.written out.new) (O.faults out.old) (O.faults out.new)) (writing (E.written err.old) (E.written err.new) (E.faults err.old) (E.faults err.new)) result }
@@ -111,7 +126,13 @@ fn run_words<F: Files, O: Sink, E: Sink>(alloc: Global, words: &[String], files:
 /// The program on one thread: `plain GRAPH SCRIPT` reads both files, runs the script and writes its report to `out`. It answers the exit status:
 /// 0 done, 1 usage, 2 graph refused, 3 script refused, 4 a file can't be read or is too long, 5 `out` can't be written, 6 a variable passes 65,536 rows, 7 out of memory.
 /// With another status than 0, `err` gets one line.
-pub fn one_thread<F: Files, O: Sink, E: Sink>(alloc: Global, words: &[String], files: &mut F, out: &mut O, err: &mut E) -> u8
+pub fn one_thread<F: Files, O: Sink, E: Sink>(
+    alloc: Global,
+    words: &[String],
+    files: &mut F,
+    out: &mut O,
+    err: &mut E,
+) -> u8
     // some answer follows the plan of the words, and the call ends by it
     ensures ends { (answer : Result (List ℕ) Failure)
         × Follows (words_of words.now) (view (F.content files.old) (F.faults files.old) (F.faults files.new)) (plan (words_of words.now)) answer

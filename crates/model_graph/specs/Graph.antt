@@ -1,5 +1,5 @@
 -- A graph is a list of declarations; each variable is named by its place in the list.
-use Rattle.std.specs.Prelude.{◌≡◌, ℕ, ◌<◌, ◌≤◌, List, [], length, Bool, true, false, IsTrue, slice_index_or}
+use Rattle.std.specs.Prelude.{ℕ, List, [], Bool, true, false, slice_index_or}
 
 -- what a variable is: a source, or a process over earlier variables
 pub data Kind : Type 0 where

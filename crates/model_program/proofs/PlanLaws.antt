@@ -1,13 +1,13 @@
 -- Laws of plans: calls that did parts of a plan, one after the other, followed the whole.
-use Rattle.std.proofs.Common.{refl, sym, ap, subst, ◌∙◌, arith}
-use Rattle.std.specs.Prelude.{◌≡◌, ◌<◌, ◌≤◌, ◌⊎◌, ℕ, List, length, Option, Some, None, IfSome, Result, Ok, Err, if◌then◌else◌, nat_lt, Bool, true, false}
+use Rattle.std.proofs.Common.{refl, sym, ap, subst, arith}
+use Rattle.std.specs.Prelude.{◌≡◌, ◌<◌, ◌≤◌, ℕ, List, length, Option, Result, Ok, Err, if◌then◌else◌, Bool}
 use mathlib.Core.Logic.{inl, inr}
 use Rattle.std.proofs.lemmas.Bool.{le-ltb, lt-ltb}
 use Rattle.model_graph.specs.Chain.{refusing}
-use Rattle.lasp_edge.specs.Faults.{Rose, counted}
+use Rattle.lasp_edge.specs.Faults.{Rose}
 use Rattle.lasp_edge.specs.Told.{Sees}
-use Rattle.model_program.specs.Plan.{Answer, Plan, Says, Reads, checked, within, reading, file_limit, word_at, told_answer}
-use Rattle.model_program.specs.Follows.{View, view, Fails, Gives, Follows, IsPartOf, Part, Passes, Stops, Performs}
+use Rattle.model_program.specs.Plan.{Answer, Plan, Says, Reads, checked, within, reading, file_limit, word_at}
+use Rattle.model_program.specs.Follows.{View, Fails, Gives, Follows, IsPartOf, Passes, Stops, Performs}
 use Rattle.model_program.specs.declared.refusal.Refusal.{Refusal}
 use Rattle.model_program.specs.declared.refusal.Refusal.TheVariants.{TooLong}
 use Rattle.model_program.specs.declared.failure.Failure.{Failure}
@@ -50,15 +50,21 @@ within-long f bytes long = ap (λ (long : Bool). choice f bytes long) (lt-ltb fi
 pub passes-read : (words : List (List ℕ)) (v : View) (f : ℕ) (bytes : List ℕ) → Sees (v.content (word_at words f)) bytes → length bytes ≤ file_limit → Passes words v (reading f) bytes
 unfolding Follows
 passes-read words v f bytes sees short w part next r h =
-    inr (bytes, subst (λ (told : Option (List ℕ)). Sees told bytes) (part.content (word_at words f)) sees,
-        subst (λ (read : Result (List ℕ) Refusal). Follows words w (checked (λ e. e) read next) r) (sym (within-short f bytes short)) h)
+    inr (
+      bytes,
+      subst (λ (told : Option (List ℕ)). Sees told bytes) (part.content (word_at words f)) sees,
+      subst (λ (read : Result (List ℕ) Refusal). Follows words w (checked (λ e. e) read next) r) (sym (within-short f bytes short)) h,
+    )
 
 -- a file is too long
 pub stops-too_long : (words : List (List ℕ)) (v : View) (f : ℕ) (bytes : List ℕ) → Sees (v.content (word_at words f)) bytes → file_limit < length bytes → Stops words v (reading f) (Refused (TooLong f))
 unfolding Follows
 stops-too_long words v f bytes sees long w part next =
-    inr (bytes, subst (λ (told : Option (List ℕ)). Sees told bytes) (part.content (word_at words f)) sees,
-        subst (λ (read : Result (List ℕ) Refusal). Follows words w (checked (λ e. e) read next) (Err (Refused (TooLong f)))) (sym (within-long f bytes long)) refl)
+    inr (
+      bytes,
+      subst (λ (told : Option (List ℕ)). Sees told bytes) (part.content (word_at words f)) sees,
+      subst (λ (read : Result (List ℕ) Refusal). Follows words w (checked (λ e. e) read next) (Err (Refused (TooLong f)))) (sym (within-long f bytes long)) refl,
+    )
 
 -- a read failed
 pub stops-fault : (words : List (List ℕ)) (v : View) (f : ℕ) → f < length words → Rose (v.before (word_at words f)) (v.after (word_at words f)) → Stops words v (reading f) (ReadFault f)

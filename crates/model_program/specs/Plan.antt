@@ -1,5 +1,5 @@
 -- A plan: an answer, or a file to read and how to go on with its bytes. The order of refusals is the nesting of a plan.
-use Rattle.std.specs.Prelude.{ℕ, List, length, if◌then◌else◌, nat_lt, Option, Some, None, option_and_then, Result, Ok, Err, slice_index_or, []}
+use Rattle.std.specs.Prelude.{ℕ, List, length, if◌then◌else◌, nat_lt, Option, Some, option_and_then, Result, Ok, Err, slice_index_or, []}
 use Rattle.model_program.specs.declared.refusal.Refusal.{Refusal}
 use Rattle.model_program.specs.declared.refusal.Refusal.TheVariants.{TooLong}
 

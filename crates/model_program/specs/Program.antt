@@ -1,5 +1,5 @@
 -- The program: which plan its words stand for.
-use Rattle.std.specs.Prelude.{ℕ, List, [], ◌∷◌, codes, length, if◌then◌else◌, ◌&&◌, ◌==◌, Result, Ok, Err}
+use Rattle.std.specs.Prelude.{ℕ, List, codes, length, if◌then◌else◌, ◌&&◌, ◌==◌, Ok, Err}
 use Rattle.std.specs.Str.{bytes_eq}
 use Rattle.model_graph.specs.Graph.{Decl, name_at}
 use Rattle.model_graph.specs.Chain.{◌>>=◌, refusing}

@@ -12,14 +12,14 @@ shifted : (c n : ℕ) → (c + 1) + n ≡ c + suc n
 shifted c n = omega arith
 
 later-stop : (c : ℕ) (run next : Run) (k : Command) (rest : List Command) (stop : Stop) → step c run k ≡ Ok next → StopsAt (c + 1) next rest stop → StopsAt c run (k ∷ rest) stop
-later-stop c run next k rest stop e s = record
-    { done = k ∷ s.done
-    ; rest = s.rest
-    ; last = s.last
-    ; all = ap (λ (ks : List Command). k ∷ ks) s.all
-    ; after = more e s.after
-    ; halts = subst (λ (n : ℕ). Halts n s.last s.rest stop) (shifted c (length s.done)) s.halts
-    }
+later-stop c run next k rest stop e s = record {
+  done = k ∷ s.done;
+  rest = s.rest;
+  last = s.last;
+  all = ap (λ (ks : List Command). k ∷ ks) s.all;
+  after = more e s.after;
+  halts = subst (λ (n : ℕ). Halts n s.last s.rest stop) (shifted c (length s.done)) s.halts;
+}
 
 play-found : (c : ℕ) (run : Run) (k : Command) (rest : List Command) (stop : Stop) (r : Result Run Stop) → step c run k ≡ r
     → ((next : Run) → play (c + 1) next rest ≡ Err stop → StopsAt (c + 1) next rest stop)
@@ -50,7 +50,7 @@ after-play c run last (k ∷ done) rest r (more {next = next} is after) e =
 pub stop-is : (c : ℕ) (run : Run) (commands : List Command) (stop : Stop) → StopsAt c run commands stop → play c run commands ≡ Err stop
 stop-is c run commands stop s =
     subst (λ (ks : List Command). play c run ks ≡ Err stop) s.all
-        (after-play c run s.last s.done s.rest (Err stop) s.after (halts-play (c + length s.done) s.last s.rest stop s.halts))
+    (after-play c run s.last s.done s.rest (Err stop) s.after (halts-play (c + length s.done) s.last s.rest stop s.halts))
 
 stop-same : (o : Option ℕ) (c p : ℕ) (rest : Result Run Stop) (run last : Run) → (rest ≡ Ok last → last ≡ run) → stop_from o c p rest ≡ Ok last → last ≡ run
 stop-same None c p rest run last same e = same e
@@ -72,10 +72,10 @@ end-step c run last k rest (Ok next) is found e = later-end c run next last k re
 end-step c run last k rest (Err stop) is found e = absurd cc
 
 end-here : (c : ℕ) (run last : Run) → last ≡ run → act c run Point ≡ Ok last → EndsAt c run [] last
-end-here c run last same e = record
-    { after = subst (λ (w : Run). IsAfter c run [] w) (sym same) none
-    ; point = subst (λ (n : ℕ). act n last Point ≡ Ok last) (let p : c ≡ c + 0 = omega arith in p) (subst (λ (w : Run). act c w Point ≡ Ok last) (sym same) e)
-    }
+end-here c run last same e = record {
+  after = subst (λ (w : Run). IsAfter c run [] w) (sym same) none;
+  point = subst (λ (n : ℕ). act n last Point ≡ Ok last) (let p : c ≡ c + 0 = omega arith in p) (subst (λ (w : Run). act c w Point ≡ Ok last) (sym same) e);
+}
 
 -- a run that ends in a world has done every command on the way to it
 pub end-found : (c : ℕ) (run last : Run) (commands : List Command) → play c run commands ≡ Ok last → EndsAt c run commands last
@@ -95,4 +95,4 @@ point-play c last r e = e
 pub end-is : (c : ℕ) (run last : Run) (commands : List Command) → EndsAt c run commands last → play c run commands ≡ Ok last
 end-is c run last commands s =
     subst (λ (ks : List Command). play c run ks ≡ Ok last) (append-nothing commands)
-        (after-play c run last commands [] (Ok last) s.after (point-play (c + length commands) last (Ok last) s.point))
+    (after-play c run last commands [] (Ok last) s.after (point-play (c + length commands) last (Ok last) s.point))

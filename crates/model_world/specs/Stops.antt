@@ -1,5 +1,5 @@
 -- Where a run stops, in the words of its worlds: the world after some first commands is one in which the next command can't be done.
-use Rattle.std.specs.Prelude.{◌≡◌, ℕ, ◌+◌, List, [], ◌∷◌, ◌++◌, length, Result, Ok, Err}
+use Rattle.std.specs.Prelude.{◌≡◌, ℕ, ◌+◌, List, [], ◌∷◌, ◌++◌, length, Ok, Err}
 use Rattle.model_world.specs.Command.{Command}
 use Rattle.model_world.specs.World.{Run, Point, act, step}
 use Rattle.model_world.specs.declared.stop.Stop.{Stop}

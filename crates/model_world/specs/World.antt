@@ -38,10 +38,10 @@ start g nodes = record { graph = g; peers = replicate nodes (fresh_peer g nodes)
 
 -- replica p after an update of its variable x: the delta is joined in, and the update is counted
 abbrev pub updated : ℕ → ℕ → Op → Peer → Peer
-updated p x op r = record
-  { contents = slice_set r.contents x (join_contents (content_at r.contents x) (delta op (content_at r.contents x) p (count_at r.counts p + 1)))
-  ; counts = slice_set r.counts p (count_at r.counts p + 1)
-  }
+updated p x op r = record {
+  contents = slice_set r.contents x (join_contents (content_at r.contents x) (delta op (content_at r.contents x) p (count_at r.counts p + 1)));
+  counts = slice_set r.counts p (count_at r.counts p + 1);
+}
 
 -- what every variable of a replica shows
 abbrev pub shown_at : List Decl → Peer → List Content

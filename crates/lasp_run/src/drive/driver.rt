@@ -58,7 +58,15 @@ impl<N: Node> Driver<N> {
     }
 
     /// Command number c updates a source of a node.
-    pub fn update(&mut self, alloc: Global, graph: &Graph, c: u32, p: u8, x: u8, op: &Op) -> Result<(), Halt>
+    pub fn update(
+        &mut self,
+        alloc: Global,
+        graph: &Graph,
+        c: u32,
+        p: u8,
+        x: u8,
+        op: &Op,
+    ) -> Result<(), Halt>
         requires ready { AreReady N.decls N.number N.peer graph.now (length self.old.nodes.items) c self.old.nodes.items }
         requires node { p < length self.old.nodes.items }
         requires source { IsOrSetAt graph.now x }
@@ -110,7 +118,13 @@ impl<N: Node> Driver<N> {
     }
 
     /// Does command number c.
-    pub fn do_command(&mut self, alloc: Global, graph: &Graph, c: u32, command: &Command) -> Result<(), Halt>
+    pub fn do_command(
+        &mut self,
+        alloc: Global,
+        graph: &Graph,
+        c: u32,
+        command: &Command,
+    ) -> Result<(), Halt>
         requires ready { AreReady N.decls N.number N.peer graph.now (length self.old.nodes.items) c self.old.nodes.items }
         requires few { length self.old.nodes.items ≤ 8 }
         requires number { c ≤ command_limit }
@@ -156,7 +170,11 @@ impl<N: Node> Driver<N> {
 }
 
 /// Runs a script against its graph on nodes of one engine, and writes its report.
-pub fn drive_on<N: Node>(alloc: Global, graph: &Arc<Graph>, script: &Script) -> Result<Vec<u8>, Halt>
+pub fn drive_on<N: Node>(
+    alloc: Global,
+    graph: &Arc<Graph>,
+    script: &Script,
+) -> Result<Vec<u8>, Halt>
     requires { IsScript (arc_value graph.now) script.now }
     ensures reports { Reports (reported (arc_value graph.now) script.now) result }
     ensures within { NamesOneOf (length (arc_value graph.now)) result }

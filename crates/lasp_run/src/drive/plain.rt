@@ -61,7 +61,12 @@ impl Node for PlainNode {
 
     ghost shown = { λ n. n.shown };
 
-    fn new(alloc: Global, graph: &Arc<Graph>, replica: u8, nodes: u8) -> Result<PlainNode, AllocError> {
+    fn new(
+        alloc: Global,
+        graph: &Arc<Graph>,
+        replica: u8,
+        nodes: u8,
+    ) -> Result<PlainNode, AllocError> {
         Ok(PlainNode {
             graph: Arc::try_clone(graph)?,
             replica,

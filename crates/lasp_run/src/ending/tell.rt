@@ -71,12 +71,24 @@ fn tell_refusal<E: Sink>(words: &[String], refusal: &Refusal, err: &mut E)
     match refusal {
         Refusal::Usage => tell(err, b"usage", &[]),
         Refusal::TooLong(file) => tell(err, b"too long", &[word(words, *file), b"16777216"]),
-        Refusal::Graph(number, why) => tell(err, b"graph", &[first.format(*number).as_bytes(), graph_why(*why)]),
-        Refusal::Script(number, why) => tell(err, b"script", &[first.format(*number).as_bytes(), script_why(*why)]),
+        Refusal::Graph(number, why) => tell(
+            err,
+            b"graph",
+            &[first.format(*number).as_bytes(), graph_why(*why)],
+        ),
+        Refusal::Script(number, why) => tell(
+            err,
+            b"script",
+            &[first.format(*number).as_bytes(), script_why(*why)],
+        ),
         Refusal::TooLarge(command, node, name) => tell(
             err,
             b"too large",
-            &[first.format(*command).as_bytes(), second.format(*node).as_bytes(), name.as_str().as_bytes()],
+            &[
+                first.format(*command).as_bytes(),
+                second.format(*node).as_bytes(),
+                name.as_str().as_bytes(),
+            ],
         ),
     }
 }

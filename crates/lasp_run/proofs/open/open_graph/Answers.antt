@@ -11,5 +11,5 @@ use Rattle.lasp_run.proofs.open.open_graph.Goals as goal
 pub returns-in-Ok-clause-part : goal.returns-in-Ok-clause-part
 returns-in-Ok-clause-part g c =
     performs-checked (λ (graph : List Decl). graph) (words_of c.args.words.now) (view (g.F.Files.content c.args.files.now) (g.F.Files.faults c.args.files.now) (g.F.Files.faults c.read_file.new.files)) 1 c.in-Ok.bytes.items
-        graph_refused graph_of c.graph_from.result c.in-Ok.ensures.part
-        (subst (λ (bytes : List ℕ). Gives (λ (graph : List Decl). graph) (refusing graph_refused (graph_of bytes)) c.graph_from.result) c.deref.ensures.value c.graph_from.ensures)
+    graph_refused graph_of c.graph_from.result c.in-Ok.ensures.part
+    (subst (λ (bytes : List ℕ). Gives (λ (graph : List Decl). graph) (refusing graph_refused (graph_of bytes)) c.graph_from.result) c.deref.ensures.value c.graph_from.ensures)

@@ -11,5 +11,5 @@ use Rattle.lasp_run.proofs.open.open_script.Goals as goal
 pub returns-in-Ok-clause-part : goal.returns-in-Ok-clause-part
 returns-in-Ok-clause-part g c =
     performs-checked (λ (script : Script). script) (words_of c.args.words.now) (view (g.F.Files.content c.args.files.now) (g.F.Files.faults c.args.files.now) (g.F.Files.faults c.read_file.new.files)) 2 c.in-Ok.bytes.items
-        script_refused (script_of c.args.graph.now) c.script_from.result c.in-Ok.ensures.part
-        (subst (λ (bytes : List ℕ). Gives (λ (script : Script). script) (refusing script_refused (script_of c.args.graph.now bytes)) c.script_from.result) c.deref.ensures.value c.script_from.ensures.exact)
+    script_refused (script_of c.args.graph.now) c.script_from.result c.in-Ok.ensures.part
+    (subst (λ (bytes : List ℕ). Gives (λ (script : Script). script) (refusing script_refused (script_of c.args.graph.now bytes)) c.script_from.result) c.deref.ensures.value c.script_from.ensures.exact)

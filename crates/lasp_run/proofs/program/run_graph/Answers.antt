@@ -12,4 +12,4 @@ pub returns-in-Ok-clause-follows : goal.returns-in-Ok-clause-follows
 returns-in-Ok-clause-follows g c =
     let v = view (g.F.Files.content c.args.files.now) (g.F.Files.faults c.args.files.now) (g.F.Files.faults c.open_script.new.files) in
     c.in-Ok.ensures.part v (part-itself v) (λ (script : Script). Says (run_answer report_of c.args.graph script)) (answered c.run_script.result)
-        (follows-says (words_of c.args.words.now) v _ (answered c.run_script.result) (gives-answered _ c.run_script.result c.run_script.ensures))
+    (follows-says (words_of c.args.words.now) v _ (answered c.run_script.result) (gives-answered _ c.run_script.result c.run_script.ensures))

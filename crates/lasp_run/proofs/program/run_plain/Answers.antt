@@ -16,4 +16,4 @@ returns-in-Ok-clause-follows g c =
     let first : IsPartOf opened whole = record { content = λ n. refl; before = λ n. omega arith; after = λ n. c.run_graph.ensures.later n } in
     let second : IsPartOf rest whole = record { content = λ n. c.in-Ok.ensures.same n; before = λ n. c.in-Ok.ensures.later n; after = λ n. omega arith } in
     c.in-Ok.ensures.part whole first (λ (graph : List Decl). running_script report_of graph) (answered c.run_graph.result)
-        (follows-wider (words_of c.args.words.now) rest whole (running_script report_of c.in-Ok.graph) (answered c.run_graph.result) second c.run_graph.ensures.follows)
+    (follows-wider (words_of c.args.words.now) rest whole (running_script report_of c.in-Ok.graph) (answered c.run_graph.result) second c.run_graph.ensures.follows)

@@ -6,8 +6,8 @@ use Rattle.lasp_run.specs.Drive.{AreReady}
 use Rattle.lasp_run.proofs.drive.driver.Driver.new.Given as goal
 
 abbrev pub invariant-loop-p : goal.invariant-loop-p
-invariant-loop-p g l = record
-    { ready : AreReady g.N.Node.decls g.N.Node.number g.N.Node.peer (arc_value l.graph) l.p 1 l.all.items
-    ; peers : map g.N.Node.peer l.all.items ≡ replicate l.p (fresh_peer (arc_value l.graph) l.nodes)
-    ; within : l.p ≤ l.nodes
-    }
+invariant-loop-p g l = record {
+  ready : AreReady g.N.Node.decls g.N.Node.number g.N.Node.peer (arc_value l.graph) l.p 1 l.all.items;
+  peers : map g.N.Node.peer l.all.items ≡ replicate l.p (fresh_peer (arc_value l.graph) l.nodes);
+  within : l.p ≤ l.nodes;
+}

@@ -4,7 +4,7 @@ use Rattle.model_world.specs.Report.{known_lines}
 use Rattle.lasp_run.proofs.drive.driver.Driver.report.Given as goal
 
 abbrev pub invariant-loop-p : goal.invariant-loop-p
-invariant-loop-p g l = record
-    { within : l.p ≤ length l.nodes.items
-    ; text : string_bytes l.text ++ known_lines l.p (map g.N.Node.peer (drop l.p l.nodes.items)) ≡ string_bytes l.fn.self.text ++ known_lines 0 (map g.N.Node.peer l.fn.self.nodes.items)
-    }
+invariant-loop-p g l = record {
+  within : l.p ≤ length l.nodes.items;
+  text : string_bytes l.text ++ known_lines l.p (map g.N.Node.peer (drop l.p l.nodes.items)) ≡ string_bytes l.fn.self.text ++ known_lines 0 (map g.N.Node.peer l.fn.self.nodes.items);
+}
