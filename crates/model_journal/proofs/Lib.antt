@@ -8,3 +8,5 @@ pub mod CleanLaws
 pub mod WordLaws
 pub mod EntryLaws
 pub mod EvaluationLaws
+pub mod ExampleLaws
+pub mod ValidLaws

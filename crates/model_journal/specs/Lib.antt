@@ -3,3 +3,4 @@ pub mod Entry
 pub mod Journal
 pub mod Clean
 pub mod Legal
+pub mod Example

@@ -5,7 +5,9 @@ mod clean;
 mod derived;
 mod entries;
 mod evaluation;
+mod example;
 mod prefixes;
+mod valid;
 
 pub use clean::{
     applied_versions_are_the_greatest_read, clean_variables_equal_their_equations,
@@ -18,4 +20,6 @@ pub use entries::{
     versions_count_where_a_variable_grew,
 };
 pub use evaluation::{evaluation_is_monotone, evaluation_solves_the_equations};
+pub use example::a_late_bind_changes_nothing;
 pub use prefixes::journals_only_grow;
+pub use valid::contents_stay_valid;
