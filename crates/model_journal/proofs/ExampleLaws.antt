@@ -1,8 +1,7 @@
 -- What the example comes to, by computation.
-use Rattle.std.proofs.Common.{◌≡◌, ℕ, ◌⊎◌, inl, inr, pos, false, List, [], ◌∷◌, take, refl, sym, ap, subst, arith}
+use Rattle.std.proofs.Common.{◌≡◌, ℕ, inl, inr, pos, false, [], ◌∷◌, take, refl, sym, subst}
 use Rattle.model_values.specs.Value.{int}
 use Rattle.model_values.specs.Token.{single}
-use Rattle.model_values.specs.Row.{Row}
 use Rattle.model_journal.specs.Journal.{val}
 use Rattle.model_journal.specs.Clean.{version, applied, base, IsClean}
 use Rattle.model_journal.specs.Example.{example_frame, example_entries}

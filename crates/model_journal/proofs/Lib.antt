@@ -10,3 +10,4 @@ pub mod EntryLaws
 pub mod EvaluationLaws
 pub mod ExampleLaws
 pub mod ValidLaws
+pub mod MessageLaws

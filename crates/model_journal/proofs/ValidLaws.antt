@@ -1,12 +1,12 @@
 -- What keeps contents valid: joins, the deltas of updates, and equations, as long as there is room.
-use Rattle.std.proofs.Common.{◌≡◌, ℕ, suc, ◌+◌, ◌≤◌, ◌<◌, max, ◌⊎◌, inl, inr, Bool, true, false, cond, if◌then◌else◌, ◌==◌, List, [], ◌∷◌, length, map, filter, slice_index_or, refl, sym, ap, subst, ◌∙◌, arith}
+use Rattle.std.proofs.Common.{◌≡◌, ℕ, suc, ◌≤◌, ◌<◌, max, ◌⊎◌, inl, inr, Bool, true, false, cond, if◌then◌else◌, List, [], ◌∷◌, length, map, filter, slice_index_or, refl, sym, ap, subst, arith}
 use Rattle.std.proofs.lemmas.Bool.Decides.{nat_tests}
 use Rattle.std.specs.Ordering.{eq_by_cmp}
 use Rattle.model_values.specs.Value.{Val, val_cmp}
-use Rattle.model_values.specs.Token.{Tok, single, both}
+use Rattle.model_values.specs.Token.{Tok, single}
 use Rattle.model_values.specs.Row.{Key, Row, key_cmp, key_exact}
-use Rattle.model_values.specs.Size.{IsOfWidth, IsTokenOfWidth, leaves, text_bytes, width}
-use Rattle.model_sets.specs.Rows.{level, mark, HasRow, IsAscending, add_delta, remove_delta, is_of, buried}
+use Rattle.model_values.specs.Size.{IsOfWidth, IsTokenOfWidth}
+use Rattle.model_sets.specs.Rows.{mark, HasRow, add_delta, remove_delta, is_of, buried}
 use Rattle.model_sets.proofs.RowLaws.{mark-join, is-Equal}
 use Rattle.model_sets.proofs.UpdateLaws.{dead_of, remove-mark, remove-ascending}
 use Rattle.model_states.specs.Content.{Content, least, join_contents, size_of, row_limit}

@@ -2,7 +2,7 @@
 use Rattle.std.specs.Prelude.{ℕ, pos, List, [], ◌∷◌}
 use Rattle.model_values.specs.Value.{int}
 use Rattle.model_states.specs.Update.{Add}
-use Rattle.model_graph.specs.Graph.{Decl, OrSet, Union}
+use Rattle.model_graph.specs.Graph.{OrSet, Union}
 use Rattle.model_journal.specs.Entry.{Update, Bind, Act, Entry, Frame}
 
 -- one replica, with the graph of a, b and c

@@ -4,3 +4,4 @@ pub mod Journal
 pub mod Clean
 pub mod Legal
 pub mod Example
+pub mod Message

@@ -6,6 +6,7 @@ mod derived;
 mod entries;
 mod evaluation;
 mod example;
+mod message;
 mod prefixes;
 mod valid;
 
@@ -21,5 +22,6 @@ pub use entries::{
 };
 pub use evaluation::{evaluation_is_monotone, evaluation_solves_the_equations};
 pub use example::a_late_bind_changes_nothing;
+pub use message::messages_may_be_delivered;
 pub use prefixes::journals_only_grow;
 pub use valid::contents_stay_valid;
