@@ -19,6 +19,7 @@ abbrev pub greatest_read : Journal → List (ℕ × ℕ) → ℕ → ℕ → ℕ
 greatest_read j [] y x = 0
 greatest_read j (b ∷ binds) y x = if b.0 == y then max ((snapshot_at j b.1).versions x) (greatest_read j binds y x) else greatest_read j binds y x
 
+-- what y has applied of x after the entries
 abbrev pub applied : Frame → List Entry → ℕ → ℕ → ℕ
 applied X entries y x = greatest_read (journal X entries) (journal X entries).binds y x
 
@@ -31,6 +32,7 @@ abbrev pub greatest_bound : List (ℕ × ℕ) → ℕ → ℕ
 greatest_bound [] y = 0
 greatest_bound (b ∷ binds) y = if b.0 == y then max b.1 (greatest_bound binds y) else greatest_bound binds y
 
+-- the base of y after the entries
 abbrev pub base : Frame → List Entry → ℕ → ℕ
 base X entries y = greatest_bound (journal X entries).binds y
 

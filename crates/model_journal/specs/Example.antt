@@ -13,6 +13,7 @@ example_frame = record {
   nodes = 1;
 }
 
+-- an act with its caller's number
 abbrev pub entry : ℕ → Act → Entry
 entry by act = record { by = by; act = act }
 

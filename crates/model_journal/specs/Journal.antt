@@ -25,6 +25,7 @@ pub record Journal : Type 0 where
 abbrev pub snapshot_at : Journal → ℕ → Snapshot
 snapshot_at j n = slice_index_or j.past n j.now
 
+-- how many updates of replica q are known
 abbrev pub count_at : List ℕ → ℕ → ℕ
 count_at counts q = slice_index_or counts q 0
 
@@ -47,6 +48,7 @@ gain X j (Deliver m) x = if is_source (kind_at j.now.graph x) then Some (sent_at
 gain X j (Bind y n) x = if x == y then Some (equation (kind_at j.now.graph y) (snapshot_at j n).contents) else None
 gain X j (Extend d) x = None
 
+-- a content with what it gains
 abbrev pub with_gain : Content → Option Content → Content
 with_gain s None = s
 with_gain s (Some t) = join_contents s t
@@ -63,9 +65,11 @@ opened (Deliver m) = []
 opened (Bind y n) = []
 opened (Extend d) = least ∷ []
 
+-- the contents after an act
 abbrev pub contents_after : Frame → Journal → Act → List Content
 contents_after X j act = gained (gain X j act) 0 j.now.contents ++ opened act
 
+-- the graph after an act
 abbrev pub graph_after : List Decl → Act → List Decl
 graph_after g (Update y op) = g
 graph_after g (Deliver m) = g
@@ -78,6 +82,7 @@ greater_counts [] ds = []
 greater_counts (c ∷ cs) [] = c ∷ cs
 greater_counts (c ∷ cs) (d ∷ ds) = max c d ∷ greater_counts cs ds
 
+-- the counts after an act: an update is counted at its replica
 abbrev pub counts_after : Frame → List ℕ → Act → List ℕ
 counts_after X counts (Update y op) = slice_set counts X.replica (count_at counts X.replica + 1)
 counts_after X counts (Deliver m) = greater_counts counts m.counts
@@ -88,12 +93,14 @@ counts_after X counts (Extend d) = counts
 abbrev pub version_after : ℕ → Content → Content → ℕ
 version_after version old new = if is_content_at_most new old then version else version + 1
 
+-- the binds after an act
 abbrev pub binds_after : List (ℕ × ℕ) → Act → List (ℕ × ℕ)
 binds_after binds (Update y op) = binds
 binds_after binds (Deliver m) = binds
 binds_after binds (Bind y n) = (y, n) ∷ binds
 binds_after binds (Extend d) = binds
 
+-- what stands after an act
 abbrev pub snapshot_after : Frame → Journal → Act → Snapshot
 snapshot_after X j act = record {
   graph = graph_after j.now.graph act;
@@ -106,6 +113,7 @@ snapshot_after X j act = record {
 abbrev pub next : Frame → Journal → Entry → Journal
 next X j e = record { past = j.past ++ j.now ∷ []; now = snapshot_after X j e.act; binds = binds_after j.binds e.act }
 
+-- the journal with these entries more
 abbrev pub run : Frame → Journal → List Entry → Journal
 run X j [] = j
 run X j (e ∷ entries) = run X (next X j e) entries
@@ -118,9 +126,11 @@ start X = record {
   binds = [];
 }
 
+-- the journal of a list of entries
 abbrev pub journal : Frame → List Entry → Journal
 journal X entries = run X (start X) entries
 
+-- the graph after the entries
 abbrev pub graph : Frame → List Entry → List Decl
 graph X entries = (journal X entries).now.graph
 
@@ -128,9 +138,11 @@ graph X entries = (journal X entries).now.graph
 abbrev pub vals : Frame → List Entry → List Content
 vals X entries = (journal X entries).now.contents
 
+-- the content of one variable after the entries
 abbrev pub val : Frame → List Entry → ℕ → Content
 val X entries x = content_at (vals X entries) x
 
+-- how many updates of each replica are known after the entries
 abbrev pub counts : Frame → List Entry → List ℕ
 counts X entries = (journal X entries).now.counts
 
@@ -140,6 +152,7 @@ sources_from [] contents = []
 sources_from (d ∷ g) [] = []
 sources_from (d ∷ g) (s ∷ contents) = (if is_source d.kind then s else least) ∷ sources_from g contents
 
+-- the source part after the entries
 abbrev pub sources : Frame → List Entry → List Content
 sources X entries = sources_from (graph X entries) (vals X entries)
 
@@ -150,6 +163,7 @@ declared_by (Deliver m) = []
 declared_by (Bind y n) = []
 declared_by (Extend d) = d ∷ []
 
+-- what a list of entries declares
 abbrev pub declared : List Entry → List Decl
 declared [] = []
 declared (e ∷ entries) = declared_by e.act ++ declared entries

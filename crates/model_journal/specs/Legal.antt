@@ -13,10 +13,11 @@ use Rattle.model_journal.specs.Entry.{Act, Update, Deliver, Bind, Extend, Entry,
 use Rattle.model_journal.specs.Clean.{IsInput}
 use Rattle.model_journal.specs.Journal.{Journal, Snapshot, snapshot_at, count_at, next, start}
 
--- the most variables, and the most updates of one replica
+-- the most variables of a graph
 abbrev pub variable_limit : ℕ
 variable_limit = 64
 
+-- the most updates of one replica
 abbrev pub count_limit : ℕ
 count_limit = 100000
 
@@ -29,6 +30,7 @@ abbrev pub width_of : Kind → List ℕ → ℕ
 width_of OrSet widths = 1
 width_of (Union x y) widths = max (slice_index_or widths x 0) (slice_index_or widths y 0)
 
+-- the widths of declarations after those of the ones before them
 abbrev pub widths_from : List Decl → List ℕ → List ℕ
 widths_from [] done = done
 widths_from (d ∷ g) done = widths_from g (done ++ width_of d.kind done ∷ [])

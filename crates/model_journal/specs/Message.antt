@@ -11,5 +11,6 @@ sent_from [] contents = []
 sent_from (d ∷ g) [] = []
 sent_from (d ∷ g) (s ∷ contents) = if is_source d.kind then record { decl = d; content = s } ∷ sent_from g contents else sent_from g contents
 
+-- the message after the entries
 abbrev pub message : Frame → List Entry → Message
 message X entries = record { counts = counts X entries; sources = sent_from (graph X entries) (vals X entries) }
