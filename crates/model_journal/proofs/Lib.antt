@@ -1,0 +1,13 @@
+pub mod PlaceLaws
+pub mod ContentLaws
+pub mod EvalLaws
+pub mod StepLaws
+pub mod GoodLaws
+pub mod JournalLaws
+pub mod CleanLaws
+pub mod WordLaws
+pub mod EntryLaws
+pub mod EvaluationLaws
+pub mod ExampleLaws
+pub mod ValidLaws
+pub mod MessageLaws

@@ -1,0 +1,60 @@
+-- What a replica's message has, and that it may be delivered where the graph begins as the sender's.
+use Rattle.std.proofs.Common.{◌≡◌, ℕ, zero, suc, ◌+◌, ◌<◌, Bool, true, false, if◌then◌else◌, IsTrue, List, [], ◌∷◌, ◌++◌, length, map, cond, refl, sym, ap, ◌∙◌, arith}
+use Rattle.model_states.specs.Content.{Content}
+use Rattle.model_graph.specs.Graph.{Decl, is_source, kind_at}
+use Rattle.model_graph.specs.Evaluation.{content_at}
+use Rattle.model_journal.specs.Entry.{Sent, Deliver, Entry, Frame}
+use Rattle.model_journal.specs.Journal.{sent_at, source_number, journal, graph, vals, val}
+use Rattle.model_journal.specs.Message.{sent_from, message}
+use Rattle.model_journal.specs.Legal.{sources_among, IsLawful, IsLegal}
+use Rattle.model_journal.proofs.JournalLaws.{journal-good, counts-length}
+
+pub sent-is : (g : List Decl) (ss : List Content) (x : ℕ) → x < length g → length ss ≡ length g → IsTrue (is_source (kind_at g x)) → sent_at (sent_from g ss) (source_number g x) ≡ content_at ss x
+sent-is [] ss x low long source = absurd (omega (arith, low))
+sent-is (d ∷ g) [] x low long source = absurd (omega (arith, long))
+sent-is (d ∷ g) (s ∷ ss) zero low long source = ap (λ (b : Bool). sent_at (if b then record { decl = d; content = s } ∷ sent_from g ss else sent_from g ss) 0) source
+sent-is (d ∷ g) (s ∷ ss) (suc x) low long source = choose (is_source d.kind) (sent-is g ss x (omega (arith, low)) (omega (arith, long)) source) where
+  first : Sent
+  first = record { decl = d; content = s }
+
+  choose : (b : Bool) → sent_at (sent_from g ss) (source_number g x) ≡ content_at ss x
+      → sent_at (if b then first ∷ sent_from g ss else sent_from g ss) (if b then source_number g x + 1 else source_number g x) ≡ content_at ss x
+  choose true rest = (let next : source_number g x + 1 ≡ suc (source_number g x) = omega arith in ap (λ (i : ℕ). sent_at (first ∷ sent_from g ss) i) next) ∙ rest
+  choose false rest = rest
+
+sent-among : (g : List Decl) (ss : List Content) → length ss ≡ length g → map (λ s. s.decl) (sent_from g ss) ≡ sources_among g
+sent-among [] ss long = refl
+sent-among (d ∷ g) [] long = absurd (omega (arith, long))
+sent-among (d ∷ g) (s ∷ ss) long = choose (is_source d.kind) (sent-among g ss (omega (arith, long))) where
+  first : Sent
+  first = record { decl = d; content = s }
+
+  choose : (b : Bool) → map (λ s. s.decl) (sent_from g ss) ≡ sources_among g
+      → map (λ s. s.decl) (if b then first ∷ sent_from g ss else sent_from g ss) ≡ cond b (d ∷ sources_among g) (sources_among g)
+  choose true rest = ap (λ (ds : List Decl). d ∷ ds) rest
+  choose false rest = rest
+
+among-append : (g more : List Decl) → sources_among (g ++ more) ≡ sources_among g ++ sources_among more
+among-append [] more = refl
+among-append (d ∷ g) more = choose (is_source d.kind) (among-append g more) where
+  choose : (b : Bool) → sources_among (g ++ more) ≡ sources_among g ++ sources_among more
+      → cond b (d ∷ sources_among (g ++ more)) (sources_among (g ++ more)) ≡ cond b (d ∷ sources_among g) (sources_among g) ++ sources_among more
+  choose true rest = ap (λ (ds : List Decl). d ∷ ds) rest
+  choose false rest = rest
+
+pub message-source : (X : Frame) (h : List Entry) → IsLegal X h → (x : ℕ) → x < length (graph X h) → IsTrue (is_source (kind_at (graph X h) x)) → sent_at (message X h).sources (source_number (graph X h) x) ≡ val X h x
+message-source X h legal x low source = sent-is (graph X h) (vals X h) x low (journal-good X h legal).shape source
+
+-- a replica may take in what another one knows, where its graph goes on from the other's
+pub message-lawful : (X Z : Frame) (h k : List Entry) (more : List Decl) → IsLegal X h → X.nodes ≡ Z.nodes → graph X h ++ more ≡ graph Z k → IsLawful Z (journal Z k) (Deliver (message X h))
+message-lawful X Z h k more legal nodes grown = (
+  counts-length X h ∙ nodes,
+  (
+    sources_among more,
+    ap (λ (ds : List Decl). ds ++ sources_among more) (sent-among (graph X h) (vals X h) (journal-good X h legal).shape)
+        ∙ sym (among-append (graph X h) more)
+        ∙ ap sources_among grown,
+  ),
+)
+
+pub ruleset messages = (message-source)

@@ -1,0 +1,11 @@
+use Rattle.model_journal.proofs.ValidLaws.{valid-join, valid-delta, valid-equation}
+use Rattle.model_journal.proofs.valid.contents_stay_valid.Goals as goal
+
+pub returns-clause-join : goal.returns-clause-join
+returns-clause-join c = valid-join
+
+pub returns-clause-delta : goal.returns-clause-delta
+returns-clause-delta c = valid-delta
+
+pub returns-clause-equation : goal.returns-clause-equation
+returns-clause-equation c = valid-equation

@@ -1,0 +1,36 @@
+-- What a replica writes down: one entry for each change.
+use Rattle.std.specs.Prelude.{ℕ, List}
+use Rattle.model_states.specs.Content.{Content}
+use Rattle.model_states.specs.Update.{Op}
+use Rattle.model_graph.specs.Graph.{Decl}
+
+-- a source in a message: its declaration and what it holds
+pub record Sent : Type 0 where
+  pub decl : Decl
+  pub content : Content
+
+-- a message of a replica: how many updates of each replica it knows, and its sources in their order
+pub record Message : Type 0 where
+  pub counts : List ℕ
+  pub sources : List Sent
+
+pub data Act : Type 0 where
+  -- an update of a source
+  Update : ℕ → Op → Act
+  -- a message is joined in
+  Deliver : Message → Act
+  -- a derived variable takes in its equation on the contents that stood after the first so many entries
+  Bind : ℕ → ℕ → Act
+  -- a variable is declared
+  Extend : Decl → Act
+
+-- an act with the number of the caller who made it
+pub record Entry : Type 0 where
+  pub by : ℕ
+  pub act : Act
+
+-- what no entry changes: the graph that the replica opened with, its number, and how many replicas there are
+pub record Frame : Type 0 where
+  pub opening : List Decl
+  pub replica : ℕ
+  pub nodes : ℕ
