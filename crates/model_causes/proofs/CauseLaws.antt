@@ -1,5 +1,5 @@
 -- One file of a plan after the other, over told contents.
-use Rattle.std.proofs.Common.{refl, sym, ap, ◌∙◌}
+use Rattle.std.proofs.Common.{refl, ap, ◌∙◌}
 use Rattle.std.specs.Prelude.{◌≡◌, ◌<◌, ◌≤◌, ℕ, List, length, Option, Some, option_and_then, Result, Ok, Err, Bool, if◌then◌else◌}
 use Rattle.std.proofs.lemmas.Bool.{le-ltb, lt-ltb}
 use Rattle.model_program.specs.Plan.{Answer, Plan, Says, checked, within, reading, file_limit, word_at, told_answer}

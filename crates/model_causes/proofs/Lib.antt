@@ -1,1 +1,3 @@
 mod CauseLaws
+mod FirstLaws
+mod FirstCommandLaws

@@ -8,11 +8,10 @@ use Rattle.model_world.specs.Report.{report_of}
 use Rattle.model_world.specs.declared.stop.Stop.{Stop}
 use Rattle.model_readings.specs.Graph.{graph_of}
 use Rattle.model_readings.specs.Script.{script_of}
-use Rattle.model_program.specs.Plan.{Plan, Says, told_answer, word_at, file_limit, checked}
+use Rattle.model_program.specs.Plan.{Says, told_answer, word_at, file_limit, checked}
 use Rattle.model_program.specs.Program.{form, plan, plan_of, running_script, run_answer, graph_refused, script_refused, stopped}
 use Rattle.model_program.specs.declared.form.Form.{Form}
 use Rattle.model_program.specs.declared.form.Form.TheVariants.{Plain, Wrong}
-use Rattle.model_program.specs.declared.refusal.Refusal.{Refusal}
 use Rattle.model_program.specs.declared.refusal.Refusal.TheVariants as refusal
 use Rattle.model_causes.proofs.CauseLaws.{told-short, told-long, told-checked, told-refused, told-answer}
 use Rattle.model_causes.proofs.causes_of_answers.Goals as goal
