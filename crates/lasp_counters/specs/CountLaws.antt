@@ -1,8 +1,8 @@
 -- The laws of counts: each by what the nodes counted, and equality last.
-use Rattle.std.proofs.Common.{◌≡◌, ℕ, zero, suc, ◌+◌, ◌*◌, ◌≤◌, ◌<◌, max, min, List, [], ◌∷◌, length, replicate, refl, sym, ap, ◌∙◌, arith, slice_index_or, slice_set, sum, take, drop, ◌++◌, subst}
+use Rattle.std.proofs.Common.{◌≡◌, ℕ, zero, suc, ◌*◌, ◌≤◌, ◌<◌, max, List, [], ◌∷◌, length, refl, sym, ap, ◌∙◌, arith, sum, take, drop, ◌++◌, subst}
 use Rattle.std.proofs.lemmas.List.{take_at}
 use Rattle.std.proofs.lemmas.List.Sums.{sum_by-cons}
-use Rattle.lasp_counters.specs.Counts.{count_max, count_at, AreCounts, zeros, larger, AreAtMost, HaveSameNodes, inc_delta}
+use Rattle.lasp_counters.specs.Counts.{count_max, count_at, AreCounts, zeros, larger, AreAtMost, HaveSameNodes}
 
 pub count_at-larger : (s t : List ℕ) (node : ℕ) → HaveSameNodes s t → count_at (larger s t) node ≡ max (count_at s node) (count_at t node)
 count_at-larger [] [] node e = omega arith

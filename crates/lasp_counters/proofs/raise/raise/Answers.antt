@@ -1,4 +1,4 @@
-use Rattle.std.proofs.Common.{arith, ◌≡◌, ◌<◌, ◌≤◌, ◌+◌, ℕ, max, true, length, ap, ◌∙◌, slice_index_or, slice_set}
+use Rattle.std.proofs.Common.{arith, ◌≡◌, ◌<◌, ◌+◌, max, true, length, ap, ◌∙◌, slice_index_or, slice_set}
 use Rattle.lasp_lattice.proofs.PlacesLaws.{joined_first, joined_first-all}
 use Rattle.lasp_counters.proofs.RaiseLaws.{raised-more, raised-same, raised-branch}
 use Rattle.lasp_counters.proofs.raise.raise.Goals.{then-counts-i, else-counts-i}

@@ -1,4 +1,4 @@
-use Rattle.std.proofs.Common.{arith, rules, ◌≡◌, ◌∙◌, ap, sym, subst, length}
+use Rattle.std.proofs.Common.{rules, ◌≡◌, ◌∙◌, ap, sym, subst, length}
 use Rattle.lasp_counters.specs.Counts.{AreCounts, HaveSameNodes, larger}
 use Rattle.lasp_counters.specs.CountLaws.{counts-written, counts-larger, length-larger}
 use Rattle.lasp_counters.proofs.counter.GCount.raise.Goals as goal
