@@ -1,4 +1,4 @@
-//! The plainer states: the counter, which has a count for each node, the register, which keeps the greatest number, and the set that only grows.
+//! The plainer states: the counter, which has a count for each node, and the register, which keeps the greatest number.
 //! Each one is a lattice: it changes only by joining, and joining the same again changes nothing.
 #![tactic(auto)]
 
