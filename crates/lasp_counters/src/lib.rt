@@ -1,0 +1,13 @@
+//! The plainer states: the counter, which has a count for each node, and the register, which keeps the greatest number.
+//! Each one is a lattice: it changes only by joining, and joining the same again changes nothing.
+#![tactic(auto)]
+
+mod counter;
+mod raise;
+mod register;
+
+pub use counter::{COUNT_MAX, GCount};
+pub use register::MaxReg;
+
+#[cfg(test)]
+mod tests;
