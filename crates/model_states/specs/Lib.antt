@@ -1,2 +1,5 @@
+pub mod Counts
+pub mod Register
 pub mod Content
 pub mod Update
+pub mod Threshold

@@ -1,0 +1,2 @@
+//! What the operations of stored functions mean on plain values: definitions and laws, no code.
+#![tactic(auto)]
