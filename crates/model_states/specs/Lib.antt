@@ -3,3 +3,4 @@ pub mod Register
 pub mod Content
 pub mod Update
 pub mod Threshold
+pub mod Shape
