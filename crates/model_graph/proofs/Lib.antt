@@ -1,0 +1,6 @@
+pub mod PlaceLaws
+pub mod EquationLaws
+pub mod EvalLaws
+pub mod ShownLaws
+pub mod WidthLaws
+pub mod GroupLaws

@@ -1,10 +1,18 @@
 -- The plain algebra of a graph: evaluation over sets of values, without tokens.
-use Rattle.std.specs.Prelude.{ℕ, List, [], ◌∷◌, ◌++◌, length, if◌then◌else◌, slice_index_or}
+use Rattle.std.specs.Prelude.{ℕ, ◌<◌, Bool, IsTrue, List, [], ◌∷◌, ◌++◌, length, map, if◌then◌else◌, slice_index_or}
 use Rattle.model_values.specs.Value.{Val}
 use Rattle.model_functions.specs.Map.{mapped}
 use Rattle.model_functions.specs.Predicate.{passes}
-use Rattle.model_sets.specs.Algebra.{plain_map, plain_filter, plain_union, plain_product, plain_intersection}
-use Rattle.model_graph.specs.Graph.{Kind, OrSet, GSet, Counter, MaxReg, Union, Product, Intersection, Map, Filter, Fold, Decl, is_source}
+use Rattle.model_sets.specs.Rows.{IsAscending}
+use Rattle.model_sets.specs.Values.{visible}
+use Rattle.model_sets.specs.Algebra.{plain_map, plain_filter, plain_union, plain_product, plain_intersection, IsMarkedBy}
+use Rattle.model_states.specs.Content.{Content}
+use Rattle.model_graph.specs.Graph.{Kind, OrSet, GSet, Counter, MaxReg, Union, Product, Intersection, Map, Filter, Fold, Decl, is_source, kind_at}
+use Rattle.model_graph.specs.Evaluation.{rows_at}
+
+-- what each variable shows, as sets of values
+abbrev pub visible_sets : List Content → List (List Val)
+visible_sets contents = map (λ s. visible s.rows) contents
 
 -- the values of the variable at a place; none where there is none
 abbrev pub values_at : List (List Val) → ℕ → List Val
@@ -34,3 +42,7 @@ algebra_from (d ∷ g) done sources = algebra_from g (done ++ plain_evaluated d.
 -- the values of every variable from those of the sources
 abbrev pub algebra : List Decl → List (List Val) → List (List Val)
 algebra g sources = algebra_from g [] sources
+
+-- the rows of every source are in order, and dead exactly where a token is one of the dead
+abbrev pub AreMarkedSources : (ℕ → ℕ → Bool) → List Decl → List Content → Type 0
+AreMarkedSources dead g sources = (x : ℕ) → x < length g → IsTrue (is_source (kind_at g x)) → IsAscending (rows_at sources x) × IsMarkedBy dead (rows_at sources x)

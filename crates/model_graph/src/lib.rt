@@ -1,2 +1,14 @@
-//! Graphs of variables and their evaluation from scratch: definitions and laws, no code.
+//! Graphs of variables and their evaluation from scratch. There is nothing to run here: each function's contract is a group of laws.
 #![tactic(auto)]
+
+mod equations;
+mod evaluation;
+mod folds;
+mod shown;
+mod widths;
+
+pub use equations::equations_follow_their_inputs;
+pub use evaluation::{evaluation_follows_the_sources, evaluation_solves_the_equations};
+pub use folds::folds_combine_a_group;
+pub use shown::evaluation_shows_the_algebra;
+pub use widths::variables_are_of_their_widths;
