@@ -1,3 +1,4 @@
 pub mod Map
 pub mod Predicate
 pub mod Lift
+pub mod Library

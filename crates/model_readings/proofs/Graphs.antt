@@ -1,53 +1,135 @@
 -- What is read of a graph is lawful.
-use Rattle.std.proofs.Common.{◌≡◌, ap, refl, subst, ℕ, zero, suc, ◌<◌, List, [], ◌∷◌, ◌++◌, length, take, true, Option, Some, None, is_none, Ok, nat_lt, arith, length-append}
+use Rattle.std.proofs.Common.{◌≡◌, ap, refl, subst, ℕ, zero, suc, ◌<◌, List, [], ◌∷◌, ◌++◌, length, take, true, Option, Some, None, is_none, option_map, option_and_then, Ok, nat_lt, nat_le, arith, length-append}
 use Rattle.std.specs.List.{slice_get}
-use borrow.Author.Tests.{ltb-true}
+use borrow.Author.Tests.{ltb-true, leb-true}
 use Rattle.serde_json.specs.Data.{Data}
 use Rattle.serde_json.specs.Find.{as_array}
+use Rattle.model_functions.specs.Library.{Library, place_named, operations_at}
 use Rattle.model_graph.specs.Chain.{or_else}
-use Rattle.model_graph.specs.Graph.{Kind, OrSet, Union, Decl, is_set, decl_at}
+use Rattle.model_graph.specs.Graph.{Kind, OrSet, GSet, Counter, MaxReg, Union, Product, Intersection, Map, Filter, Decl, is_set, decl_at}
+use Rattle.model_graph.specs.Lawful.{variable_limit, width_limit, width_of, widths, IsKind}
 use Rattle.lasp_value.specs.Name.{is_name}
 use Rattle.model_readings.specs.declared.graph_why.GraphWhy.TheVariants as why
 use Rattle.model_readings.specs.Tree.{json_of, list_of}
-use Rattle.model_readings.specs.Graph.{variable_limit, Form, orset, union, written_of, place_of, known, union_read, kind_read, declaration, decl_read, next_read, numbered, decls_read, tree_read, graph_of}
-use Rattle.model_readings.specs.Lawful.{IsSetAt, AreInputs, IsNext, IsGraph}
+use Rattle.model_readings.specs.Graph.{Form, orset, gset, counter, maxreg, union, product, intersection, map, filter, written_of, place_of, known, stored, function_named, pair_read, function_read, kind_read, declaration, decl_read, next_read, numbered, decls_read, tree_read, graph_of}
+use Rattle.model_readings.specs.Lawful.{IsSetAt, AreInputs, Fits, IsNext, IsGraph, FitsAll}
 use Rattle.model_readings.proofs.Chains.{passed, check_passed, or_else_passed, refusing_passed}
 use Rattle.model_readings.proofs.Names.{none_named, found_at}
 
 set_at : (before : List Decl) (x : List ℕ) (i : ℕ) → known before x ≡ Ok i → is_set (decl_at before i).kind ≡ true → IsSetAt before i
 set_at before x i k set = record { decl = decl_at before i; declared = found_at x before i (or_else_passed (place_of x before) why.UnknownInput i k); set = set }
 
-inputs-union : (before : List Decl) (x y : List ℕ) (kind : Kind) → union_read before x y ≡ Ok kind → AreInputs before kind
-unfolding union_read
-inputs-union before x y kind e =
+-- what a process over two sets is, when it is read
+record IsPairRead (before : List Decl) (make : ℕ → ℕ → Kind) (kind : Kind) : Type 0 where
+  first : ℕ
+  second : ℕ
+  made : make first second ≡ kind
+  first_set : IsSetAt before first
+  second_set : IsSetAt before second
+
+pair-read : (before : List Decl) (make : ℕ → ℕ → Kind) (x y : List ℕ) (kind : Kind) → pair_read before make x y ≡ Ok kind → IsPairRead before make kind
+unfolding pair_read
+pair-read before make x y kind e =
     let i = passed (known before x) _ kind e in
     let j = passed (known before y) _ kind i.then in
     let s = check_passed (is_set (decl_at before i.value).kind) why.WrongKind _ kind j.then in
     let t = check_passed (is_set (decl_at before j.value).kind) why.WrongKind _ kind s.1 in
-    let same : Union i.value j.value ≡ kind = cc in
-    subst (AreInputs before) same (set_at before x i.value i.first s.0, set_at before y j.value j.first t.0)
+    let same : make i.value j.value ≡ kind = cc in
+    record { first = i.value; second = j.value; made = same; first_set = set_at before x i.value i.first s.0; second_set = set_at before y j.value j.first t.0 }
 
-inputs : (before : List Decl) (form : Form) (kind : Kind) → kind_read before form ≡ Ok kind → AreInputs before kind
-inputs before orset kind e = let same : OrSet ≡ kind = cc in subst (AreInputs before) same tt
-inputs before (union x y) kind e = inputs-union before x y kind e
+-- what a process that applies a function is, when it is read
+record IsFunctionRead {A : Type 0} (before : List Decl) (functions : List (List ℕ × A)) (make : ℕ → ℕ → A → Kind) (kind : Kind) : Type 0 where
+  input : ℕ
+  place : ℕ
+  ops : A
+  made : make input place ops ≡ kind
+  set : IsSetAt before input
+  stored : operations_at functions place ≡ Some ops
+
+stored-at : {A : Type 0} (functions : List (List ℕ × A)) (place : ℕ) (o : Option A) (p : ℕ × A)
+    → operations_at functions place ≡ o → option_map (λ (ops : A). (place, ops)) o ≡ Some p → operations_at functions p.0 ≡ Some p.1
+stored-at functions place None p e h = cc
+stored-at {A} functions place (Some ops) p e h =
+    let same : (place, ops) ≡ p = cc in
+    subst (λ (q : ℕ × A). operations_at functions q.0 ≡ Some q.1) same e
+
+function-stored : {A : Type 0} (functions : List (List ℕ × A)) (o : Option ℕ) (p : ℕ × A)
+    → option_and_then (stored functions) o ≡ Some p → operations_at functions p.0 ≡ Some p.1
+function-stored functions None p h = cc
+function-stored functions (Some place) p h = stored-at functions place (operations_at functions place) p refl h
+
+function-read : {A : Type 0} (before : List Decl) (functions : List (List ℕ × A)) (make : ℕ → ℕ → A → Kind) (x f : List ℕ) (kind : Kind)
+    → function_read before functions make x f ≡ Ok kind → IsFunctionRead before functions make kind
+unfolding function_read function_named
+function-read before functions make x f kind e =
+    let i = passed (known before x) _ kind e in
+    let s = check_passed (is_set (decl_at before i.value).kind) why.WrongKind _ kind i.then in
+    let p = passed (or_else (option_and_then (stored functions) (place_named f functions)) why.UnknownFunction) _ kind s.1 in
+    let same : make i.value p.value.0 p.value.1 ≡ kind = cc in
+    record {
+      input = i.value;
+      place = p.value.0;
+      ops = p.value.1;
+      made = same;
+      set = set_at before x i.value i.first s.0;
+      stored = function-stored functions (place_named f functions) p.value (or_else_passed _ why.UnknownFunction p.value p.first);
+    }
+
+-- what is read of a form: its inputs are sets, its function is the library's, and what else it says can be done
+record IsKindRead (lib : Library) (before : List Decl) (kind : Kind) : Type 0 where
+  inputs : AreInputs before kind
+  fits : Fits lib kind
+  sound : IsKind kind
+
+kind-read : (lib : Library) (before : List Decl) (form : Form) (kind : Kind) → kind_read lib before form ≡ Ok kind → IsKindRead lib before kind
+kind-read lib before orset kind e = let same : OrSet ≡ kind = cc in subst (IsKindRead lib before) same (record { inputs = tt; fits = tt; sound = tt })
+kind-read lib before gset kind e = let same : GSet ≡ kind = cc in subst (IsKindRead lib before) same (record { inputs = tt; fits = tt; sound = tt })
+kind-read lib before counter kind e = let same : Counter ≡ kind = cc in subst (IsKindRead lib before) same (record { inputs = tt; fits = tt; sound = tt })
+kind-read lib before maxreg kind e = let same : MaxReg ≡ kind = cc in subst (IsKindRead lib before) same (record { inputs = tt; fits = tt; sound = tt })
+kind-read lib before (union x y) kind e =
+    let r = pair-read before Union x y kind e in
+    subst (IsKindRead lib before) r.made (record { inputs = (r.first_set, r.second_set); fits = tt; sound = tt })
+kind-read lib before (product x y) kind e =
+    let r = pair-read before Product x y kind e in
+    subst (IsKindRead lib before) r.made (record { inputs = (r.first_set, r.second_set); fits = tt; sound = tt })
+kind-read lib before (intersection x y) kind e =
+    let r = pair-read before Intersection x y kind e in
+    subst (IsKindRead lib before) r.made (record { inputs = (r.first_set, r.second_set); fits = tt; sound = tt })
+kind-read lib before (map x f) kind e =
+    let r = function-read before lib.maps Map x f kind e in
+    subst (IsKindRead lib before) r.made (record { inputs = r.set; fits = r.stored; sound = tt })
+kind-read lib before (filter x p) kind e =
+    let r = function-read before lib.predicates Filter x p kind e in
+    subst (IsKindRead lib before) r.made (record { inputs = r.set; fits = r.stored; sound = tt })
 
 is_none-None : {A : Type 0} (o : Option A) → is_none o ≡ true → o ≡ None
 is_none-None None e = refl
 is_none-None (Some x) e = cc
 
--- a declaration that is read may follow those before it
-pub next-decl_read : (before : List Decl) (d : Data) (decl : Decl) → decl_read before d ≡ Ok decl → IsNext before decl
+-- a declaration that is read may follow those before it, and its function is the library's
+pub record IsDeclRead (lib : Library) (before : List Decl) (d : Decl) : Type 0 where
+  pub next : IsNext before d
+  pub fits : Fits lib d.kind
+
+pub next-decl_read : (lib : Library) (before : List Decl) (d : Data) (decl : Decl) → decl_read lib before d ≡ Ok decl → IsDeclRead lib before decl
 unfolding decl_read
-next-decl_read before d decl e =
+next-decl_read lib before d decl e =
     let w = passed (or_else (written_of d) why.Shape) _ decl e in
     let shape = check_passed (is_name w.value.name) why.NameShape _ decl w.then in
     let new = check_passed (is_none (place_of w.value.name before)) why.NameTaken _ decl shape.1 in
-    let k = passed (kind_read before w.value.form) _ decl new.1 in
+    let k = passed (kind_read lib before w.value.form) _ decl new.1 in
+    let narrow = check_passed (nat_le (width_of k.value (widths before)) width_limit) why.TooWide _ decl k.then in
+    let read = kind-read lib before w.value.form k.value k.first in
     let same : declaration w.value.name k.value ≡ decl = cc in
-    subst (IsNext before) same (record {
-      shape = shape.0;
-      new = none_named w.value.name before (is_none-None (place_of w.value.name before) new.0);
-      inputs = inputs before w.value.form k.value k.first;
+    subst (IsDeclRead lib before) same (record {
+      next = record {
+        shape = shape.0;
+        new = none_named w.value.name before (is_none-None (place_of w.value.name before) new.0);
+        inputs = read.inputs;
+        kind = read.sound;
+        narrow = leb-true _ _ narrow.0;
+      };
+      fits = read.fits;
     })
 
 -- an element of a list and one more is one of the list's, or the last
@@ -76,19 +158,38 @@ graph-push g d good room next = record {
   each = λ i e at. next_pushed g d good next i e (pushed g d i e at);
 }
 
-graph-decls_read : (before : List Decl) (ds : List Data) (g : List Decl) → IsGraph before → decls_read before ds ≡ Ok g → IsGraph g
-unfolding decls_read next_read
-graph-decls_read before [] g good e = let same : before ≡ g = cc in subst IsGraph same good
-graph-decls_read before (d ∷ ds) g good e =
-    let decl = passed (numbered (length before) (next_read before d)) _ g e in
-    let read = refusing_passed (λ w. (length before, w)) (next_read before d) decl.value decl.first in
-    let room = check_passed (nat_lt (length before) variable_limit) why.TooMany _ decl.value read in
-    graph-decls_read (before ++ decl.value ∷ []) ds g
-    (graph-push before decl.value good (ltb-true _ _ room.0) (next-decl_read before d decl.value room.1)) decl.then
+fits_pushed : (lib : Library) (g : List Decl) (d : Decl) → FitsAll lib g → Fits lib d.kind → (i : ℕ) (e : Decl) → Pushed g d i e → Fits lib e.kind
+fits_pushed lib g d good fits i e (early at front) = good i e at
+fits_pushed lib g d good fits i e (late same front) = subst (λ (e : Decl). Fits lib e.kind) same fits
 
-pub graph-graph_of : (bytes : List ℕ) (g : List Decl) → graph_of bytes ≡ Ok g → IsGraph g
+-- the declarations so far
+record AreRead (lib : Library) (g : List Decl) : Type 0 where
+  graph : IsGraph g
+  fits : FitsAll lib g
+
+read-decls_read : (lib : Library) (before : List Decl) (ds : List Data) (g : List Decl) → AreRead lib before → decls_read lib before ds ≡ Ok g → AreRead lib g
+unfolding decls_read next_read
+read-decls_read lib before [] g good e = let same : before ≡ g = cc in subst (AreRead lib) same good
+read-decls_read lib before (d ∷ ds) g good e =
+    let decl = passed (numbered (length before) (next_read lib before d)) _ g e in
+    let read = refusing_passed (λ w. (length before, w)) (next_read lib before d) decl.value decl.first in
+    let room = check_passed (nat_lt (length before) variable_limit) why.TooMany _ decl.value read in
+    let next = next-decl_read lib before d decl.value room.1 in
+    read-decls_read lib (before ++ decl.value ∷ []) ds g
+    (record {
+      graph = graph-push before decl.value good.graph (ltb-true _ _ room.0) next.next;
+      fits = λ i e at. fits_pushed lib before decl.value good.fits next.fits i e (pushed before decl.value i e at);
+    }) decl.then
+
+read-graph_of : (lib : Library) (bytes : List ℕ) (g : List Decl) → graph_of lib bytes ≡ Ok g → AreRead lib g
 unfolding graph_of tree_read
-graph-graph_of bytes g e =
+read-graph_of lib bytes g e =
     let tree = passed (or_else (json_of bytes) (0, why.NotJson)) _ g e in
     let ds = passed (or_else (as_array tree.value) (0, why.Shape)) _ g tree.then in
-    graph-decls_read [] (list_of ds.value) g (record { few = omega arith; each = λ i d at. cc }) ds.then
+    read-decls_read lib [] (list_of ds.value) g (record { graph = record { few = omega arith; each = λ i d at. cc }; fits = λ i d at. cc }) ds.then
+
+pub graph-graph_of : (lib : Library) (bytes : List ℕ) (g : List Decl) → graph_of lib bytes ≡ Ok g → IsGraph g
+graph-graph_of lib bytes g e = (read-graph_of lib bytes g e).graph
+
+pub fits-graph_of : (lib : Library) (bytes : List ℕ) (g : List Decl) → graph_of lib bytes ≡ Ok g → FitsAll lib g
+fits-graph_of lib bytes g e = (read-graph_of lib bytes g e).fits

@@ -2,3 +2,4 @@ pub mod Chains
 pub mod Names
 pub mod Graphs
 pub mod Scripts
+pub mod Forms

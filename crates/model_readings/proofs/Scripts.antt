@@ -1,19 +1,24 @@
 -- What is read of a script is lawful.
-use Rattle.std.proofs.Common.{◌≡◌, refl, subst, ℕ, ◌+◌, ◌<◌, ◌≤◌, List, [], ◌∷◌, ◌++◌, length, Bool, true, false, Option, Some, None, option_and_then, Ok, nat_lt, nat_le, ◌&&◌, arith, length-append}
+use Rattle.std.proofs.Common.{◌≡◌, refl, subst, ℕ, ◌+◌, ◌<◌, ◌≤◌, List, [], ◌∷◌, ◌++◌, length, Bool, true, false, Option, Some, None, option_and_then, Result, Ok, Err, nat_lt, nat_le, ◌&&◌, arith, length-append}
 use Rattle.std.specs.List.{slice_get}
 use Rattle.std.specs.Prelude.{if◌then◌else◌}
-use borrow.Author.Tests.{ltb-true}
+use borrow.Author.Tests.{ltb-true, leb-true}
 use Rattle.serde_json.specs.Data.{Data, Num}
 use Rattle.serde_json.specs.Find.{as_array, as_u64}
 use Rattle.model_values.specs.Value.{Val}
-use Rattle.model_graph.specs.Chain.{or_else}
-use Rattle.model_graph.specs.Graph.{Kind, OrSet, Union, Decl, decl_at}
-use Rattle.model_world.specs.Command.{Command, Add, Remove, Print, Script}
+use Rattle.model_values.specs.Size.{leaves, text_bytes, IsOfWidth}
+use Rattle.model_graph.specs.Chain.{◌>>=◌, or_else}
+use Rattle.model_graph.specs.Graph.{Kind, Decl, decl_at}
+use Rattle.model_world.specs.Command.{Command, Add, Remove, Insert, Inc, Max, Print, Script}
+use Rattle.lasp_value.specs.Json.{written_value, is_source_value, if_source_value, read_value}
+use Rattle.lasp_value.specs.declared.refused.ValueRefused.{ValueRefused}
+use Rattle.lasp_value.specs.declared.refused.ValueRefused.TheVariants as value_why
+use Rattle.model_readings.specs.declared.script_why.ScriptWhy.{ScriptWhy}
 use Rattle.model_readings.specs.declared.script_why.ScriptWhy.TheVariants as why
 use Rattle.model_readings.specs.Tree.{json_of, list_of, number_at, is_word_at, has_items}
 use Rattle.model_readings.specs.Graph.{place_of, numbered}
-use Rattle.model_readings.specs.Script.{node_limit, command_limit, Target, Word, add, remove, print, word_of, below, node_of, value_of, is_orset, place_read, change_read, word_read, command_read, next_read, commands_read, in_range, nodes_of, script_from, parts_read, tree_read, script_of}
-use Rattle.model_readings.specs.Lawful.{IsOrSetAt, IsLawful, IsScript}
+use Rattle.model_readings.specs.Script.{node_limit, command_limit, step_limit, Target, Word, add, remove, insert, inc, max, print, word_of, below, node_of, why_refused, value_read, in_steps, count_read, top_read, is_orset, is_gset, is_counter, is_maxreg, place_read, change_read, change, word_read, command_read, next_read, commands_read, in_range, nodes_of, script_from, parts_read, tree_read, script_of}
+use Rattle.model_readings.specs.Lawful.{IsKindAt, IsLawful, IsScript}
 use Rattle.model_readings.proofs.Chains.{passed, check_passed, or_else_passed, refusing_passed}
 use Rattle.model_readings.proofs.Names.{found_within, found_at}
 use Rattle.model_readings.proofs.Graphs.{Pushed, early, late, pushed}
@@ -45,41 +50,91 @@ place-place_read g nodes t place e =
       declared = found_at t.var g var.value at;
     })
 
-is_orset-OrSet : (k : Kind) → is_orset k ≡ true → k ≡ OrSet
-is_orset-OrSet OrSet e = refl
-is_orset-OrSet (Union x y) e = cc
+-- what an update is, when it is read: a node, a variable of the right kind, and what was read beside them
+record IsChange {A : Type 0} (is_kind : Kind → Bool) (g : List Decl) (nodes : ℕ) (payload : Result A ScriptWhy) (c : ℕ × ℕ × A) : Type 0 where
+  node : c.0 < nodes
+  kind : IsKindAt is_kind g c.1
+  brought : payload ≡ Ok c.2
 
--- a node and an observed-remove set that are read are there
-abbrev IsChange : List Decl → ℕ → ℕ × ℕ × Val → Type 0
-IsChange g nodes c = (c.0 < nodes) × IsOrSetAt g c.1
-
-change-change_read : (g : List Decl) (nodes : ℕ) (t : Target) (v : Data) (c : ℕ × ℕ × Val) → change_read g nodes t v ≡ Ok c → IsChange g nodes c
+change-change_read : {A : Type 0} (is_kind : Kind → Bool) (g : List Decl) (nodes : ℕ) (t : Target) (payload : Result A ScriptWhy) (c : ℕ × ℕ × A)
+    → change_read is_kind g nodes t payload ≡ Ok c → IsChange is_kind g nodes payload c
 unfolding change_read
-change-change_read g nodes t v c e =
+change-change_read {A} is_kind g nodes t payload c e =
     let place = passed (place_read g nodes t) _ c e in
     let there = place-place_read g nodes t place.value place.first in
-    let set = check_passed (is_orset (decl_at g place.value.1).kind) why.WrongOp _ c place.then in
-    let value = passed (or_else (value_of v) why.ValueRefused) _ c set.1 in
-    let read : ℕ × ℕ × Val = (place.value.0, place.value.1, value.value) in
+    let right = check_passed (is_kind (decl_at g place.value.1).kind) why.WrongOp _ c place.then in
+    let value = passed payload _ c right.1 in
+    let read : ℕ × ℕ × A = (place.value.0, place.value.1, value.value) in
     let same : read ≡ c = cc in
-    subst (IsChange g nodes) same (
-      there.node,
-      record {
-        decl = decl_at g place.value.1;
-        declared = there.declared;
-        orset = is_orset-OrSet (decl_at g place.value.1).kind set.0;
-      },
-    )
+    subst (IsChange is_kind g nodes payload) same (record {
+      node = there.node;
+      kind = record { decl = decl_at g place.value.1; declared = there.declared; kind = right.0 };
+      brought = value.first;
+    })
+
+-- an update that is read, and what it is
+record IsRead {A : Type 0} (is_kind : Kind → Bool) (g : List Decl) (nodes : ℕ) (payload : Result A ScriptWhy) (command : ℕ → ℕ → A → Command) (k : Command) : Type 0 where
+  parts : ℕ × ℕ × A
+  made : command parts.0 parts.1 parts.2 ≡ k
+  change : IsChange is_kind g nodes payload parts
+
+read-change : {A : Type 0} (is_kind : Kind → Bool) (g : List Decl) (nodes : ℕ) (t : Target) (payload : Result A ScriptWhy) (command : ℕ → ℕ → A → Command) (k : Command)
+    → (change_read is_kind g nodes t payload >>= change command) ≡ Ok k → IsRead is_kind g nodes payload command k
+read-change {A} is_kind g nodes t payload command k e =
+    let c = passed (change_read is_kind g nodes t payload) (change command) k e in
+    let same : command c.value.0 c.value.1 c.value.2 ≡ k = cc in
+    record { parts = c.value; made = same; change = change-change_read is_kind g nodes t payload c.value c.first }
+
+small-tests : (v : Val) (a b : Bool) → nat_le (leaves v) 8 ≡ a → nat_le (text_bytes v) 256 ≡ b → (a && b) ≡ true → IsOfWidth 1 v
+small-tests v true true la lb e = record { leaves = leb-true _ _ la; bytes = leb-true _ _ lb }
+small-tests v true false la lb e = cc
+small-tests v false b la lb e = cc
+
+small-if : (v w : Val) (b : Bool) → is_source_value v ≡ b → (if b then Ok v else Err value_why.TooBig) ≡ Ok w → IsOfWidth 1 w
+small-if v w true t e =
+    let same : v ≡ w = cc in
+    subst (IsOfWidth 1) same (small-tests v _ _ refl refl t)
+small-if v w false t e = cc
+
+small-source : (r : Result Val ValueRefused) (v : Val) → if_source_value r ≡ Ok v → IsOfWidth 1 v
+small-source (Ok w) v e = small-if w v _ refl e
+small-source (Err why) v e = cc
+
+-- a value that is read is small
+small-value_read : (d : Data) (v : Val) → value_read d ≡ Ok v → IsOfWidth 1 v
+unfolding value_read read_value
+small-value_read d v e = small-source (written_value d) v (refusing_passed why_refused (if_source_value (written_value d)) v e)
+
+in_steps-Some : (n k : ℕ) (a b : Bool) → nat_le 1 n ≡ a → nat_le n step_limit ≡ b → (if a && b then Some n else None) ≡ Some k → (1 ≤ k) × (k ≤ step_limit)
+in_steps-Some n k true true least most e = let same : n ≡ k = cc in subst (λ n. (1 ≤ n) × (n ≤ step_limit)) same (leb-true _ _ least, leb-true _ _ most)
+in_steps-Some n k true false least most e = cc
+in_steps-Some n k false b least most e = cc
+
+count-in_steps : (o : Option ℕ) (k : ℕ) → option_and_then in_steps o ≡ Some k → (1 ≤ k) × (k ≤ step_limit)
+count-in_steps (Some n) k e = in_steps-Some n k _ _ refl refl e
+count-in_steps None k e = cc
+
+count-count_read : (n : Num) (k : ℕ) → count_read n ≡ Ok k → (1 ≤ k) × (k ≤ step_limit)
+unfolding count_read
+count-count_read n k e = count-in_steps (as_u64 n) k (or_else_passed _ why.ValueRefused k e)
 
 lawful-word : (g : List Decl) (nodes : ℕ) (w : Word) (k : Command) → word_read g nodes w ≡ Ok k → IsLawful g nodes k
 lawful-word g nodes (add t v) k e =
-    let c = passed (change_read g nodes t v) _ k e in
-    let same : Add c.value.0 c.value.1 c.value.2 ≡ k = cc in
-    subst (IsLawful g nodes) same (change-change_read g nodes t v c.value c.first)
+    let r = read-change is_orset g nodes t (value_read v) Add k e in
+    subst (IsLawful g nodes) r.made (r.change.node, r.change.kind, small-value_read v r.parts.2 r.change.brought)
 lawful-word g nodes (remove t v) k e =
-    let c = passed (change_read g nodes t v) _ k e in
-    let same : Remove c.value.0 c.value.1 c.value.2 ≡ k = cc in
-    subst (IsLawful g nodes) same (change-change_read g nodes t v c.value c.first)
+    let r = read-change is_orset g nodes t (value_read v) Remove k e in
+    subst (IsLawful g nodes) r.made (r.change.node, r.change.kind, small-value_read v r.parts.2 r.change.brought)
+lawful-word g nodes (insert t v) k e =
+    let r = read-change is_gset g nodes t (value_read v) Insert k e in
+    subst (IsLawful g nodes) r.made (r.change.node, r.change.kind, small-value_read v r.parts.2 r.change.brought)
+lawful-word g nodes (inc t n) k e =
+    let r = read-change is_counter g nodes t (count_read n) Inc k e in
+    let range = count-count_read n r.parts.2 r.change.brought in
+    subst (IsLawful g nodes) r.made (r.change.node, r.change.kind, range.0, range.1)
+lawful-word g nodes (max t n) k e =
+    let r = read-change is_maxreg g nodes t (top_read n) Max k e in
+    subst (IsLawful g nodes) r.made (r.change.node, r.change.kind)
 lawful-word g nodes (print t) k e =
     let place = passed (place_read g nodes t) _ k e in
     let there = place-place_read g nodes t place.value place.first in

@@ -1,36 +1,56 @@
--- What the bytes of a graph say: its declarations, or the first refusal, with the number of the declaration that it is about.
-use Rattle.std.specs.Prelude.{ℕ, List, [], ◌∷◌, ◌++◌, length, if◌then◌else◌, nat_lt, Option, Some, None, is_none, Result, Ok, codes}
+-- What the bytes of a graph say against a library: its declarations, or the first refusal, with the number of the declaration that it is about.
+use Rattle.std.specs.Prelude.{ℕ, List, [], ◌∷◌, ◌++◌, length, if◌then◌else◌, nat_lt, nat_le, Option, Some, None, is_none, option_and_then, option_map, Result, Ok, codes}
 use Rattle.std.specs.List.{position}
 use Rattle.std.specs.Str.{bytes_eq}
 use Rattle.serde_json.specs.Data.{Data}
 use Rattle.serde_json.specs.Find.{as_array}
+use Rattle.model_functions.specs.Library.{Library, place_named, operations_at}
 use Rattle.model_graph.specs.Chain.{◌>>=◌, check, or_else, refusing}
-use Rattle.model_graph.specs.Graph.{Kind, OrSet, Union, Decl, is_set, decl_at}
+use Rattle.model_graph.specs.Graph.{Kind, OrSet, GSet, Counter, MaxReg, Union, Product, Intersection, Map, Filter, Decl, is_set, decl_at}
+use Rattle.model_graph.specs.Lawful.{variable_limit, width_limit, width_of, widths}
 use Rattle.lasp_value.specs.Name.{is_name}
 use Rattle.model_readings.specs.declared.graph_why.GraphWhy.{GraphWhy}
 use Rattle.model_readings.specs.declared.graph_why.GraphWhy.TheVariants as why
 use Rattle.model_readings.specs.Tree.{json_of, list_of, text_at, is_word_at, has_items, two}
 
--- how many declarations a graph may have
-abbrev pub variable_limit : ℕ
-variable_limit = 64
-
--- the forms of a declaration behind its name; inputs are named
+-- the forms of a declaration behind its name; inputs and functions are named
 pub data Form : Type 0 where
   orset : Form
+  gset : Form
+  counter : Form
+  maxreg : Form
   union : List ℕ → List ℕ → Form
+  product : List ℕ → List ℕ → Form
+  intersection : List ℕ → List ℕ → Form
+  map : List ℕ → List ℕ → Form
+  filter : List ℕ → List ℕ → Form
 
 -- a declaration as it is written
 pub record Written : Type 0 where
   pub name : List ℕ
   pub form : Form
 
--- `[name,"orset"]` and `[name,"union",x,y]`
+-- a form of a name and a word alone
+abbrev pub source_form : Form → Data → Option Form
+source_form form d = if has_items 2 d then Some form else None
+
+-- a form of a name, a word and two names more
+unfoldable pub process_form : (List ℕ → List ℕ → Form) → Data → Option Form
+process_form form d = if has_items 4 d then two form (text_at 2 d) (text_at 3 d) else None
+
+-- `[name,word]` of a source, `[name,word,x,y]` of a process
 unfoldable pub form_of : Data → Option Form
 form_of d =
-    if is_word_at 1 (codes "orset") d then (if has_items 2 d then Some orset else None)
-    else (if is_word_at 1 (codes "union") d then (if has_items 4 d then two union (text_at 2 d) (text_at 3 d) else None)
-    else None)
+    if is_word_at 1 (codes "orset") d then source_form orset d
+    else (if is_word_at 1 (codes "gset") d then source_form gset d
+    else (if is_word_at 1 (codes "counter") d then source_form counter d
+    else (if is_word_at 1 (codes "maxreg") d then source_form maxreg d
+    else (if is_word_at 1 (codes "union") d then process_form union d
+    else (if is_word_at 1 (codes "product") d then process_form product d
+    else (if is_word_at 1 (codes "intersection") d then process_form intersection d
+    else (if is_word_at 1 (codes "map") d then process_form map d
+    else (if is_word_at 1 (codes "filter") d then process_form filter d
+    else None))))))))
 
 abbrev pub written : List ℕ → Form → Written
 written name form = record { name = name; form = form }
@@ -50,53 +70,80 @@ known before name = or_else (place_of name before) why.UnknownInput
 abbrev pub set_checked : List Decl → ℕ → Result (Unit {0}) GraphWhy
 set_checked before x = check (is_set (decl_at before x).kind) why.WrongKind
 
+-- a function that a name names: its place, and the operations there
+abbrev pub stored : {A : Type 0} → List (List ℕ × A) → ℕ → Option (ℕ × A)
+stored functions place = option_map (λ ops. (place, ops)) (operations_at functions place)
+
+unfoldable pub function_named : {A : Type 0} → List (List ℕ × A) → List ℕ → Option (ℕ × A)
+function_named functions name = option_and_then (stored functions) (place_named name functions)
+
 -- both inputs are known, and then both are sets
-unfoldable pub union_read : List Decl → List ℕ → List ℕ → Result Kind GraphWhy
-union_read before x y = do
+unfoldable pub pair_read : List Decl → (ℕ → ℕ → Kind) → List ℕ → List ℕ → Result Kind GraphWhy
+pair_read before kind x y = do
   i ← known before x
   j ← known before y
   _ ← set_checked before i
   _ ← set_checked before j
-  Ok (Union i j)
+  Ok (kind i j)
 
-abbrev pub kind_read : List Decl → Form → Result Kind GraphWhy
-kind_read before orset = Ok OrSet
-kind_read before (union x y) = union_read before x y
+-- the input is a known set, and then the function is in the library
+unfoldable pub function_read : {A : Type 0} → List Decl → List (List ℕ × A) → (ℕ → ℕ → A → Kind) → List ℕ → List ℕ → Result Kind GraphWhy
+function_read before functions kind x f = do
+  i ← known before x
+  _ ← set_checked before i
+  p ← or_else (function_named functions f) why.UnknownFunction
+  Ok (kind i p.0 p.1)
+
+abbrev pub kind_read : Library → List Decl → Form → Result Kind GraphWhy
+kind_read lib before orset = Ok OrSet
+kind_read lib before gset = Ok GSet
+kind_read lib before counter = Ok Counter
+kind_read lib before maxreg = Ok MaxReg
+kind_read lib before (union x y) = pair_read before Union x y
+kind_read lib before (product x y) = pair_read before Product x y
+kind_read lib before (intersection x y) = pair_read before Intersection x y
+kind_read lib before (map x f) = function_read before lib.maps Map x f
+kind_read lib before (filter x p) = function_read before lib.predicates Filter x p
 
 abbrev pub declaration : List ℕ → Kind → Decl
 declaration name kind = record { name = name; kind = kind }
 
+-- the variable is not too wide
+abbrev pub width_checked : List Decl → Kind → Result (Unit {0}) GraphWhy
+width_checked before kind = check (nat_le (width_of kind (widths before)) width_limit) why.TooWide
+
 -- one declaration after those before it
-unfoldable pub decl_read : List Decl → Data → Result Decl GraphWhy
-decl_read before d = do
+unfoldable pub decl_read : Library → List Decl → Data → Result Decl GraphWhy
+decl_read lib before d = do
   w ← or_else (written_of d) why.Shape
   _ ← check (is_name w.name) why.NameShape
   _ ← check (is_none (place_of w.name before)) why.NameTaken
-  kind ← kind_read before w.form
+  kind ← kind_read lib before w.form
+  _ ← width_checked before kind
   Ok (declaration w.name kind)
 
 -- the same where there is room for it
-unfoldable pub next_read : List Decl → Data → Result Decl GraphWhy
-next_read before d = do
+unfoldable pub next_read : Library → List Decl → Data → Result Decl GraphWhy
+next_read lib before d = do
   _ ← check (nat_lt (length before) variable_limit) why.TooMany
-  decl_read before d
+  decl_read lib before d
 
 abbrev pub numbered : {A E : Type 0} → ℕ → Result A E → Result A (ℕ × E)
 numbered n = refusing (λ e. (n, e))
 
 -- declarations after those before them
-unfoldable pub decls_read : List Decl → List Data → Result (List Decl) (ℕ × GraphWhy)
-decls_read before [] = Ok before
-decls_read before (d ∷ ds) = do
-  decl ← numbered (length before) (next_read before d)
-  decls_read (before ++ decl ∷ []) ds
+unfoldable pub decls_read : Library → List Decl → List Data → Result (List Decl) (ℕ × GraphWhy)
+decls_read lib before [] = Ok before
+decls_read lib before (d ∷ ds) = do
+  decl ← numbered (length before) (next_read lib before d)
+  decls_read lib (before ++ decl ∷ []) ds
 
 -- the graph that a tree is
-unfoldable pub tree_read : Data → Result (List Decl) (ℕ × GraphWhy)
-tree_read tree = do
+unfoldable pub tree_read : Library → Data → Result (List Decl) (ℕ × GraphWhy)
+tree_read lib tree = do
   ds ← or_else (as_array tree) (0, why.Shape)
-  decls_read [] (list_of ds)
+  decls_read lib [] (list_of ds)
 
 -- the graph that the bytes are
-unfoldable pub graph_of : List ℕ → Result (List Decl) (ℕ × GraphWhy)
-graph_of bytes = or_else (json_of bytes) (0, why.NotJson) >>= tree_read
+unfoldable pub graph_of : Library → List ℕ → Result (List Decl) (ℕ × GraphWhy)
+graph_of lib bytes = or_else (json_of bytes) (0, why.NotJson) >>= tree_read lib

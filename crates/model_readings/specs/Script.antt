@@ -1,11 +1,13 @@
 -- What the bytes of a script say against a graph: the number of nodes and the commands, or the first refusal, with the number of the command that it is about.
-use Rattle.std.specs.Prelude.{ℕ, ◌+◌, List, [], ◌∷◌, ◌++◌, length, Bool, true, false, if◌then◌else◌, nat_lt, nat_le, ◌&&◌, Option, Some, None, option_map, option_and_then, Result, Ok, Err, codes}
+use Rattle.std.specs.Prelude.{ℕ, ℤ, ◌+◌, List, [], ◌∷◌, ◌++◌, length, Bool, true, false, if◌then◌else◌, nat_lt, nat_le, ◌&&◌, Option, Some, None, option_map, option_and_then, Result, Ok, Err, codes}
 use Rattle.serde_json.specs.Data.{Data, Num}
-use Rattle.serde_json.specs.Find.{at, as_array, as_number, as_u64, as_i64}
-use Rattle.model_values.specs.Value.{Val, int}
-use Rattle.model_graph.specs.Chain.{◌>>=◌, check, or_else}
-use Rattle.model_graph.specs.Graph.{Kind, OrSet, Union, Decl, decl_at}
-use Rattle.model_world.specs.Command.{Command, Add, Remove, Print, Script}
+use Rattle.serde_json.specs.Find.{at, as_array, as_u64, as_i64}
+use Rattle.model_values.specs.Value.{Val}
+use Rattle.model_graph.specs.Chain.{◌>>=◌, check, or_else, refusing}
+use Rattle.model_graph.specs.Graph.{Kind, OrSet, GSet, Counter, MaxReg, Decl, decl_at}
+use Rattle.model_world.specs.Command.{Command, Add, Remove, Insert, Inc, Max, Print, Script}
+use Rattle.lasp_value.specs.Json.{read_value}
+use Rattle.lasp_value.specs.declared.refused.ValueRefused.{ValueRefused}
 use Rattle.model_readings.specs.declared.script_why.ScriptWhy.{ScriptWhy}
 use Rattle.model_readings.specs.declared.script_why.ScriptWhy.TheVariants as why
 use Rattle.model_readings.specs.Tree.{json_of, list_of, text_at, number_at, is_word_at, has_items, two}
@@ -24,10 +26,13 @@ pub record Target : Type 0 where
   pub node : Num
   pub var : List ℕ
 
--- commands as they are written, with the value's tree
+-- commands as they are written, with the value's tree or the number
 pub data Word : Type 0 where
   add : Target → Data → Word
   remove : Target → Data → Word
+  insert : Target → Data → Word
+  inc : Target → Num → Word
+  max : Target → Num → Word
   print : Target → Word
 
 abbrev pub target : Num → List ℕ → Target
@@ -37,13 +42,28 @@ target node var = record { node = node; var = var }
 abbrev pub target_of : Data → Option Target
 target_of d = two target (number_at 1 d) (text_at 2 d)
 
--- `["add",p,x,v]`, `["remove",p,x,v]` and `["print",p,x]`
+-- a form of a word, a node, a variable and any tree
+unfoldable pub value_form : (Target → Data → Word) → Data → Option Word
+value_form form d = if has_items 4 d then two form (target_of d) (at 3 d) else None
+
+-- a form of a word, a node, a variable and a number
+unfoldable pub number_form : (Target → Num → Word) → Data → Option Word
+number_form form d = if has_items 4 d then two form (target_of d) (number_at 3 d) else None
+
+-- a form of a word, a node and a variable
+unfoldable pub place_form : (Target → Word) → Data → Option Word
+place_form form d = if has_items 3 d then option_map form (target_of d) else None
+
+-- `["add",p,x,v]`, `["remove",p,x,v]`, `["insert",p,x,v]`, `["inc",p,x,k]`, `["max",p,x,k]` and `["print",p,x]`
 unfoldable pub word_of : Data → Option Word
 word_of d =
-    if is_word_at 0 (codes "add") d then (if has_items 4 d then two add (target_of d) (at 3 d) else None)
-    else (if is_word_at 0 (codes "remove") d then (if has_items 4 d then two remove (target_of d) (at 3 d) else None)
-    else (if is_word_at 0 (codes "print") d then (if has_items 3 d then option_map print (target_of d) else None)
-    else None))
+    if is_word_at 0 (codes "add") d then value_form add d
+    else (if is_word_at 0 (codes "remove") d then value_form remove d
+    else (if is_word_at 0 (codes "insert") d then value_form insert d
+    else (if is_word_at 0 (codes "inc") d then number_form inc d
+    else (if is_word_at 0 (codes "max") d then number_form max d
+    else (if is_word_at 0 (codes "print") d then place_form print d
+    else None)))))
 
 abbrev pub below : ℕ → ℕ → Option ℕ
 below limit n = if nat_lt n limit then Some n else None
@@ -52,13 +72,43 @@ below limit n = if nat_lt n limit then Some n else None
 unfoldable pub node_of : ℕ → Num → Option ℕ
 node_of nodes n = option_and_then (below nodes) (as_u64 n)
 
+abbrev pub why_refused : ValueRefused → ScriptWhy
+why_refused e = why.ValueRefused
+
 -- the value that a tree stands for
-unfoldable pub value_of : Data → Option Val
-value_of d = option_map int (option_and_then as_i64 (as_number d))
+unfoldable pub value_read : Data → Result Val ScriptWhy
+value_read d = refusing why_refused (read_value d)
+
+-- the most that one update counts
+abbrev pub step_limit : ℕ
+step_limit = 4294967295
+
+abbrev pub in_steps : ℕ → Option ℕ
+in_steps n = if nat_le 1 n && nat_le n step_limit then Some n else None
+
+-- how many more an update counts
+unfoldable pub count_read : Num → Result ℕ ScriptWhy
+count_read n = or_else (option_and_then in_steps (as_u64 n)) why.ValueRefused
+
+-- the number that a register is raised to
+unfoldable pub top_read : Num → Result ℤ ScriptWhy
+top_read n = or_else (as_i64 n) why.ValueRefused
 
 abbrev pub is_orset : Kind → Bool
 is_orset OrSet = true
-is_orset (Union x y) = false
+is_orset _ = false
+
+abbrev pub is_gset : Kind → Bool
+is_gset GSet = true
+is_gset _ = false
+
+abbrev pub is_counter : Kind → Bool
+is_counter Counter = true
+is_counter _ = false
+
+abbrev pub is_maxreg : Kind → Bool
+is_maxreg MaxReg = true
+is_maxreg _ = false
 
 -- a node and a variable
 unfoldable pub place_read : List Decl → ℕ → Target → Result (ℕ × ℕ) ScriptWhy
@@ -67,21 +117,27 @@ place_read g nodes t = do
   var ← or_else (place_of t.var g) why.UnknownVar
   Ok (node, var)
 
--- the variable is an observed-remove set
-abbrev pub orset_checked : List Decl → ℕ → Result (Unit {0}) ScriptWhy
-orset_checked g x = check (is_orset (decl_at g x).kind) why.WrongOp
+-- the variable is of a kind that the word works on
+abbrev pub kind_checked : (Kind → Bool) → List Decl → ℕ → Result (Unit {0}) ScriptWhy
+kind_checked is_kind g x = check (is_kind (decl_at g x).kind) why.WrongOp
 
--- a node, an observed-remove set and a value
-unfoldable pub change_read : List Decl → ℕ → Target → Data → Result (ℕ × ℕ × Val) ScriptWhy
-change_read g nodes t v = do
+-- a node, a variable of the right kind, and what the update brings
+unfoldable pub change_read : {A : Type 0} → (Kind → Bool) → List Decl → ℕ → Target → Result A ScriptWhy → Result (ℕ × ℕ × A) ScriptWhy
+change_read is_kind g nodes t payload = do
   place ← place_read g nodes t
-  _ ← orset_checked g place.1
-  value ← or_else (value_of v) why.ValueRefused
-  Ok (place.0, place.1, value)
+  _ ← kind_checked is_kind g place.1
+  a ← payload
+  Ok (place.0, place.1, a)
+
+abbrev pub change : {A : Type 0} → (ℕ → ℕ → A → Command) → ℕ × ℕ × A → Result Command ScriptWhy
+change command c = Ok (command c.0 c.1 c.2)
 
 abbrev pub word_read : List Decl → ℕ → Word → Result Command ScriptWhy
-word_read g nodes (add t v) = change_read g nodes t v >>= λ c. Ok (Add c.0 c.1 c.2)
-word_read g nodes (remove t v) = change_read g nodes t v >>= λ c. Ok (Remove c.0 c.1 c.2)
+word_read g nodes (add t v) = change_read is_orset g nodes t (value_read v) >>= change Add
+word_read g nodes (remove t v) = change_read is_orset g nodes t (value_read v) >>= change Remove
+word_read g nodes (insert t v) = change_read is_gset g nodes t (value_read v) >>= change Insert
+word_read g nodes (inc t k) = change_read is_counter g nodes t (count_read k) >>= change Inc
+word_read g nodes (max t k) = change_read is_maxreg g nodes t (top_read k) >>= change Max
 word_read g nodes (print t) = place_read g nodes t >>= λ place. Ok (Print place.0 place.1)
 
 -- one command against the graph

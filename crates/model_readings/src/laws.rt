@@ -2,25 +2,35 @@
 
 ghost use Rattle.std.specs.Prelude.{◌≡◌, ℕ, ◌<◌, ◌++◌, [], ◌∷◌, List, length, Ok};
 ghost use Rattle.serde_json.specs.Data.{Data};
+ghost use Rattle.model_functions.specs.Library.{Library};
 ghost use Rattle.model_graph.specs.Graph.{Decl};
+ghost use Rattle.model_graph.specs.Lawful.{variable_limit};
+ghost use Rattle.model_graph.specs.Lawful as graphs;
 ghost use Rattle.model_world.specs.Command.{Script};
-ghost use Rattle.model_readings.specs.Graph.{decl_read, graph_of, variable_limit};
+ghost use Rattle.model_readings.specs.Graph.{decl_read, graph_of};
 ghost use Rattle.model_readings.specs.Script.{script_of};
-ghost use Rattle.model_readings.specs.Lawful.{IsNext, IsGraph, IsScript};
+ghost use Rattle.model_readings.specs.Lawful.{Fits, IsNext, IsGraph, FitsAll, IsScript};
 
-/// A declaration that is read may follow those that it is read against.
+/// A declaration that is read may follow those that it is read against, and its function is the library's.
 pub fn read_declarations_are_lawful()
-    ensures next { (before : List Decl) (d : Data) (decl : Decl) → decl_read before d ≡ Ok decl → IsNext before decl }
+    ensures next { (lib : Library) (before : List Decl) (d : Data) (decl : Decl) → decl_read lib before d ≡ Ok decl → IsNext before decl }
+    ensures fits { (lib : Library) (before : List Decl) (d : Data) (decl : Decl) → decl_read lib before d ≡ Ok decl → Fits lib decl.kind }
     ensures graph { (before : List Decl) (decl : Decl) → IsGraph before → length before < variable_limit
         → IsNext before decl → IsGraph (before ++ decl ∷ []) }
 {}
 
-/// An accepted graph has at most 64 declarations, distinct names of a name's shape, and inputs that are earlier sets.
+/// An accepted graph has at most 64 declarations, distinct names of a name's shape, inputs that are earlier sets, variables of width 16 at most, and functions of the library.
 pub fn accepted_graphs_are_lawful()
-    ensures { (bytes : List ℕ) (g : List Decl) → graph_of bytes ≡ Ok g → IsGraph g }
+    ensures graph { (lib : Library) (bytes : List ℕ) (g : List Decl) → graph_of lib bytes ≡ Ok g → IsGraph g }
+    ensures fits { (lib : Library) (bytes : List ℕ) (g : List Decl) → graph_of lib bytes ≡ Ok g → FitsAll lib g }
 {}
 
-/// The commands of an accepted script name nodes of the script and variables of the graph, and change observed-remove sets alone.
+/// A graph that may be accepted is one of the definitions: each declaration may follow those before it.
+pub fn accepted_graphs_are_graphs()
+    ensures { (g : List Decl) → IsGraph g → graphs.IsGraph g }
+{}
+
+/// The commands of an accepted script name nodes of the script and variables of the graph, and change variables of their own kind alone, by values and numbers in their ranges.
 pub fn accepted_scripts_are_lawful()
     ensures { (g : List Decl) (bytes : List ℕ) (s : Script) → script_of g bytes ≡ Ok s → IsScript g s }
 {}

@@ -7,6 +7,7 @@ mod script_why;
 
 pub use graph_why::GraphWhy;
 pub use laws::{
-    accepted_graphs_are_lawful, accepted_scripts_are_lawful, read_declarations_are_lawful,
+    accepted_graphs_are_graphs, accepted_graphs_are_lawful, accepted_scripts_are_lawful,
+    read_declarations_are_lawful,
 };
 pub use script_why::ScriptWhy;
