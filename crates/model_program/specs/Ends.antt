@@ -1,5 +1,5 @@
 -- How a call ends by its answer: its status, what it wrote to `out`, and its line on `err`.
-use Rattle.std.specs.Prelude.{◌≡◌, ◌<◌, ◌⊎◌, ℕ, List, length, Option, Result, Ok, Err, codes, ◌∷◌, []}
+use Rattle.std.specs.Prelude.{◌≡◌, ◌⊎◌, ℕ, List, Option, Result, Ok, Err, codes, ◌∷◌, []}
 use Rattle.lasp_edge.specs.Faults.{Rose}
 use Rattle.lasp_edge.specs.Told.{Appends, AppendsPrefix}
 use Rattle.model_world.specs.Line.{line}

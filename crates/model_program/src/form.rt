@@ -5,6 +5,8 @@
 pub enum Form {
     /// `plain GRAPH SCRIPT`
     Plain,
+    /// `check GRAPH`
+    Check,
     /// Any other words.
     Wrong,
 }

@@ -14,6 +14,10 @@ pub enum Refusal {
     Graph(u32, GraphWhy),
     /// The script is refused at this command.
     Script(u32, ScriptWhy),
-    /// At this command a variable of this node passes 65,536 rows.
+    /// At this command a variable of this node passes 65,536 rows or elements.
     TooLarge(u32, u8, Name),
+    /// At this command the bytes of all messages pass 268,435,456.
+    NetworkFull(u32),
+    /// At this command a node isn't at the threshold that it has to reach.
+    NotReached(u32),
 }
