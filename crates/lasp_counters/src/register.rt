@@ -27,7 +27,8 @@ impl MaxReg {
         grew
     }
 
-    fn is_not_later(&self, other: &MaxReg) -> bool
+    /// The order: whether the other register came at least as far.
+    pub fn is_not_later(&self, other: &MaxReg) -> bool
         ensures { IsTrue result ↔ IsNotLater self.now.value other.now.value }
     {
         match (self.value, other.value) {

@@ -1,27 +1,108 @@
--- Contents of sets differ exactly where their rows do.
-use Rattle.std.proofs.Common.{ap, sym, subst}
-use Rattle.std.specs.Prelude.{◌≡◌, ◌≢◌, ◌↔◌, List, Bool, IsTrue, Result, Ok, Err, IfOk}
+-- States as contents: the order, the join and growth of each kind are those of its part.
+use Rattle.std.proofs.Common.{◌≡◌, ◌≢◌, ◌↔◌, ℕ, ◌≤◌, max, ℤ, Bool, IsTrue, List, [], ◌∷◌, length, Option, None, Some, Result, Ok, Err, IfOk, OnOk, refl, sym, ap, subst, ◌∙◌, arith}
 use Rattle.model_values.specs.Row.{Row}
-use Rattle.model_states.specs.Content.{Content, of_set}
 use Rattle.model_sets.specs.Rows.{IsAtMost}
-use Rattle.lasp_state.specs.State.{IsContentAtMost}
+use Rattle.model_states.specs.Counts as counts
+use Rattle.model_states.specs.Counts.{AreCountsAtMost}
+use Rattle.model_states.specs.Register as register
+use Rattle.model_states.specs.Content.{Content, of_set, of_counts, of_top, join_contents, Key, at_row, at_value, at_count, at_top, content_mark, IsContentAtMost}
+use Rattle.model_states.proofs.RegisterLaws.{not_later-reaches, reaches-not_later}
+use Rattle.model_states.specs.Threshold.{Shape, counter}
+use Rattle.lasp_counters.specs.declared.register.MaxReg.{MaxReg}
+use Rattle.lasp_counters.specs.Counts.{larger, AreAtMost, HaveSameNodes}
+use Rattle.lasp_counters.specs.Register.{later, IsNotLater}
 
-differ-sets : (s t : List Row) → (s ≢ t) ↔ (of_set s ≢ of_set t)
+-- ---- the order
+
+pub order-set : (s t : List Row) → IsAtMost s t ↔ IsContentAtMost (of_set s) (of_set t)
+order-set s t = (there, λ h v w. h (at_row v w)) where
+  there : IsAtMost s t → (k : Key) → content_mark (of_set s) k ≤ content_mark (of_set t) k
+  there h (at_row v w) = h v w
+  there h (at_value v) = omega arith
+  there h (at_count node) = omega arith
+  there h (at_top n) = omega arith
+
+pub order-counts : (s t : List ℕ) → AreAtMost s t ↔ IsContentAtMost (of_counts s) (of_counts t)
+order-counts s t = (there, λ h node. h (at_count node)) where
+  there : AreAtMost s t → (k : Key) → content_mark (of_counts s) k ≤ content_mark (of_counts t) k
+  there h (at_row v w) = omega arith
+  there h (at_value v) = omega arith
+  there h (at_count node) = h node
+  there h (at_top n) = omega arith
+
+not_later-plain : (s t : Option ℤ) → IsNotLater s t ↔ register.IsNotLater s t
+not_later-plain None t = (λ h. h, λ h. h)
+not_later-plain (Some m) None = (λ h. h, λ h. h)
+not_later-plain (Some m) (Some n) = (λ h. h, λ h. h)
+
+pub order-top : (s t : Option ℤ) → IsNotLater s t ↔ IsContentAtMost (of_top s) (of_top t)
+order-top s t = (λ h. there ((not_later-plain s t).0 h), λ h. (not_later-plain s t).1 (reaches-not_later s t (λ n. h (at_top n)))) where
+  there : register.IsNotLater s t → (k : Key) → content_mark (of_top s) k ≤ content_mark (of_top t) k
+  there h (at_row v w) = omega arith
+  there h (at_value v) = omega arith
+  there h (at_count node) = omega arith
+  there h (at_top n) = not_later-reaches s t h n
+
+-- a test of the order of parts tests the order of the contents that they are
+pub order-as : (b : Bool) (P : Type 0) (small great s t : Content) → small ≡ s → great ≡ t → (P ↔ IsContentAtMost s t) → (IsTrue b ↔ P) → IsTrue b ↔ IsContentAtMost small great
+order-as b P small great s t e f same test =
+    subst (λ (c : Content). IsTrue b ↔ IsContentAtMost c great) (sym e)
+    (subst (λ (d : Content). IsTrue b ↔ IsContentAtMost s d) (sym f) (λ h. same.0 (test.0 h), λ h. test.1 (same.1 h)))
+
+-- ---- the join
+
+pub larger-plain : (s t : List ℕ) → HaveSameNodes s t → larger s t ≡ counts.larger s t
+larger-plain [] [] e = refl {a = []}
+larger-plain [] (d ∷ t) e = absurd (omega (arith, e))
+larger-plain (c ∷ s) [] e = refl
+larger-plain (c ∷ s) (d ∷ t) e = ap (λ (l : List ℕ). max c d ∷ l) (larger-plain s t (omega (arith, e)))
+
+later-plain : (s t : Option ℤ) → later s t ≡ register.later s t
+later-plain None t = refl
+later-plain (Some m) None = refl
+later-plain (Some m) (Some n) = refl
+
+pub join-counts : (s t : List ℕ) → HaveSameNodes s t → of_counts (larger s t) ≡ join_contents (of_counts s) (of_counts t)
+join-counts s t e = ap of_counts (larger-plain s t e)
+
+pub join-top : (s t : Option ℤ) → of_top (later s t) ≡ join_contents (of_top s) (of_top t)
+join-top s t = ap of_top (later-plain s t)
+
+-- ---- growth: contents of one kind differ exactly where their parts do
+
+pub differ-sets : (s t : List Row) → (s ≢ t) ↔ (of_set s ≢ of_set t)
 differ-sets s t = (λ h e. h (ap (λ (c : Content). c.rows) e), λ h e. h (ap of_set e))
 
--- a set grew exactly where its content did
-pub grew-set : {E : Type 0} (r : Result Bool E) (s t : List Row) → IfOk r (λ grew. IsTrue grew ↔ (s ≢ t)) → IfOk r (λ grew. IsTrue grew ↔ (of_set s ≢ of_set t))
-grew-set (Ok grew) s t h = (λ yes_it. (differ-sets s t).0 (h.0 yes_it), λ differ. h.1 ((differ-sets s t).1 differ))
-grew-set (Err e) s t h = h
+pub differ-counts : (s t : List ℕ) → (s ≢ t) ↔ (of_counts s ≢ of_counts t)
+differ-counts s t = (λ h e. h (ap (λ (c : Content). c.counts) e), λ h e. h (ap of_counts e))
 
--- the same of contents that are those of sets
-pub grew-content : {E : Type 0} (r : Result Bool E) (s t : List Row) (new old : Content) → new ≡ of_set s → old ≡ of_set t
-    → IfOk r (λ grew. IsTrue grew ↔ (s ≢ t)) → IfOk r (λ grew. IsTrue grew ↔ (new ≢ old))
-grew-content (Ok grew) s t new old e f h =
-    subst (λ (n : Content). IsTrue grew ↔ (n ≢ old)) (sym e) (subst (λ (o : Content). IsTrue grew ↔ (of_set s ≢ o)) (sym f) (grew-set {E = Unit {0}} (Ok grew) s t h))
-grew-content (Err e) s t new old p f h = h
+pub differ-registers : (s t : MaxReg) → (s ≢ t) ↔ (of_top s.value ≢ of_top t.value)
+differ-registers s t = (λ h e. h (λ i. record { value = (e i).top }), λ h e. h (λ i. of_top (e i).value))
 
--- contents that are those of sets are in order exactly where the sets are
-pub order-content : (b : Bool) (s t : List Row) (small great : Content) → small ≡ of_set s → great ≡ of_set t → (IsTrue b ↔ IsAtMost s t) → IsTrue b ↔ IsContentAtMost small great
-order-content b s t small great e f h =
-    subst (λ (c : Content). IsTrue b ↔ IsContentAtMost c great) (sym e) (subst (λ (d : Content). IsTrue b ↔ IsContentAtMost (of_set s) d) (sym f) h)
+pub grew-as : (b : Bool) (P : Type 0) (new old s t : Content) → new ≡ s → old ≡ t → (P ↔ (s ≢ t)) → (IsTrue b ↔ P) → IsTrue b ↔ (new ≢ old)
+grew-as b P new old s t e f same test =
+    subst (λ (c : Content). IsTrue b ↔ (c ≢ old)) (sym e)
+    (subst (λ (d : Content). IsTrue b ↔ (s ≢ d)) (sym f) (λ h. same.0 (test.0 h), λ h. test.1 (same.1 h)))
+
+pub grew-result : {E : Type 0} (r : Result Bool E) (P : Type 0) (new old s t : Content) → new ≡ s → old ≡ t → (P ↔ (s ≢ t)) → IfOk r (λ grew. IsTrue grew ↔ P) → IfOk r (λ grew. IsTrue grew ↔ (new ≢ old))
+grew-result (Ok grew) P new old s t e f same test = grew-as grew P new old s t e f same test
+grew-result (Err error) P new old s t e f same test = tt
+
+-- ---- results
+
+pub on-ok : {E : Type 0} (r s : Result Bool E) (P Q : Type 0) → s ≡ r → (P → Q) → OnOk r P → OnOk s Q
+on-ok r s P Q e f h = subst (λ (x : Result Bool _). OnOk x Q) (sym e) (there r P Q f h) where
+  there : {E : Type 0} (r : Result Bool E) (P Q : Type 0) → (P → Q) → OnOk r P → OnOk r Q
+  there (Ok b) P Q f h = f h
+  there (Err error) P Q f h = tt
+
+nodes_of : Shape → ℕ → ℕ
+nodes_of (counter n) m = n
+nodes_of _ m = m
+
+-- counters of one shape have as many counts
+pub same-nodes : (s t : List ℕ) (a b : Shape) → a ≡ b → a ≡ counter (length s) → b ≡ counter (length t) → HaveSameNodes s t
+same-nodes s t a b h e f = let both : counter (length s) ≡ counter (length t) = sym e ∙ h ∙ f in cc
+
+pub joined-as : (new old other n s t : Content) → new ≡ n → old ≡ s → other ≡ t → n ≡ join_contents s t → new ≡ join_contents old other
+joined-as new old other n s t e f g h = e ∙ h ∙ sym (ap (λ (c : Content). join_contents c other) f ∙ ap (λ (c : Content). join_contents s c) g)

@@ -1,27 +1,45 @@
 -- States and operations as plain data.
-use Rattle.std.specs.Prelude.{ℕ, List}
+use Rattle.std.specs.Prelude.{◌≡◌, ℕ, ◌<◌, List, length, sum}
+use Rattle.std.specs.Fmt.{decimal}
 use Rattle.model_values.specs.Text.{shown_values}
-use Rattle.model_sets.specs.Rows.{IsAtMost, visible}
-use Rattle.model_states.specs.Content.{Content, of_set}
+use Rattle.model_sets.specs.Rows.{visible}
+use Rattle.model_states.specs.Content.{Content, of_set, of_counts, of_top}
+use Rattle.model_states.specs.Threshold.{Shape, set, counter, register}
 use Rattle.model_states.specs.Update as plain
+use Rattle.model_world.specs.Line.{shown_top}
 use Rattle.lasp_value.specs.Value.{val_of}
 use Rattle.lasp_state.specs.declared.state.State.{State}
-use Rattle.lasp_state.specs.declared.state.State.TheVariants.{Set}
+use Rattle.lasp_state.specs.declared.state.State.TheVariants.{Set, Count, Max}
 use Rattle.lasp_state.specs.declared.op.Op.{Op}
-use Rattle.lasp_state.specs.declared.op.Op.TheVariants.{Add, Remove}
+use Rattle.lasp_state.specs.declared.op.Op.TheVariants as op
 
 -- what a state holds
 abbrev pub content_of : State → Content
 content_of (Set rows) = of_set rows
+content_of (Count counts) = of_counts counts
+content_of (Max m) = of_top m.value
 
--- the order of contents: that of their rows
-abbrev pub IsContentAtMost : Content → Content → Type 0
-IsContentAtMost s t = IsAtMost s.rows t.rows
+-- what sort of content it has
+abbrev pub shape_of : State → Shape
+shape_of (Set rows) = set
+shape_of (Count counts) = counter (length counts)
+shape_of (Max m) = register
 
 -- how it is printed
 abbrev pub shown_state : State → List ℕ
 shown_state (Set rows) = shown_values (visible rows)
+shown_state (Count counts) = decimal (sum counts)
+shown_state (Max m) = shown_top m.value
 
 abbrev pub op_of : Op → plain.Op
-op_of (Add v) = plain.Add (val_of v)
-op_of (Remove v) = plain.Remove (val_of v)
+op_of (op.Add v) = plain.Add (val_of v)
+op_of (op.Remove v) = plain.Remove (val_of v)
+op_of (op.Inc by) = plain.Inc by
+op_of (op.Max n) = plain.Max n
+
+-- the operation is one of the shape; a counter has a count for the replica
+abbrev pub IsOpOf : Op → ℕ → Shape → Type 0
+IsOpOf (op.Add v) replica shape = shape ≡ set
+IsOpOf (op.Remove v) replica shape = shape ≡ set
+IsOpOf (op.Inc by) replica shape = (nodes : ℕ) × (shape ≡ counter nodes) × (replica < nodes)
+IsOpOf (op.Max n) replica shape = shape ≡ register

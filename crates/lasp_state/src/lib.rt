@@ -7,6 +7,7 @@
 #![tactic(auto)]
 
 mod op;
+mod print;
 mod state;
 
 pub use op::Op;

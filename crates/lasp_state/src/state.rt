@@ -1,11 +1,15 @@
 //! The state of a variable.
 
-ghost use Rattle.std.specs.Prelude.{◌≡◌, ◌≢◌, ◌↔◌, ◌++◌, IfOk, OnOk, OnErr, IsTrue, string_bytes};
-ghost use Rattle.model_states.specs.Content.{join_contents, least, size_of};
+ghost use Rattle.std.specs.Prelude.{◌≡◌, ◌≢◌, ◌↔◌, ◌<◌, ◌++◌, IfOk, OnOk, OnErr, IsTrue, string_bytes};
+ghost use Rattle.model_states.specs.Counts.{zeros};
+ghost use Rattle.model_states.specs.Content.{join_contents, least, of_counts, size_of, IsContentAtMost};
+ghost use Rattle.model_states.specs.Threshold.{set, counter, register};
 ghost use Rattle.model_states.specs.Update.{delta};
-ghost use Rattle.lasp_state.specs.State.{content_of, shown_state, op_of, IsContentAtMost};
+ghost use Rattle.lasp_state.specs.State.{content_of, shape_of, shown_state, op_of, IsOpOf};
 
 use super::op::Op;
+use super::print::{print_number, print_total};
+use lasp_counters::{GCount, MaxReg};
 use lasp_orset::{OrSet, add_delta};
 use std::alloc::{AllocError, Global};
 
@@ -14,70 +18,116 @@ use std::alloc::{AllocError, Global};
 pub enum State {
     /// The rows of an observed-remove set, or of a process over sets.
     Set(OrSet),
+    /// What each node counted of a counter.
+    Count(GCount),
+    /// The greatest number of a register.
+    Max(MaxReg),
 }
 
 impl State {
     /// The state of a set with no rows. It takes no memory.
     pub fn empty_set(alloc: Global) -> State
-        ensures { content_of result ≡ least }
+        ensures content { content_of result ≡ least }
+        ensures shape { shape_of result ≡ set }
     {
         State::Set(OrSet::new(alloc))
     }
 
-    /// An equal state, which shares what it holds with this one.
+    /// The state of a counter of so many nodes, of which none counted yet.
+    pub fn zero_count(alloc: Global, nodes: u8) -> Result<State, AllocError>
+        ensures content { IfOk result (λ s. content_of s ≡ of_counts (zeros nodes)) }
+        ensures shape { IfOk result (λ s. shape_of s ≡ counter nodes) }
+    {
+        Ok(State::Count(GCount::new(alloc, nodes)?))
+    }
+
+    /// The state of a register without a number. It takes no memory.
+    pub fn no_number() -> State
+        ensures content { content_of result ≡ least }
+        ensures shape { shape_of result ≡ register }
+    {
+        State::Max(MaxReg { value: None })
+    }
+
+    /// An equal state. Of a set it shares all rows with this one.
     pub fn try_clone(&self) -> Result<State, AllocError>
-        ensures { IfOk result (λ s. content_of s ≡ content_of self.now) }
+        ensures content { IfOk result (λ s. content_of s ≡ content_of self.now) }
+        ensures shape { IfOk result (λ s. shape_of s ≡ shape_of self.now) }
     {
         match self {
             State::Set(set) => Ok(State::Set(set.try_clone()?)),
+            State::Count(counts) => Ok(State::Count(counts.try_clone()?)),
+            State::Max(register) => Ok(State::Max(*register)),
         }
     }
 
     /// The order: whether the other state knows all that this one knows.
     pub fn le(&self, other: &State) -> bool
+        requires { shape_of self.now ≡ shape_of other.now }
         ensures { IsTrue result ↔ IsContentAtMost (content_of self.now) (content_of other.now) }
     {
         match (self, other) {
             (State::Set(set), State::Set(bound)) => set.le(bound),
+            (State::Count(counts), State::Count(bound)) => counts.is_at_most(bound),
+            (State::Max(register), State::Max(bound)) => register.is_not_later(bound),
+            (_, _) => unreachable!(),
         }
     }
 
     /// The other state is joined in; true exactly where this one grew. After a refusal it is as before.
     pub fn join_in(&mut self, other: &State) -> Result<bool, AllocError>
+        requires { shape_of self.old ≡ shape_of other.now }
+        ensures shape { shape_of self.new ≡ shape_of self.old }
         ensures ok { OnOk result (content_of self.new ≡ join_contents (content_of self.old) (content_of other.now)) }
         ensures grew { IfOk result (λ grew. IsTrue grew ↔ (content_of self.new ≢ content_of self.old)) }
         ensures err { OnErr result (content_of self.new ≡ content_of self.old) }
     {
         match (self, other) {
             (State::Set(set), State::Set(rows)) => set.join_in(rows),
+            (State::Count(counts), State::Count(others)) => Ok(counts.raise(others)),
+            (State::Max(register), State::Max(number)) => Ok(register.raise(number)),
+            (_, _) => unreachable!(),
         }
     }
 
     /// What the update with number k of a replica joins into this state.
     pub fn delta(&self, alloc: Global, op: &Op, replica: u8, k: u64) -> Result<State, AllocError>
-        ensures { IfOk result (λ s. content_of s ≡ delta (op_of op.now) (content_of self.now) replica k) }
+        requires { IsOpOf op.now replica (shape_of self.now) }
+        ensures content { IfOk result (λ s. content_of s ≡ delta (op_of op.now) (content_of self.now) replica k) }
+        ensures shape { IfOk result (λ s. shape_of s ≡ shape_of self.now) }
     {
         match (self, op) {
             (State::Set(_), Op::Add(value)) => Ok(State::Set(add_delta(alloc, value, replica, k)?)),
             (State::Set(set), Op::Remove(value)) => Ok(State::Set(set.remove_delta(value)?)),
+            (State::Count(counts), Op::Inc(by)) => Ok(State::Count(counts.inc_delta(
+                replica, *by,
+            )?)),
+            (State::Max(_), Op::Max(number)) => Ok(State::Max(MaxReg {
+                value: Some(*number),
+            })),
+            (_, _) => unreachable!(),
         }
     }
 
-    /// The number of rows, dead ones counted.
+    /// The number of rows or elements, dead rows counted.
     pub fn size(&self) -> u64
         ensures { result ≡ size_of (content_of self.now) }
     {
         match self {
             State::Set(set) => set.rows(),
+            State::Count(_) => 0,
+            State::Max(_) => 0,
         }
     }
 
-    /// Appends the printed form: of a set the array of its visible values in ascending order.
+    /// Appends the printed form: of a set the array of its visible values in ascending order, of a counter its total, of a register its number or `null`.
     pub fn print_into(&self, out: &mut String) -> Result<(), AllocError>
         ensures { OnOk result (string_bytes out.new ≡ string_bytes out.old ++ shown_state self.now) }
     {
         match self {
             State::Set(set) => set.print_into(out),
+            State::Count(counts) => print_total(counts.total(), out),
+            State::Max(register) => print_number(register.value, out),
         }
     }
 }

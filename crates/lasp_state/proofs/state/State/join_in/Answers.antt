@@ -1,6 +1,54 @@
-use Rattle.std.proofs.Common.{rules}
-use Rattle.lasp_state.proofs.StateLaws.{grew-content}
+use Rattle.std.proofs.Common.{◌≢◌, ◌↔◌, length, Bool, IsTrue, IfOk, Result, Ok, ap, sym, subst, ◌∙◌}
+use Rattle.model_states.specs.Content.{of_set, of_counts, of_top}
+use Rattle.model_states.specs.Threshold.{counter}
+use Rattle.lasp_counters.specs.CountLaws.{length-larger}
+use Rattle.lasp_state.specs.State.{content_of, shape_of}
+use Rattle.lasp_state.proofs.StateLaws.{join-counts, join-top, differ-sets, differ-counts, differ-registers, grew-as, grew-result, on-ok, same-nodes, joined-as}
+use Rattle.lasp_state.proofs.state.State.join_in.Goals.{in-Set-Set, in-Count-Count, in-Max-Max}
 use Rattle.lasp_state.proofs.state.State.join_in.Goals as goal
 
+pub returns-clause-shape : goal.returns-clause-shape
+returns-clause-shape c = elim c.match-self.branch [
+  | in-Set-Set w ↦ ap shape_of w.self-is ∙ sym (ap shape_of w.in-Set-Set.is-0)
+  | in-Count-Count w ↦
+      let same = same-nodes w.in-Count-Count.counts w.in-Count-Count.others _ _ c.requires (ap shape_of w.in-Count-Count.is-0) (ap shape_of w.in-Count-Count.is-1) in
+      ap shape_of w.self-is ∙ ap counter (ap length w.raise.ensures.ok ∙ length-larger w.in-Count-Count.counts w.in-Count-Count.others same) ∙ sym (ap shape_of w.in-Count-Count.is-0)
+  | in-Max-Max w ↦ ap shape_of w.self-is ∙ sym (ap shape_of w.in-Max-Max.is-0)
+]
+
+pub returns-clause-ok : goal.returns-clause-ok
+returns-clause-ok c = elim c.match-self.branch [
+  | in-Set-Set w ↦
+      on-ok w.join_in.result c.match-self.result _ _ w.result-is
+      (λ joined. joined-as _ _ _ (of_set w.join_in.new.self) (of_set w.in-Set-Set.set) (of_set w.in-Set-Set.rows)
+      (ap content_of w.self-is) (ap content_of w.in-Set-Set.is-0) (ap content_of w.in-Set-Set.is-1) (ap of_set joined)) w.join_in.ensures.ok
+  | in-Count-Count w ↦
+      let counts = w.in-Count-Count.counts in
+      let others = w.in-Count-Count.others in
+      let same = same-nodes counts others _ _ c.requires (ap shape_of w.in-Count-Count.is-0) (ap shape_of w.in-Count-Count.is-1) in
+      on-ok (Ok w.raise.result) c.match-self.result _ _ w.result-is
+      (λ joined. joined-as _ _ _ (of_counts w.raise.new.self) (of_counts counts) (of_counts others)
+      (ap content_of w.self-is) (ap content_of w.in-Count-Count.is-0) (ap content_of w.in-Count-Count.is-1) (ap of_counts joined ∙ join-counts counts others same)) w.raise.ensures.ok
+  | in-Max-Max w ↦
+      let register = w.in-Max-Max.register in
+      let number = w.in-Max-Max.number in
+      on-ok (Ok w.raise-in-Max-Max.result) c.match-self.result _ _ w.result-is
+      (λ joined. joined-as _ _ _ (of_top w.raise-in-Max-Max.new.self.value) (of_top register.value) (of_top number.value)
+      (ap content_of w.self-is) (ap content_of w.in-Max-Max.is-0) (ap content_of w.in-Max-Max.is-1) (ap of_top joined ∙ join-top register.value number.value)) w.raise-in-Max-Max.ensures.ok
+]
+
 pub returns-clause-grew : goal.returns-clause-grew
-returns-clause-grew c = grew-content c.join_in.result c.join_in.new.self _ _ _ (search rules) (search rules) c.join_in.ensures.grew
+returns-clause-grew c = elim c.match-self.branch [
+  | in-Set-Set w ↦
+      subst (λ (r : Result Bool _). IfOk r (λ grew. IsTrue grew ↔ (content_of c.match-self.self ≢ content_of c.args.self.now))) (sym w.result-is)
+      (grew-result w.join_in.result (w.join_in.new.self ≢ w.in-Set-Set.set) _ _ (of_set w.join_in.new.self) (of_set w.in-Set-Set.set)
+      (ap content_of w.self-is) (ap content_of w.in-Set-Set.is-0) (differ-sets w.join_in.new.self w.in-Set-Set.set) w.join_in.ensures.grew)
+  | in-Count-Count w ↦
+      subst (λ (r : Result Bool _). IfOk r (λ grew. IsTrue grew ↔ (content_of c.match-self.self ≢ content_of c.args.self.now))) (sym w.result-is)
+      (grew-as w.raise.result (w.raise.new.self ≢ w.in-Count-Count.counts) _ _ (of_counts w.raise.new.self) (of_counts w.in-Count-Count.counts)
+      (ap content_of w.self-is) (ap content_of w.in-Count-Count.is-0) (differ-counts w.raise.new.self w.in-Count-Count.counts) w.raise.ensures.grew)
+  | in-Max-Max w ↦
+      subst (λ (r : Result Bool _). IfOk r (λ grew. IsTrue grew ↔ (content_of c.match-self.self ≢ content_of c.args.self.now))) (sym w.result-is)
+      (grew-as w.raise-in-Max-Max.result (w.raise-in-Max-Max.new.self ≢ w.in-Max-Max.register) _ _ (of_top w.raise-in-Max-Max.new.self.value) (of_top w.in-Max-Max.register.value)
+      (ap content_of w.self-is) (ap content_of w.in-Max-Max.is-0) (differ-registers w.raise-in-Max-Max.new.self w.in-Max-Max.register) w.raise-in-Max-Max.ensures.grew)
+]

@@ -1,6 +1,20 @@
-use Rattle.std.proofs.Common.{rules}
-use Rattle.lasp_state.proofs.StateLaws.{order-content}
+use Rattle.std.proofs.Common.{ap}
+use Rattle.model_states.specs.Content.{of_set, of_counts, of_top}
+use Rattle.lasp_state.specs.State.{content_of}
+use Rattle.lasp_state.proofs.StateLaws.{order-as, order-set, order-counts, order-top}
 use Rattle.lasp_state.proofs.state.State.le.Goals as goal
 
-pub returns : goal.returns
-returns c = order-content c.le.result _ _ _ _ (search rules) (search rules) c.le.ensures
+pub returns-in-Set-Set : goal.returns-in-Set-Set
+returns-in-Set-Set c =
+    order-as c.le.result _ (content_of c.args.self.now) (content_of c.args.other.now) (of_set c.in-Set-Set.set) (of_set c.in-Set-Set.bound)
+    (ap content_of c.in-Set-Set.is-0) (ap content_of c.in-Set-Set.is-1) (order-set c.in-Set-Set.set c.in-Set-Set.bound) c.le.ensures
+
+pub returns-in-Count-Count : goal.returns-in-Count-Count
+returns-in-Count-Count c =
+    order-as c.is_at_most.result _ (content_of c.args.self.now) (content_of c.args.other.now) (of_counts c.in-Count-Count.counts) (of_counts c.in-Count-Count.bound)
+    (ap content_of c.in-Count-Count.is-0) (ap content_of c.in-Count-Count.is-1) (order-counts c.in-Count-Count.counts c.in-Count-Count.bound) c.is_at_most.ensures
+
+pub returns-in-Max-Max : goal.returns-in-Max-Max
+returns-in-Max-Max c =
+    order-as c.is_not_later.result _ (content_of c.args.self.now) (content_of c.args.other.now) (of_top c.in-Max-Max.register.value) (of_top c.in-Max-Max.bound.value)
+    (ap content_of c.in-Max-Max.is-0) (ap content_of c.in-Max-Max.is-1) (order-top c.in-Max-Max.register.value c.in-Max-Max.bound.value) c.is_not_later.ensures
