@@ -11,7 +11,7 @@ use Rattle.model_graph.specs.Lawful.{variable_limit, width_limit, width_of, widt
 use Rattle.lasp_value.specs.Name.{is_name}
 use Rattle.model_readings.specs.declared.graph_why.GraphWhy.TheVariants as why
 use Rattle.model_readings.specs.Tree.{json_of, list_of}
-use Rattle.model_readings.specs.Graph.{Form, orset, gset, counter, maxreg, union, product, intersection, map, filter, written_of, place_of, known, stored, function_named, pair_read, function_read, kind_read, declaration, decl_read, next_read, numbered, decls_read, tree_read, graph_of}
+use Rattle.model_readings.specs.Graph.{Form, orset, gset, counter, maxreg, union, product, intersection, map, filter, written_of, place_of, known, stored, function_named, inputs_read, input_read, function_read, pair_read, applied_read, kind_read, declaration, decl_read, next_read, numbered, decls_read, tree_read, graph_of}
 use Rattle.model_readings.specs.Lawful.{IsSetAt, AreInputs, Fits, IsNext, IsGraph, FitsAll}
 use Rattle.model_readings.proofs.Chains.{passed, check_passed, or_else_passed, refusing_passed}
 use Rattle.model_readings.proofs.Names.{none_named, found_at}
@@ -19,23 +19,38 @@ use Rattle.model_readings.proofs.Names.{none_named, found_at}
 set_at : (before : List Decl) (x : List ℕ) (i : ℕ) → known before x ≡ Ok i → is_set (decl_at before i).kind ≡ true → IsSetAt before i
 set_at before x i k set = record { decl = decl_at before i; declared = found_at x before i (or_else_passed (place_of x before) why.UnknownInput i k); set = set }
 
+-- two inputs that are read are sets
+pub inputs-sets : (before : List Decl) (x y : List ℕ) (p : ℕ × ℕ) → inputs_read before x y ≡ Ok p → IsSetAt before p.0 × IsSetAt before p.1
+unfolding inputs_read
+inputs-sets before x y p e =
+    let i = passed (known before x) _ p e in
+    let j = passed (known before y) _ p i.then in
+    let s = check_passed (is_set (decl_at before i.value).kind) why.WrongKind _ p j.then in
+    let t = check_passed (is_set (decl_at before j.value).kind) why.WrongKind _ p s.1 in
+    let read : ℕ × ℕ = (i.value, j.value) in
+    let same : read ≡ p = cc in
+    subst (λ (q : ℕ × ℕ). IsSetAt before q.0 × IsSetAt before q.1) same (set_at before x i.value i.first s.0, set_at before y j.value j.first t.0)
+
+-- an input that is read is a set
+pub input-set : (before : List Decl) (x : List ℕ) (i : ℕ) → input_read before x ≡ Ok i → IsSetAt before i
+unfolding input_read
+input-set before x i e =
+    let j = passed (known before x) _ i e in
+    let s = check_passed (is_set (decl_at before j.value).kind) why.WrongKind _ i j.then in
+    let same : j.value ≡ i = cc in
+    subst (IsSetAt before) same (set_at before x j.value j.first s.0)
+
 -- what a process over two sets is, when it is read
 record IsPairRead (before : List Decl) (make : ℕ → ℕ → Kind) (kind : Kind) : Type 0 where
-  first : ℕ
-  second : ℕ
-  made : make first second ≡ kind
-  first_set : IsSetAt before first
-  second_set : IsSetAt before second
+  inputs : ℕ × ℕ
+  made : make inputs.0 inputs.1 ≡ kind
+  sets : IsSetAt before inputs.0 × IsSetAt before inputs.1
 
 pair-read : (before : List Decl) (make : ℕ → ℕ → Kind) (x y : List ℕ) (kind : Kind) → pair_read before make x y ≡ Ok kind → IsPairRead before make kind
-unfolding pair_read
 pair-read before make x y kind e =
-    let i = passed (known before x) _ kind e in
-    let j = passed (known before y) _ kind i.then in
-    let s = check_passed (is_set (decl_at before i.value).kind) why.WrongKind _ kind j.then in
-    let t = check_passed (is_set (decl_at before j.value).kind) why.WrongKind _ kind s.1 in
-    let same : make i.value j.value ≡ kind = cc in
-    record { first = i.value; second = j.value; made = same; first_set = set_at before x i.value i.first s.0; second_set = set_at before y j.value j.first t.0 }
+    let p = passed (inputs_read before x y) _ kind e in
+    let same : make p.value.0 p.value.1 ≡ kind = cc in
+    record { inputs = p.value; made = same; sets = inputs-sets before x y p.value p.first }
 
 -- what a process that applies a function is, when it is read
 record IsFunctionRead {A : Type 0} (before : List Decl) (functions : List (List ℕ × A)) (make : ℕ → ℕ → A → Kind) (kind : Kind) : Type 0 where
@@ -59,42 +74,41 @@ function-stored functions None p h = cc
 function-stored functions (Some place) p h = stored-at functions place (operations_at functions place) p refl h
 
 function-read : {A : Type 0} (before : List Decl) (functions : List (List ℕ × A)) (make : ℕ → ℕ → A → Kind) (x f : List ℕ) (kind : Kind)
-    → function_read before functions make x f ≡ Ok kind → IsFunctionRead before functions make kind
+    → applied_read before functions make x f ≡ Ok kind → IsFunctionRead before functions make kind
 unfolding function_read function_named
 function-read before functions make x f kind e =
-    let i = passed (known before x) _ kind e in
-    let s = check_passed (is_set (decl_at before i.value).kind) why.WrongKind _ kind i.then in
-    let p = passed (or_else (option_and_then (stored functions) (place_named f functions)) why.UnknownFunction) _ kind s.1 in
+    let i = passed (input_read before x) _ kind e in
+    let p = passed (or_else (option_and_then (stored functions) (place_named f functions)) why.UnknownFunction) _ kind i.then in
     let same : make i.value p.value.0 p.value.1 ≡ kind = cc in
     record {
       input = i.value;
       place = p.value.0;
       ops = p.value.1;
       made = same;
-      set = set_at before x i.value i.first s.0;
+      set = input-set before x i.value i.first;
       stored = function-stored functions (place_named f functions) p.value (or_else_passed _ why.UnknownFunction p.value p.first);
     }
 
 -- what is read of a form: its inputs are sets, its function is the library's, and what else it says can be done
-record IsKindRead (lib : Library) (before : List Decl) (kind : Kind) : Type 0 where
-  inputs : AreInputs before kind
-  fits : Fits lib kind
-  sound : IsKind kind
+pub record IsKindRead (lib : Library) (before : List Decl) (kind : Kind) : Type 0 where
+  pub inputs : AreInputs before kind
+  pub fits : Fits lib kind
+  pub sound : IsKind kind
 
-kind-read : (lib : Library) (before : List Decl) (form : Form) (kind : Kind) → kind_read lib before form ≡ Ok kind → IsKindRead lib before kind
+pub kind-read : (lib : Library) (before : List Decl) (form : Form) (kind : Kind) → kind_read lib before form ≡ Ok kind → IsKindRead lib before kind
 kind-read lib before orset kind e = let same : OrSet ≡ kind = cc in subst (IsKindRead lib before) same (record { inputs = tt; fits = tt; sound = tt })
 kind-read lib before gset kind e = let same : GSet ≡ kind = cc in subst (IsKindRead lib before) same (record { inputs = tt; fits = tt; sound = tt })
 kind-read lib before counter kind e = let same : Counter ≡ kind = cc in subst (IsKindRead lib before) same (record { inputs = tt; fits = tt; sound = tt })
 kind-read lib before maxreg kind e = let same : MaxReg ≡ kind = cc in subst (IsKindRead lib before) same (record { inputs = tt; fits = tt; sound = tt })
 kind-read lib before (union x y) kind e =
     let r = pair-read before Union x y kind e in
-    subst (IsKindRead lib before) r.made (record { inputs = (r.first_set, r.second_set); fits = tt; sound = tt })
+    subst (IsKindRead lib before) r.made (record { inputs = r.sets; fits = tt; sound = tt })
 kind-read lib before (product x y) kind e =
     let r = pair-read before Product x y kind e in
-    subst (IsKindRead lib before) r.made (record { inputs = (r.first_set, r.second_set); fits = tt; sound = tt })
+    subst (IsKindRead lib before) r.made (record { inputs = r.sets; fits = tt; sound = tt })
 kind-read lib before (intersection x y) kind e =
     let r = pair-read before Intersection x y kind e in
-    subst (IsKindRead lib before) r.made (record { inputs = (r.first_set, r.second_set); fits = tt; sound = tt })
+    subst (IsKindRead lib before) r.made (record { inputs = r.sets; fits = tt; sound = tt })
 kind-read lib before (map x f) kind e =
     let r = function-read before lib.maps Map x f kind e in
     subst (IsKindRead lib before) r.made (record { inputs = r.set; fits = r.stored; sound = tt })

@@ -78,21 +78,32 @@ unfoldable pub function_named : {A : Type 0} → List (List ℕ × A) → List �
 function_named functions name = option_and_then (stored functions) (place_named name functions)
 
 -- both inputs are known, and then both are sets
-unfoldable pub pair_read : List Decl → (ℕ → ℕ → Kind) → List ℕ → List ℕ → Result Kind GraphWhy
-pair_read before kind x y = do
+unfoldable pub inputs_read : List Decl → List ℕ → List ℕ → Result (ℕ × ℕ) GraphWhy
+inputs_read before x y = do
   i ← known before x
   j ← known before y
   _ ← set_checked before i
   _ ← set_checked before j
-  Ok (kind i j)
+  Ok (i, j)
 
--- the input is a known set, and then the function is in the library
-unfoldable pub function_read : {A : Type 0} → List Decl → List (List ℕ × A) → (ℕ → ℕ → A → Kind) → List ℕ → List ℕ → Result Kind GraphWhy
-function_read before functions kind x f = do
+-- the input is known, and then a set
+unfoldable pub input_read : List Decl → List ℕ → Result ℕ GraphWhy
+input_read before x = do
   i ← known before x
   _ ← set_checked before i
-  p ← or_else (function_named functions f) why.UnknownFunction
-  Ok (kind i p.0 p.1)
+  Ok i
+
+-- the function is in the library
+unfoldable pub function_read : {A : Type 0} → List (List ℕ × A) → List ℕ → Result (ℕ × A) GraphWhy
+function_read functions name = or_else (function_named functions name) why.UnknownFunction
+
+-- a process over two sets
+abbrev pub pair_read : List Decl → (ℕ → ℕ → Kind) → List ℕ → List ℕ → Result Kind GraphWhy
+pair_read before kind x y = inputs_read before x y >>= λ p. Ok (kind p.0 p.1)
+
+-- a process over a set that applies a function
+abbrev pub applied_read : {A : Type 0} → List Decl → List (List ℕ × A) → (ℕ → ℕ → A → Kind) → List ℕ → List ℕ → Result Kind GraphWhy
+applied_read before functions kind x f = input_read before x >>= λ i. function_read functions f >>= λ p. Ok (kind i p.0 p.1)
 
 abbrev pub kind_read : Library → List Decl → Form → Result Kind GraphWhy
 kind_read lib before orset = Ok OrSet
@@ -102,8 +113,8 @@ kind_read lib before maxreg = Ok MaxReg
 kind_read lib before (union x y) = pair_read before Union x y
 kind_read lib before (product x y) = pair_read before Product x y
 kind_read lib before (intersection x y) = pair_read before Intersection x y
-kind_read lib before (map x f) = function_read before lib.maps Map x f
-kind_read lib before (filter x p) = function_read before lib.predicates Filter x p
+kind_read lib before (map x f) = applied_read before lib.maps Map x f
+kind_read lib before (filter x p) = applied_read before lib.predicates Filter x p
 
 abbrev pub declaration : List ℕ → Kind → Decl
 declaration name kind = record { name = name; kind = kind }
