@@ -1,0 +1,10 @@
+//! Functions that a program hands in: each is kept beside the operations whose meaning it has, and found by its name in a library.
+#![tactic(auto)]
+
+mod lift;
+mod map;
+mod predicate;
+
+pub use lift::{LiftOp, apply_lift};
+pub use map::{MapOp, MapOps, apply_map};
+pub use predicate::{PredOp, PredOps, apply_pred};
