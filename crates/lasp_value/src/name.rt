@@ -30,12 +30,19 @@ impl Name {
         ensures some { IfOk result (λ name. IfSome name (λ n. n ≡ s.now)) }
         ensures none { IfOk result (λ name. IsNone name ↔ is_name s.now ≡ false) }
     {
-        if !is_name_shape(s.as_bytes()) {
+        if !Name::is_shape(s) {
             return Ok(None);
         }
         Ok(Some(Name {
             text: String::from_str(alloc, s)?,
         }))
+    }
+
+    /// Whether a text is of a name's shape. It takes no memory.
+    pub fn is_shape(s: &str) -> bool
+        ensures { result ≡ is_name s.now }
+    {
+        is_name_shape(s.as_bytes())
     }
 
     /// The characters.

@@ -1,0 +1,10 @@
+use Rattle.std.proofs.Common.{◌≡◌, ◌↔◌, sym, subst, Bool, Err, IsTrue}
+use Rattle.lasp_value.specs.Name.{is_name}
+use Rattle.lasp_fns.specs.declared.refused.LibraryRefused.TheVariants.{NameTaken}
+use Rattle.lasp_fns.specs.Kept.{named_of}
+use Rattle.lasp_fns.specs.Stored.{ops_of}
+use Rattle.lasp_fns.proofs.Names.{named-told}
+use Rattle.lasp_fns.proofs.library.Library.add_map.Goals as goal
+
+pub returns-clause-taken : goal.returns-clause-taken
+returns-clause-taken g c = subst (λ (b : Bool). (c.add.result ≡ Err NameTaken) ↔ (IsTrue (is_name c.args.name.now) × IsTrue b)) (sym (named-told ops_of c.args.name.now (named_of c.args.self.now.maps))) c.add.ensures.taken
