@@ -1,29 +1,37 @@
 -- What a declaration that was read is, and what it means for those that follow.
 use Rattle.std.proofs.Common.{◌≡◌, refl, Result, Ok, Err, IfOk, List, [], ◌∷◌, ◌++◌, length}
 use Rattle.serde_json.specs.Data.{Data}
+use Rattle.model_functions.specs.Library.{Library}
 use Rattle.model_graph.specs.Graph.{Decl}
 use Rattle.model_readings.specs.Graph.{decl_read, next_read, decls_read}
-use Rattle.model_readings.specs.Lawful.{IsNext}
-use Rattle.model_readings.proofs.Graphs.{next-decl_read}
+use Rattle.model_readings.specs.Graph as plain
+use Rattle.model_readings.specs.Lawful.{AreInputs, IsNext}
+use Rattle.model_readings.proofs.Graphs.{next-decl_read, kind-read}
 use Rattle.lasp_graph.specs.declared.decl.Decl as rust
+use Rattle.lasp_graph.specs.declared.kind.Kind as rust_kind
 use Rattle.lasp_graph.specs.declared.refused.DeclRefused.{DeclRefused}
 use Rattle.lasp_graph.specs.declared.refused.DeclRefused.TheVariants.{Because, Memory}
 use Rattle.lasp_graph.specs.Decl.{decl_of}
+use Rattle.lasp_graph.specs.Kind.{kind_of}
 use Rattle.lasp_graph.specs.Answers.{Answers, Causes, Fails, refused_at}
 
-pub next_read_of : (g : List Decl) (d : Data) (r : Result rust.Decl DeclRefused) → Answers decl_of r (decl_read g d) → IfOk r (λ x. IsNext g (decl_of x))
-next_read_of g d (Ok x) read = next-decl_read g d (decl_of x) read
-next_read_of g d (Err e) read = tt
+pub next_read_of : (lib : Library) (g : List Decl) (d : Data) (r : Result rust.Decl DeclRefused) → Answers decl_of r (decl_read lib g d) → IfOk r (λ x. IsNext g (decl_of x))
+next_read_of lib g d (Ok x) read = (next-decl_read lib g d (decl_of x) read).next
+next_read_of lib g d (Err e) read = tt
 
-pub decls_read-next : (g : List Decl) (d : Data) (ds : List Data) (x : Decl) → next_read g d ≡ Ok x → decls_read g (d ∷ ds) ≡ decls_read (g ++ x ∷ []) ds
+pub decls_read-next : (lib : Library) (g : List Decl) (d : Data) (ds : List Data) (x : Decl) → next_read lib g d ≡ Ok x → decls_read lib g (d ∷ ds) ≡ decls_read lib (g ++ x ∷ []) ds
 unfolding decls_read
-decls_read-next g d ds x e = rw e refl
+decls_read-next lib g d ds x e = rw e refl
 
-pub decls_read-stop : (g : List Decl) (d : Data) (ds : List Data) (e : DeclRefused) → Causes e (next_read g d) → Fails (refused_at (length g) e) (decls_read g (d ∷ ds))
+pub decls_read-stop : (lib : Library) (g : List Decl) (d : Data) (ds : List Data) (e : DeclRefused) → Causes e (next_read lib g d) → Fails (refused_at (length g) e) (decls_read lib g (d ∷ ds))
 unfolding decls_read
-decls_read-stop g d ds (Because why) is = rw is refl
-decls_read-stop g d ds Memory is = tt
+decls_read-stop lib g d ds (Because why) is = rw is refl
+decls_read-stop lib g d ds Memory is = tt
 
-pub decls_read-end : (g : List Decl) → decls_read g [] ≡ Ok g
+pub decls_read-end : (lib : Library) (g : List Decl) → decls_read lib g [] ≡ Ok g
 unfolding decls_read
-decls_read-end g = refl
+decls_read-end lib g = refl
+
+pub kind_inputs : (lib : Library) (g : List Decl) (form : plain.Form) (r : Result rust_kind.Kind DeclRefused) → Answers kind_of r (plain.kind_read lib g form) → IfOk r (λ k. AreInputs g (kind_of k))
+kind_inputs lib g form (Ok k) read = (kind-read lib g form (kind_of k) read).inputs
+kind_inputs lib g form (Err e) read = tt

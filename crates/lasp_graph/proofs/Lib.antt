@@ -2,5 +2,3 @@ pub mod Items
 pub mod Bytes
 pub mod Entries
 pub mod Declared
-pub mod Evaluation
-pub mod StateLists

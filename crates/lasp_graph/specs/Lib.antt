@@ -1,7 +1,7 @@
 pub mod Kind
 pub mod Decl
+pub mod Coded
 pub mod Kept
+pub mod Library
 pub mod Written
 pub mod Answers
-pub mod States
-pub mod Evaluated

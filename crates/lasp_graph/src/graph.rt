@@ -2,26 +2,36 @@
 
 ghost use Rattle.std.specs.Prelude.{◌≡◌, ◌<◌, ◌++◌, ◌∷◌, [], length, slice_get, Some, IfSome, OnOk, OnErr};
 ghost use Rattle.model_graph.specs.Graph.{kind_at};
-ghost use Rattle.model_readings.specs.Graph.{place_of, variable_limit};
-ghost use Rattle.model_readings.specs.Lawful.{IsGraph, IsNext};
+ghost use Rattle.model_graph.specs.Lawful.{variable_limit, width_at, width_of, widths};
+ghost use Rattle.model_readings.specs.Graph.{place_of};
+ghost use Rattle.model_readings.specs.Lawful.{AreInputs, IsGraph, IsNext};
 ghost use Rattle.lasp_graph.specs.Kind.{kind_of};
 ghost use Rattle.lasp_graph.specs.Decl.{decl_of};
 
 use super::decl::Decl;
+use super::kind::Kind;
 use indexmap::IndexMap;
 use std::alloc::{AllocError, Global};
 use std::marker::Model;
 
+/// A declaration with its variable's width.
+#[derive(Drop)]
+struct Declared {
+    decl: Decl,
+    width: u8,
+}
+
 /// A graph of at most 64 variables, each named by its place. Contracts see the list of its declarations.
 #[derive(Drop)]
 pub struct Graph {
-    decls: IndexMap<String, Decl>,
+    decls: IndexMap<String, Declared>,
 }
 
 impl Model for Graph {
     ghost use Rattle.std.specs.Prelude.{List};
     ghost use Rattle.model_graph.specs.Graph.{Decl};
-    ghost use Rattle.lasp_graph.specs.Kept.{coded_decls, decls_of, IsKept};
+    ghost use Rattle.lasp_graph.specs.Coded.{coded_decls};
+    ghost use Rattle.lasp_graph.specs.Kept.{decls_of, IsKept};
 
     ghost Value = { List Decl };
 
@@ -63,8 +73,32 @@ impl Graph {
         ensures decl { slice_get self.now i ≡ Some (decl_of result.now) }
         ensures kind { kind_at self.now i ≡ kind_of result.now.kind }
     {
-        let (_, decl) = self.decls.get_index(i as usize).unwrap();
-        decl
+        let (_, declared) = self.decls.get_index(i as usize).unwrap();
+        &declared.decl
+    }
+
+    /// The width of the variable with this number, at most 16: how many source values stand in a value of it.
+    pub fn width(&self, var: u8) -> u8
+        requires { var < length self.now }
+        ensures { result ≡ width_at (widths self.now) var }
+    {
+        let (_, declared) = self.decls.get_index(var as usize).unwrap();
+        declared.width
+    }
+
+    /// How wide a variable of this kind would be behind those of the graph.
+    pub fn width_of(&self, kind: &Kind) -> u64
+        requires { AreInputs self.now (kind_of kind.now) }
+        ensures { result ≡ width_of (kind_of kind.now) (widths self.now) }
+    {
+        match kind {
+            Kind::OrSet | Kind::GSet | Kind::Counter | Kind::MaxReg => 1,
+            Kind::Union(x, y) => u64::from(self.width(*x).max(self.width(*y))),
+            Kind::Product(x, y) => u64::from(self.width(*x)) + u64::from(self.width(*y)),
+            Kind::Intersection(x, y) => u64::from(self.width(*x)) + u64::from(self.width(*y)),
+            Kind::Map(x, _) => u64::from(self.width(*x)),
+            Kind::Filter(x, _) => u64::from(self.width(*x)),
+        }
     }
 
     /// The number of the variable with this name, by one look-up.
@@ -86,7 +120,8 @@ impl Graph {
         ensures err { OnErr result (self.new ≡ self.old) }
     {
         let name = String::from_str(alloc, decl.name.as_str())?;
-        self.decls.insert(name, decl)?;
+        let width = self.width_of(&decl.kind) as u8;
+        self.decls.insert(name, Declared { decl, width })?;
         Ok(())
     }
 }

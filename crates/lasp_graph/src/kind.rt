@@ -4,23 +4,57 @@ ghost use Rattle.std.specs.Prelude.{◌≡◌};
 ghost use Rattle.model_graph.specs.Graph.{is_set, is_source};
 ghost use Rattle.lasp_graph.specs.Kind.{kind_of};
 
+use lasp_fns::{MapOps, PredOps};
+
+/// A map function of the library: its place there, and the operations that stand at it.
+#[derive(Drop)]
+pub struct MapRef {
+    /// The place, counted from 0.
+    pub place: u32,
+    /// The operations whose meaning the function has.
+    pub ops: MapOps,
+}
+
+/// A predicate of the library: its place there, and the operations that stand at it.
+#[derive(Drop)]
+pub struct PredRef {
+    /// The place, counted from 0.
+    pub place: u32,
+    /// The operations whose meaning the predicate has.
+    pub ops: PredOps,
+}
+
 /// What a variable is: a source, or a process over earlier variables, which are named by their numbers.
-#[derive(Clone, Copy, PartialEq, Eq, Debug)]
+#[derive(Drop)]
 pub enum Kind {
     /// A source: an observed-remove set.
     OrSet,
+    /// A source: a grow-only set.
+    GSet,
+    /// A source: a grow-only counter.
+    Counter,
+    /// A source: a register that keeps the greatest number.
+    MaxReg,
     /// The union of two sets.
     Union(u8, u8),
+    /// The pairs of a value of the first and a value of the second set.
+    Product(u8, u8),
+    /// The values that both sets have.
+    Intersection(u8, u8),
+    /// What a function makes of the values of a set.
+    Map(u8, MapRef),
+    /// The values of a set that pass a test.
+    Filter(u8, PredRef),
 }
 
 impl Kind {
-    /// Whether the variable's content is a set.
+    /// Whether the variable's content is a set with tokens, which may be an input.
     pub fn is_set(&self) -> bool
         ensures { result ≡ is_set (kind_of self.now) }
     {
         match self {
-            Kind::OrSet => true,
-            Kind::Union(_, _) => true,
+            Kind::GSet | Kind::Counter | Kind::MaxReg => false,
+            _ => true,
         }
     }
 
@@ -29,8 +63,8 @@ impl Kind {
         ensures { result ≡ is_source (kind_of self.now) }
     {
         match self {
-            Kind::OrSet => true,
-            Kind::Union(_, _) => false,
+            Kind::OrSet | Kind::GSet | Kind::Counter | Kind::MaxReg => true,
+            _ => false,
         }
     }
 }

@@ -2,8 +2,11 @@
 
 ghost use Rattle.std.specs.Prelude.{◌≡◌, ◌<◌, [], length, map, IfOk, OnOk};
 ghost use Rattle.serde_json.specs.View.{view};
-ghost use Rattle.model_readings.specs.Graph.{variable_limit, known, set_checked, union_read, kind_read, decl_read, next_read, decls_read, tree_read, graph_of};
-ghost use Rattle.model_readings.specs.Lawful.{IsNext};
+ghost use Rattle.model_graph.specs.Lawful.{variable_limit};
+ghost use Rattle.model_readings.specs.Graph.{known, set_checked, inputs_read, input_read, function_read, kind_read, decl_read, next_read, decls_read, tree_read, graph_of};
+ghost use Rattle.model_readings.specs.Lawful.{AreInputs, IsNext};
+ghost use Rattle.lasp_fns.specs.Library.{maps_of, predicates_of};
+ghost use Rattle.lasp_graph.specs.Library.{library_of};
 ghost use Rattle.lasp_graph.specs.Kind.{kind_of};
 ghost use Rattle.lasp_graph.specs.Decl.{decl_of};
 ghost use Rattle.lasp_graph.specs.Written.{form_view};
@@ -11,9 +14,10 @@ ghost use Rattle.lasp_graph.specs.Answers.{Shows, Answers, Gives};
 
 use super::decl::Decl;
 use super::graph::Graph;
-use super::kind::Kind;
+use super::kind::{Kind, MapRef, PredRef};
 use super::refused::{DeclRefused, GraphRefused};
 use super::written::{Form, written_of};
+use lasp_fns::Library;
 use lasp_value::Name;
 use model_readings::GraphWhy;
 use serde_json::Value as Json;
@@ -22,13 +26,16 @@ use std::alloc::Global;
 /// How many declarations a graph may have.
 const VARIABLE_LIMIT: u64 = 64;
 
-/// The graph that the bytes of a file are, in one pass over its declarations.
+/// How wide a variable may be.
+const WIDTH_LIMIT: u64 = 16;
+
+/// The graph that the bytes of a file are, in one pass over its declarations. Its functions are found in the library.
 #[tactic(auto, using(crate::proofs::Bytes::trees), unfolding(model_readings::specs::Graph::graph_of, model_readings::specs::Tree::json_of))]
-pub fn read_graph(alloc: Global, bytes: &[u8]) -> Result<Graph, GraphRefused>
-    ensures exact { Gives (λ g. g) result (graph_of bytes.now) }
+pub fn read_graph(alloc: Global, bytes: &[u8], lib: &Library) -> Result<Graph, GraphRefused>
+    ensures exact { Gives (λ g. g) result (graph_of (library_of lib.now) bytes.now) }
 {
     match Json::from_slice(alloc, bytes) {
-        Ok(tree) => read_tree(alloc, &tree),
+        Ok(tree) => read_tree(alloc, &tree, lib),
         Err(e) if e.is_memory() => Err(GraphRefused::Memory),
         Err(_) => Err(GraphRefused::At {
             number: 0,
@@ -39,8 +46,8 @@ pub fn read_graph(alloc: Global, bytes: &[u8]) -> Result<Graph, GraphRefused>
 
 /// The declaration that a tree is, against the graph before it. Whether the graph has room for it isn't asked.
 #[tactic(auto, unfolding(model_readings::specs::Graph::decl_read))]
-pub fn read_decl(alloc: Global, j: &Json, g: &Graph) -> Result<Decl, DeclRefused>
-    ensures exact { Answers decl_of result (decl_read g.now (view j.now)) }
+pub fn read_decl(alloc: Global, j: &Json, g: &Graph, lib: &Library) -> Result<Decl, DeclRefused>
+    ensures exact { Answers decl_of result (decl_read (library_of lib.now) g.now (view j.now)) }
 {
     let Some(written) = written_of(j) else {
         return Err(DeclRefused::Because(GraphWhy::Shape));
@@ -51,18 +58,19 @@ pub fn read_decl(alloc: Global, j: &Json, g: &Graph) -> Result<Decl, DeclRefused
     if g.find(written.name).is_some() {
         return Err(DeclRefused::Because(GraphWhy::NameTaken));
     }
-    match read_kind(g, &written.form) {
-        Ok(kind) => Ok(Decl { name, kind }),
-        Err(why) => Err(DeclRefused::Because(why)),
+    match read_sound_kind(g, lib, &written.form) {
+        Ok(kind) if g.width_of(&kind) <= WIDTH_LIMIT => Ok(Decl { name, kind }),
+        Ok(_) => Err(DeclRefused::Because(GraphWhy::TooWide)),
+        Err(refused) => Err(refused),
     }
 }
 
 #[tactic(auto, using(crate::proofs::Items::lists), unfolding(model_readings::specs::Graph::tree_read))]
-fn read_tree(alloc: Global, tree: &Json) -> Result<Graph, GraphRefused>
-    ensures { Gives (λ g. g) result (tree_read (view tree.now)) }
+fn read_tree(alloc: Global, tree: &Json, lib: &Library) -> Result<Graph, GraphRefused>
+    ensures { Gives (λ g. g) result (tree_read (library_of lib.now) (view tree.now)) }
 {
     match tree.as_array() {
-        Some(items) => read_items(alloc, items),
+        Some(items) => read_items(alloc, items, lib),
         None => Err(GraphRefused::At {
             number: 0,
             why: GraphWhy::Shape,
@@ -70,12 +78,12 @@ fn read_tree(alloc: Global, tree: &Json) -> Result<Graph, GraphRefused>
     }
 }
 
-fn read_items(alloc: Global, items: &[Json]) -> Result<Graph, GraphRefused>
-    ensures { Gives (λ g. g) result (decls_read [] (map view items.now)) }
+fn read_items(alloc: Global, items: &[Json], lib: &Library) -> Result<Graph, GraphRefused>
+    ensures { Gives (λ g. g) result (decls_read (library_of lib.now) [] (map view items.now)) }
 {
     let mut graph = Graph::empty(alloc);
     for j in items {
-        match read_next(alloc, j, &graph) {
+        match read_next(alloc, j, &graph, lib) {
             Ok(decl) => graph.push(alloc, decl)?,
             Err(refused) => return Err(refused.at(graph.len())),
         }
@@ -84,35 +92,110 @@ fn read_items(alloc: Global, items: &[Json]) -> Result<Graph, GraphRefused>
 }
 
 #[tactic(auto, unfolding(model_readings::specs::Graph::next_read))]
-fn read_next(alloc: Global, j: &Json, g: &Graph) -> Result<Decl, DeclRefused>
-    ensures exact { Answers decl_of result (next_read g.now (view j.now)) }
+fn read_next(alloc: Global, j: &Json, g: &Graph, lib: &Library) -> Result<Decl, DeclRefused>
+    ensures exact { Answers decl_of result (next_read (library_of lib.now) g.now (view j.now)) }
     ensures room { OnOk result (length g.now < variable_limit) }
     ensures next { IfOk result (λ d. IsNext g.now (decl_of d)) }
 {
     if g.len() >= VARIABLE_LIMIT {
         return Err(DeclRefused::Because(GraphWhy::TooMany));
     }
-    read_decl(alloc, j, g)
+    read_decl(alloc, j, g, lib)
 }
 
-fn read_kind(g: &Graph, form: &Form) -> Result<Kind, GraphWhy>
-    ensures { Shows kind_of result (kind_read g.now (form_view form.now)) }
+/// A kind, whose inputs are sets of the graph.
+fn read_sound_kind(g: &Graph, lib: &Library, form: &Form) -> Result<Kind, DeclRefused>
+    ensures exact { Answers kind_of result (kind_read (library_of lib.now) g.now (form_view form.now)) }
+    ensures inputs { IfOk result (λ k. AreInputs g.now (kind_of k)) }
+{
+    read_kind(g, lib, form)
+}
+
+fn read_kind(g: &Graph, lib: &Library, form: &Form) -> Result<Kind, DeclRefused>
+    ensures { Answers kind_of result (kind_read (library_of lib.now) g.now (form_view form.now)) }
 {
     match form {
         Form::OrSet => Ok(Kind::OrSet),
-        Form::Union(x, y) => read_union(g, x, y),
+        Form::GSet => Ok(Kind::GSet),
+        Form::Counter => Ok(Kind::Counter),
+        Form::MaxReg => Ok(Kind::MaxReg),
+        Form::Union(x, y) => {
+            let (i, j) = read_inputs(g, x, y)?;
+            Ok(Kind::Union(i, j))
+        }
+        Form::Product(x, y) => {
+            let (i, j) = read_inputs(g, x, y)?;
+            Ok(Kind::Product(i, j))
+        }
+        Form::Intersection(x, y) => {
+            let (i, j) = read_inputs(g, x, y)?;
+            Ok(Kind::Intersection(i, j))
+        }
+        Form::Map(x, f) => {
+            let i = read_input(g, x)?;
+            Ok(Kind::Map(i, read_map(lib, f)?))
+        }
+        Form::Filter(x, p) => {
+            let i = read_input(g, x)?;
+            Ok(Kind::Filter(i, read_predicate(lib, p)?))
+        }
     }
 }
 
-#[tactic(auto, unfolding(model_readings::specs::Graph::union_read))]
-fn read_union(g: &Graph, x: &str, y: &str) -> Result<Kind, GraphWhy>
-    ensures { Shows kind_of result (union_read g.now x.now y.now) }
+/// Both inputs, where both are known and then both are sets.
+#[tactic(auto, unfolding(model_readings::specs::Graph::inputs_read))]
+fn read_inputs(g: &Graph, x: &str, y: &str) -> Result<(u8, u8), GraphWhy>
+    ensures { Shows (λ p. p) result (inputs_read g.now x.now y.now) }
 {
     let i = known(g, x)?;
     let j = known(g, y)?;
     check_set(g, i)?;
     check_set(g, j)?;
-    Ok(Kind::Union(i, j))
+    Ok((i, j))
+}
+
+/// The input, where it is known and then a set.
+#[tactic(auto, unfolding(model_readings::specs::Graph::input_read))]
+fn read_input(g: &Graph, x: &str) -> Result<u8, GraphWhy>
+    ensures { Shows (λ i. i) result (input_read g.now x.now) }
+{
+    let i = known(g, x)?;
+    check_set(g, i)?;
+    Ok(i)
+}
+
+/// A map function of the library, with a copy of its operations.
+#[tactic(auto, unfolding(model_readings::specs::Graph::function_read, model_readings::specs::Graph::function_named))]
+fn read_map(lib: &Library, name: &str) -> Result<MapRef, DeclRefused>
+    ensures { Answers (λ f. (f.place, f.ops)) result (function_read (maps_of lib.now) name.now) }
+{
+    let Some(place) = lib.find_map(name) else {
+        return Err(DeclRefused::Because(GraphWhy::UnknownFunction));
+    };
+    let Some(ops) = lib.map_ops(place) else {
+        return Err(DeclRefused::Because(GraphWhy::UnknownFunction));
+    };
+    Ok(MapRef {
+        place,
+        ops: ops.try_clone()?,
+    })
+}
+
+/// A predicate of the library, with a copy of its operations.
+#[tactic(auto, unfolding(model_readings::specs::Graph::function_read, model_readings::specs::Graph::function_named))]
+fn read_predicate(lib: &Library, name: &str) -> Result<PredRef, DeclRefused>
+    ensures { Answers (λ p. (p.place, p.ops)) result (function_read (predicates_of lib.now) name.now) }
+{
+    let Some(place) = lib.find_pred(name) else {
+        return Err(DeclRefused::Because(GraphWhy::UnknownFunction));
+    };
+    let Some(ops) = lib.pred_ops(place) else {
+        return Err(DeclRefused::Because(GraphWhy::UnknownFunction));
+    };
+    Ok(PredRef {
+        place,
+        ops: ops.try_clone()?,
+    })
 }
 
 fn known(g: &Graph, name: &str) -> Result<u8, GraphWhy>

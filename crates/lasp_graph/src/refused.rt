@@ -70,3 +70,11 @@ impl<T: Drop> From<AllocFailed<T>> for GraphRefused {
         GraphRefused::Memory
     }
 }
+
+impl From<GraphWhy> for DeclRefused {
+    ghost from_gives = { λ why e. e ≡ decl_refused.Because why };
+
+    fn from(why: GraphWhy) -> DeclRefused {
+        DeclRefused::Because(why)
+    }
+}

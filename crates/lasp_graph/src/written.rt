@@ -3,17 +3,24 @@
 ghost use Rattle.std.specs.Prelude.{◌≡◌, option_map, codes};
 ghost use Rattle.serde_json.specs.View.{view};
 ghost use Rattle.model_readings.specs.Tree.{text_at, two};
-ghost use Rattle.model_readings.specs.Graph.{form_of, written_of, union};
+ghost use Rattle.model_readings.specs.Graph.{form_of, written_of, source_form, names_of};
 ghost use Rattle.lasp_graph.specs.Written.{form_view, written_view};
 
 use super::tree::{has_items, is_word_at, text_at};
 use serde_json::Value as Json;
 
-/// The form of a declaration behind its name, with its inputs' names.
+/// The form of a declaration behind its name, with the names of inputs and functions.
 #[derive(Clone, Copy)]
 pub enum Form<'a> {
     OrSet,
+    GSet,
+    Counter,
+    MaxReg,
     Union(&'a str, &'a str),
+    Product(&'a str, &'a str),
+    Intersection(&'a str, &'a str),
+    Map(&'a str, &'a str),
+    Filter(&'a str, &'a str),
 }
 
 /// A declaration as it is written.
@@ -38,22 +45,49 @@ fn form_of(j: &Json) -> Option<Form<'_>>
     ensures { option_map form_view result ≡ form_of (view j.now) }
 {
     if is_word_at(j, 1, "orset") {
-        if has_items(j, 2) {
-            Some(Form::OrSet)
-        } else {
-            None
-        }
+        source(j, Form::OrSet)
+    } else if is_word_at(j, 1, "gset") {
+        source(j, Form::GSet)
+    } else if is_word_at(j, 1, "counter") {
+        source(j, Form::Counter)
+    } else if is_word_at(j, 1, "maxreg") {
+        source(j, Form::MaxReg)
     } else if is_word_at(j, 1, "union") {
-        if has_items(j, 4) { union_of(j) } else { None }
+        let (x, y) = names(j)?;
+        Some(Form::Union(x, y))
+    } else if is_word_at(j, 1, "product") {
+        let (x, y) = names(j)?;
+        Some(Form::Product(x, y))
+    } else if is_word_at(j, 1, "intersection") {
+        let (x, y) = names(j)?;
+        Some(Form::Intersection(x, y))
+    } else if is_word_at(j, 1, "map") {
+        let (x, f) = names(j)?;
+        Some(Form::Map(x, f))
+    } else if is_word_at(j, 1, "filter") {
+        let (x, p) = names(j)?;
+        Some(Form::Filter(x, p))
     } else {
         None
     }
 }
 
-fn union_of(j: &Json) -> Option<Form<'_>>
-    ensures { option_map form_view result ≡ two union (text_at 2 (view j.now)) (text_at 3 (view j.now)) }
+/// The form of a source, where nothing stands behind its word.
+fn source<'a>(j: &Json, form: Form<'a>) -> Option<Form<'a>>
+    ensures { option_map form_view result ≡ source_form (form_view form.entry) (view j.now) }
 {
+    if has_items(j, 2) { Some(form) } else { None }
+}
+
+/// The two names behind the word of a process.
+#[tactic(auto, unfolding(model_readings::specs::Graph::names_of))]
+fn names(j: &Json) -> Option<(&str, &str)>
+    ensures { option_map (λ p. (p.0.now, p.1.now)) result ≡ names_of (view j.now) }
+{
+    if !has_items(j, 4) {
+        return None;
+    }
     let x = text_at(j, 2)?;
     let y = text_at(j, 3)?;
-    Some(Form::Union(x, y))
+    Some((x, y))
 }

@@ -34,9 +34,13 @@ pub record Written : Type 0 where
 abbrev pub source_form : Form → Data → Option Form
 source_form form d = if has_items 2 d then Some form else None
 
+-- the two names that stand behind the word of a process
+unfoldable pub names_of : Data → Option (List ℕ × List ℕ)
+names_of d = if has_items 4 d then two (λ x y. (x, y)) (text_at 2 d) (text_at 3 d) else None
+
 -- a form of a name, a word and two names more
-unfoldable pub process_form : (List ℕ → List ℕ → Form) → Data → Option Form
-process_form form d = if has_items 4 d then two form (text_at 2 d) (text_at 3 d) else None
+abbrev pub process_form : (List ℕ → List ℕ → Form) → Data → Option Form
+process_form form d = option_map (λ p. form p.0 p.1) (names_of d)
 
 -- `[name,word]` of a source, `[name,word,x,y]` of a process
 unfoldable pub form_of : Data → Option Form
