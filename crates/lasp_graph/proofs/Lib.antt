@@ -2,3 +2,5 @@ pub mod Items
 pub mod Bytes
 pub mod Entries
 pub mod Declared
+pub mod StateLists
+pub mod Evaluation

@@ -5,3 +5,5 @@ pub mod Kept
 pub mod Library
 pub mod Written
 pub mod Answers
+pub mod States
+pub mod Evaluated

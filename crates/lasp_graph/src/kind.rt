@@ -3,6 +3,7 @@
 ghost use Rattle.std.specs.Prelude.{◌≡◌};
 ghost use Rattle.model_graph.specs.Graph.{is_set, is_source};
 ghost use Rattle.lasp_graph.specs.Kind.{kind_of};
+ghost use Rattle.lasp_graph.specs.Evaluated.{inputs_of};
 
 use lasp_fns::{MapOps, PredOps};
 
@@ -65,6 +66,20 @@ impl Kind {
         match self {
             Kind::OrSet | Kind::GSet | Kind::Counter | Kind::MaxReg => true,
             _ => false,
+        }
+    }
+
+    /// The inputs of a process; a process over one set has it as both. None of a source.
+    pub fn inputs(&self) -> Option<(u8, u8)>
+        ensures { result ≡ inputs_of (kind_of self.now) }
+    {
+        match self {
+            Kind::Union(x, y) => Some((*x, *y)),
+            Kind::Product(x, y) => Some((*x, *y)),
+            Kind::Intersection(x, y) => Some((*x, *y)),
+            Kind::Map(x, _) => Some((*x, *x)),
+            Kind::Filter(x, _) => Some((*x, *x)),
+            _ => None,
         }
     }
 }

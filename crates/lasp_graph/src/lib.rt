@@ -4,17 +4,24 @@
 #![tactic(auto)]
 
 mod decl;
+mod evaluate;
 mod graph;
+mod inputs;
 mod kind;
+mod process;
 mod read;
 mod refused;
+mod states;
 mod tree;
 mod written;
 
 pub use decl::Decl;
+pub use evaluate::{eval_all, eval_node};
 pub use graph::Graph;
+pub use inputs::{EvalAll, EvalRefused, Inputs};
 pub use kind::{Kind, MapRef, PredRef};
 pub use model_readings::GraphWhy;
 pub use read::{read_decl, read_graph};
 pub use refused::{DeclRefused, GraphRefused};
+pub use states::States;
 pub use tree::{has_items, is_word_at, number_at, text_at};

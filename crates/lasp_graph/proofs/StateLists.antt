@@ -1,0 +1,36 @@
+-- Lists of shared states in which one changed.
+use Rattle.std.proofs.Common.{ap, sym, ◌∙◌, get_or}
+use Rattle.std.proofs.lemmas.List.{map-set, get_or-map}
+use Rattle.std.proofs.Math.Seq.{map-set_same}
+use Rattle.std.specs.declared.sync.Arc.{Arc}
+use Rattle.std.specs.Arc.{arc_value}
+use Rattle.std.specs.Prelude.{◌≡◌, ℕ, ◌<◌, List, length, map, slice_set, Result, Ok, Err, OnOk, OnErr}
+use Rattle.model_states.specs.Content.{Content}
+use Rattle.lasp_state.specs.declared.state.State.{State}
+use Rattle.lasp_graph.specs.States.{Held, held_of, held_at, grown}
+
+-- what a shared state is
+abbrev pub shown : {Z : Type 0} → Arc State Z → Held
+shown shared = held_of (arc_value shared)
+
+abbrev pub all_shown : {Z : Type 0} → List (Arc State Z) → List Held
+all_shown {Z} states = map (λ (s : Arc State Z). shown s) states
+
+-- the state at a place of the list
+pub held-found : {Z : Type 0} (states : List (Arc State Z)) (i : ℕ) (old : Arc State Z) → i < length states → old ≡ get_or states i old → shown old ≡ held_at (all_shown states) i
+held-found {Z = Z} states i old within found = ap (λ (s : Arc State Z). shown s) found ∙ sym (get_or-map (λ (s : Arc State Z). shown s) states i old _ within)
+
+-- a list of shared states in which one was joined to
+pub join-at-ok : {E Z : Type 0} (r : Result (Unit {0}) E) (states : List (Arc State Z)) (i : ℕ) (old new : Arc State Z) (delta : Content) → i < length states → old ≡ get_or states i old
+    → OnOk r (shown new ≡ grown (shown old) delta) → OnOk r (all_shown (slice_set states i new) ≡ slice_set (all_shown states) i (grown (held_at (all_shown states) i) delta))
+join-at-ok {Z = Z} (Ok done) states i old new delta within found h =
+    map-set (λ (s : Arc State Z). shown s) states i new
+    ∙ ap (λ (c : Held). slice_set (all_shown states) i c) (h ∙ ap (λ (c : Held). grown c delta) (held-found states i old within found))
+join-at-ok (Err e) states i old new delta within found h = tt
+
+-- and one in which none was
+pub join-at-err : {E Z : Type 0} (r : Result (Unit {0}) E) (states : List (Arc State Z)) (i : ℕ) (old new : Arc State Z) → old ≡ get_or states i old
+    → OnErr r (shown new ≡ shown old) → OnErr r (all_shown (slice_set states i new) ≡ all_shown states)
+join-at-err (Ok done) states i old new found h = tt
+join-at-err {Z = Z} (Err e) states i old new found h =
+    map-set_same (λ (s : Arc State Z). shown s) states i new old (h ∙ ap (λ (s : Arc State Z). shown s) found)

@@ -1,0 +1,124 @@
+//! Plain evaluation: the states of all variables from those of the sources, declaration by declaration, from scratch.
+
+ghost use Rattle.std.specs.Prelude.{◌≡◌, ◌<◌, ◌≤◌, length, IfOk, IsFalse};
+ghost use Rattle.std.specs.Arc.{arc_value};
+ghost use Rattle.model_states.specs.Content.{size_of, row_limit};
+ghost use Rattle.model_states.specs.Threshold.{set};
+ghost use Rattle.model_graph.specs.Graph.{kind_at, is_source};
+ghost use Rattle.model_graph.specs.Evaluation.{content_at, eval, evaluated};
+ghost use Rattle.model_graph.specs.Width.{HasWidth};
+ghost use Rattle.model_readings.specs.Lawful.{FitsAll};
+ghost use Rattle.lasp_state.specs.State.{content_of, shape_of};
+ghost use Rattle.lasp_graph.specs.Library.{library_of};
+ghost use Rattle.lasp_graph.specs.States.{held_of, held_at, contents_of};
+ghost use Rattle.lasp_graph.specs.Evaluated.{process, AreSmall, Becomes, Evaluates, seen, AreSets, AreNarrow, shape_after, KeepShapes, second_of};
+
+use super::graph::Graph;
+use super::inputs::{EvalAll, EvalRefused, Inputs};
+use super::process::eval_process;
+use super::states::States;
+use lasp_fns::Library;
+use lasp_state::State;
+use std::alloc::Global;
+use std::sync::Arc;
+
+/// The most rows that a variable may have.
+const MOST_ROWS: u64 = 65_536;
+
+/// The state of a process on its inputs, which hold sets of at most 65,536 rows and of width at most 16. A process over one set reads the first input alone.
+pub fn eval_node(
+    alloc: Global,
+    g: &Graph,
+    lib: &Library,
+    var: u8,
+    inputs: &Inputs,
+) -> Result<State, EvalRefused>
+    requires declared { var < length g.now }
+    requires derived { IsFalse (is_source (kind_at g.now var)) }
+    requires fits { FitsAll (library_of lib.now) g.now }
+    requires sets { (shape_of (arc_value inputs.now.first) ≡ set) × (shape_of (second_of inputs.now) ≡ set) }
+    requires width { HasWidth 16 (content_of (arc_value inputs.now.first)) }
+    requires small { size_of (content_of (arc_value inputs.now.first)) ≤ row_limit }
+    ensures content { Becomes (seen content_of result) (process (kind_at g.now var) (content_of (arc_value inputs.now.first)) (content_of (second_of inputs.now))) }
+    ensures shape { IfOk result (λ s. shape_of s ≡ set) }
+{
+    let second = match &inputs.second {
+        Some(second) => second,
+        None => &inputs.first,
+    };
+    eval_process(alloc, &g.at(var as u64).kind, lib, &inputs.first, second)
+}
+
+/// The states of all variables, or the least variable that has too many rows. The states of sources are given by variable; what is given for the others isn't read.
+/// It costs the processes' equations on whole states; sources are shared.
+pub fn eval_all(
+    alloc: Global,
+    g: &Graph,
+    lib: &Library,
+    sources: &States,
+) -> Result<States, EvalAll>
+    requires all { length sources.now ≡ length g.now }
+    requires fits { FitsAll (library_of lib.now) g.now }
+    requires sets { AreSets g.now sources.now }
+    requires narrow { AreNarrow g.now sources.now }
+    ensures exact { Evaluates (seen contents_of result) (eval g.now (contents_of sources.now)) }
+    ensures shapes { IfOk result (λ states. KeepShapes (length g.now) g.now sources.now states) }
+{
+    let mut states = States::new(alloc);
+    for var in 0..g.len() {
+        match eval_var(alloc, g, lib, var as u8, &states, sources) {
+            Ok(state) => states.push(state)?,
+            Err(refused) => return Err(refused.at(var as u8)),
+        }
+    }
+    Ok(states)
+}
+
+/// The state of one variable, from those before it and the sources.
+fn eval_var(
+    alloc: Global,
+    g: &Graph,
+    lib: &Library,
+    var: u8,
+    done: &States,
+    sources: &States,
+) -> Result<Arc<State>, EvalRefused>
+    requires declared { var < length g.now }
+    requires done { length done.now ≡ var }
+    requires all { length sources.now ≡ length g.now }
+    requires fits { FitsAll (library_of lib.now) g.now }
+    requires sets { AreSets g.now sources.now }
+    requires shapes { KeepShapes var g.now sources.now done.now }
+    requires width { (x : _) → x < var → HasWidth 16 (content_at (contents_of done.now) x) }
+    requires small { AreSmall (contents_of done.now) }
+    ensures content { Becomes (seen (λ s. content_of (arc_value s)) result) (evaluated (kind_at g.now var) (contents_of done.now) (contents_of sources.now)) }
+    ensures shape { IfOk result (λ s. shape_of (arc_value s) ≡ shape_after (kind_at g.now var) (held_at sources.now var).shape) }
+{
+    let kind = &g.at(var as u64).kind;
+    match kind.inputs() {
+        None => share(sources.at(var as u64)),
+        Some((x, y)) => {
+            g.recall();
+            let first = done.at(x as u64);
+            let second = done.at(y as u64);
+            let state = eval_process(alloc, kind, lib, first, second)?;
+            match Arc::new(alloc, state) {
+                Ok(share) => Ok(share),
+                Err(_) => Err(EvalRefused::Memory),
+            }
+        }
+    }
+}
+
+fn share(state: &Arc<State>) -> Result<Arc<State>, EvalRefused>
+    ensures content { Becomes (seen (λ s. content_of (arc_value s)) result) (content_of (arc_value state.now)) }
+    ensures shape { IfOk result (λ s. shape_of (arc_value s) ≡ shape_of (arc_value state.now)) }
+{
+    if state.size() > MOST_ROWS {
+        return Err(EvalRefused::TooManyRows);
+    }
+    match Arc::try_clone(state) {
+        Ok(share) => Ok(share),
+        Err(_) => Err(EvalRefused::Memory),
+    }
+}

@@ -1,0 +1,89 @@
+//! The states of variables, shared.
+
+ghost use Rattle.std.specs.Prelude.{◌≡◌, ◌<◌, ◌++◌, ◌∷◌, [], length, slice_get, slice_set, Some, OnOk, OnErr};
+ghost use Rattle.std.specs.Arc.{arc_value};
+ghost use Rattle.lasp_state.specs.State.{content_of, shape_of};
+ghost use Rattle.lasp_graph.specs.States.{held_of, held_at, grown};
+
+use lasp_state::State;
+use std::alloc::{AllocError, Global};
+use std::marker::Model;
+use std::sync::Arc;
+
+/// The states of variables, in their order. Contracts see of each its shape and its content.
+#[derive(Drop)]
+pub struct States {
+    states: Vec<Arc<State>>,
+}
+
+impl Model for States {
+    ghost use Rattle.std.specs.Prelude.{List, map};
+    ghost use Rattle.std.specs.Arc.{arc_value};
+    ghost use Rattle.lasp_graph.specs.States.{Held, held_of, coded_states};
+
+    ghost Value = { List Held };
+
+    ghost coded = { coded_states };
+
+    ghost view = { λ a. map (λ s. held_of (arc_value s)) a.states.items };
+}
+
+impl States {
+    /// No states. It takes no memory.
+    pub fn new(alloc: Global) -> States
+        ensures { result ≡ [] }
+    {
+        States {
+            states: Vec::new(alloc),
+        }
+    }
+
+    /// The number of states.
+    pub fn len(&self) -> u64
+        ensures { result ≡ length self.now }
+    {
+        self.states.len() as u64
+    }
+
+    /// The state at a place, counted from 0.
+    pub fn at(&self, i: u64) -> &Arc<State>
+        requires { i < length self.now }
+        ensures { slice_get self.now i ≡ Some (held_of (arc_value result.now)) }
+    {
+        &self.states[i as usize]
+    }
+
+    /// The state is appended.
+    pub fn push(&mut self, state: Arc<State>) -> Result<(), AllocError>
+        ensures ok { OnOk result (self.new ≡ self.old ++ held_of (arc_value state) ∷ []) }
+        ensures err { OnErr result (self.new ≡ self.old) }
+    {
+        self.states.push(state)?;
+        Ok(())
+    }
+
+    /// Joins a state into the one at a place: in place where nobody shares it, else into a copy of its list of shares. After a refusal all is as before.
+    pub fn join_at(&mut self, alloc: Global, i: u64, other: &State) -> Result<(), AllocError>
+        requires within { i < length self.old }
+        requires shape { (held_at self.old i).shape ≡ shape_of other.now }
+        ensures ok { OnOk result (self.new ≡ slice_set self.old i (grown (held_at self.old i) (content_of other.now))) }
+        ensures err { OnErr result (self.new ≡ self.old) }
+    {
+        join_shared(alloc, &mut self.states[i as usize], other)
+    }
+}
+
+fn join_shared(alloc: Global, shared: &mut Arc<State>, other: &State) -> Result<(), AllocError>
+    requires { shape_of (arc_value shared.old) ≡ shape_of other.now }
+    ensures ok { OnOk result (held_of (arc_value shared.new) ≡ grown (held_of (arc_value shared.old)) (content_of other.now)) }
+    ensures err { OnErr result (held_of (arc_value shared.new) ≡ held_of (arc_value shared.old)) }
+{
+    if let Some(state) = Arc::get_mut(shared) {
+        state.join_in(other)?;
+        return Ok(());
+    }
+    let mut copy = shared.try_clone()?;
+    copy.join_in(other)?;
+    *shared = Arc::new(alloc, copy)?;
+    Ok(())
+}
