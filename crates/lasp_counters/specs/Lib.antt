@@ -1,4 +1,5 @@
-pub mod CountLaws
 pub mod Counts
+pub mod CountLaws
+pub mod Members
 pub mod Register
 pub mod RegisterLaws

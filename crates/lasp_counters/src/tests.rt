@@ -2,6 +2,7 @@
 
 use super::*;
 use lasp_lattice::Lattice;
+use lasp_value::Value;
 use std::alloc::{AllocError, Global};
 use std::test::Fail;
 
@@ -84,5 +85,81 @@ fn a_register_keeps_the_greatest_number(rt: HostRuntime) -> Result<(), Fail> {
         assert!(rt; Lattice::le(&other, &register));
         assert!(rt; register.bottom_like()?.value == None);
     }
+    Ok(())
+}
+
+fn inserted(alloc: Global, numbers: &[i64]) -> Result<GSet, AllocError> {
+    let mut set = GSet::new(alloc);
+    for n in numbers {
+        set.unite(&GSet::insert_delta(alloc, &Value::Int(*n))?)?;
+    }
+    Ok(set)
+}
+
+fn text(alloc: Global, set: &GSet) -> Result<String, AllocError> {
+    let mut out = String::new(alloc);
+    set.print_into(&mut out)?;
+    Ok(out)
+}
+
+/// How many values of a pass are 0, 1 and so on.
+fn counted_up(set: &GSet) -> i64 {
+    let mut next = 0i64;
+    let mut values = set.iter();
+    while let Some(value) = values.next() {
+        if *value != Value::Int(next) {
+            return next;
+        }
+        next = next.saturating_add(1);
+    }
+    next
+}
+
+#[test]
+fn a_union_has_the_values_of_either_once(rt: HostRuntime) -> Result<(), Fail> {
+    let alloc = rt.alloc();
+    let table = [
+        (&[][..], &[][..], "[]", 0u64, false),
+        (&[1i64][..], &[][..], "[1]", 1, false),
+        (&[][..], &[4i64, -2][..], "[-2,4]", 2, true),
+        (&[7, 3, 5][..], &[3, 7][..], "[3,5,7]", 3, false),
+        (&[7, 3][..], &[5, 3, 9][..], "[3,5,7,9]", 4, true),
+    ];
+    for (mine, theirs, united, len, grew) in table {
+        let mut set = inserted(alloc, mine)?;
+        let other = inserted(alloc, theirs)?;
+        assert_eq!(rt; set.joined_len(&other), len);
+        assert_eq!(rt; other.joined_len(&set), len);
+        assert_eq!(rt; Lattice::le(&other, &set), !grew);
+        assert_eq!(rt; set.join_in(&other)?, grew);
+        assert_eq!(rt; text(alloc, &set)?.as_str(), united);
+        assert_eq!(rt; set.len(), len);
+        assert!(rt; Lattice::le(&other, &set));
+        assert_eq!(rt; set.bottom_like()?.len(), 0);
+    }
+    Ok(())
+}
+
+#[test]
+fn values_stand_in_order_however_they_came(rt: HostRuntime) -> Result<(), Fail> {
+    let alloc = rt.alloc();
+    let mut set = GSet::new(alloc);
+    for k in 0..300u64 {
+        let n = (k * 7919 % 300) as i64;
+        set.unite(&GSet::insert_delta(alloc, &Value::Int(n))?)?;
+    }
+    let snapshot = set.try_clone()?;
+    set.unite(&GSet::insert_delta(alloc, &Value::Int(-1))?)?;
+    assert_eq!(rt; set.len(), 301);
+    assert_eq!(rt; snapshot.len(), 300);
+    assert!(rt; set.has(&Value::Int(299)));
+    assert!(rt; !set.has(&Value::Int(300)));
+    assert!(rt; !snapshot.has(&Value::Int(-1)));
+    for i in [0u64, 1, 128, 299] {
+        if i < snapshot.len() {
+            assert!(rt; *snapshot.at(i) == Value::Int(i as i64));
+        }
+    }
+    assert_eq!(rt; counted_up(&snapshot), 300);
     Ok(())
 }

@@ -95,8 +95,8 @@ impl OrSet {
         *self.pieces.allocator()
     }
 
-    /// The least set, by the same allocator.
-    pub(crate) fn empty(&self) -> OrSet
+    /// The least set, by the same allocator. It takes no memory.
+    pub fn empty(&self) -> OrSet
         ensures { result ≡ [] }
     {
         OrSet::new(self.allocator())
