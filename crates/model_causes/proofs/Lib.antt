@@ -1,3 +1,10 @@
 mod CauseLaws
+mod PlanLaws
 mod FirstLaws
-mod FirstCommandLaws
+mod Firsts
+mod Failing
+mod NamedLaws
+mod KindLaws
+mod DeclarationLaws
+mod WordLaws
+mod CommandLaws

@@ -1,6 +1,7 @@
--- Reading items one after the other, each against those before it, up to the first that is refused.
-use Rattle.std.specs.Prelude.{◌≡◌, ℕ, ◌+◌, List, [], ◌∷◌, ◌++◌, length, Ok, Err}
+-- Reading items one after the other, each against those read before it, up to the first that is refused.
+use Rattle.std.specs.Prelude.{◌≡◌, ℕ, ◌+◌, List, [], ◌∷◌, ◌++◌, length, Result, Ok, Err}
 use Rattle.serde_json.specs.Data.{Data}
+use Rattle.model_functions.specs.Library.{Library}
 use Rattle.model_graph.specs.Graph.{Decl}
 use Rattle.model_world.specs.Command.{Command}
 use Rattle.model_readings.specs.Graph as graph
@@ -8,34 +9,41 @@ use Rattle.model_readings.specs.Script as script
 use Rattle.model_readings.specs.declared.graph_why.GraphWhy.{GraphWhy}
 use Rattle.model_readings.specs.declared.script_why.ScriptWhy.{ScriptWhy}
 
--- the declarations of these trees stand behind those before them, each accepted where it stands
-pub data AreDecls : List Decl → List Data → List Decl → Type 0 where
-  none : {before : List Decl} → AreDecls before [] before
-  more : {before all : List Decl} {d : Data} {ds : List Data} {decl : Decl} → graph.next_read before d ≡ Ok decl → AreDecls (before ++ decl ∷ []) ds all → AreDecls before (d ∷ ds) all
+-- what these items are stands behind those before them, each accepted where it stands
+pub data AreRead {D A E : Type 0} (read : List A → D → Result A E) : List A → List D → List A → Type 0 where
+  none : {before : List A} → AreRead read before [] before
+  more : {before all : List A} {d : D} {ds : List D} {a : A} → read before d ≡ Ok a → AreRead read (before ++ a ∷ []) ds all → AreRead read before (d ∷ ds) all
 
--- a graph is refused at a declaration: those before it are accepted, and it is refused behind them
-pub record IsRefusedDecl (before : List Decl) (ds : List Data) (number : ℕ) (why : GraphWhy) : Type 0 where
-  pub good : List Data
-  pub bad : Data
-  pub rest : List Data
-  pub all : List Decl
+-- items are refused at one of them: those before it are accepted, it is refused behind them, and they tell its number
+pub record IsRefused {D A E : Type 0} (reader : List A → D → Result A E) (number_of : List A → ℕ) (before : List A) (ds : List D) (number : ℕ) (why : E) : Type 0 where
+  pub good : List D
+  pub bad : D
+  pub rest : List D
+  pub all : List A
   pub items : good ++ bad ∷ rest ≡ ds
-  pub read : AreDecls before good all
-  pub number_is : length all ≡ number
-  pub refused : graph.next_read all bad ≡ Err why
+  pub read : AreRead reader before good all
+  pub number_is : number_of all ≡ number
+  pub refused : reader all bad ≡ Err why
 
--- the commands of these trees stand behind those before them; the first command of a script is number 1
-pub data AreCommands (g : List Decl) (nodes : ℕ) : List Command → List Data → List Command → Type 0 where
-  no_more : {before : List Command} → AreCommands g nodes before [] before
-  one_more : {before all : List Command} {d : Data} {ds : List Data} {k : Command} → script.next_read g nodes (length before + 1) d ≡ Ok k → AreCommands g nodes (before ++ k ∷ []) ds all → AreCommands g nodes before (d ∷ ds) all
+-- the declarations of these trees
+abbrev pub AreDecls : Library → List Decl → List Data → List Decl → Type 0
+AreDecls lib = AreRead (graph.next_read lib)
 
--- a script is refused at a command: those before it are accepted, and it is refused behind them
-pub record IsRefusedCommand (g : List Decl) (nodes : ℕ) (before : List Command) (ds : List Data) (number : ℕ) (why : ScriptWhy) : Type 0 where
-  pub good : List Data
-  pub bad : Data
-  pub rest : List Data
-  pub all : List Command
-  pub items : good ++ bad ∷ rest ≡ ds
-  pub read : AreCommands g nodes before good all
-  pub number_is : length all + 1 ≡ number
-  pub refused : script.next_read g nodes (length all + 1) bad ≡ Err why
+-- a graph is refused at a declaration; the first one is number 0
+abbrev pub IsRefusedDecl : Library → List Decl → List Data → ℕ → GraphWhy → Type 0
+IsRefusedDecl lib = IsRefused (graph.next_read lib) length
+
+-- the number of the command behind these; the first command of a script is number 1
+abbrev pub next_number : List Command → ℕ
+next_number before = length before + 1
+
+abbrev pub next_command : List Decl → ℕ → List Command → Data → Result Command ScriptWhy
+next_command g nodes before d = script.next_read g nodes (next_number before) d
+
+-- the commands of these trees
+abbrev pub AreCommands : List Decl → ℕ → List Command → List Data → List Command → Type 0
+AreCommands g nodes = AreRead (next_command g nodes)
+
+-- a script is refused at a command
+abbrev pub IsRefusedCommand : List Decl → ℕ → List Command → List Data → ℕ → ScriptWhy → Type 0
+IsRefusedCommand g nodes = IsRefused (next_command g nodes) next_number

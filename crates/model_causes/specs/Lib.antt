@@ -1,1 +1,5 @@
+pub mod Told
 pub mod First
+pub mod Named
+pub mod Declaration
+pub mod Word

@@ -11,7 +11,7 @@ use borrow.Author.Tests.{ltb-false}
 use Rattle.model_graph.specs.Graph.{Decl, no_decl, decl_at}
 use Rattle.model_readings.specs.Graph.{place_of}
 
-none_before : {X : Type 0} (p : X → Bool) (xs : List X) (k : ℕ) (x : X) (b : Bool) → b ≡ nat_lt (position_or_len p xs) (length xs)
+pub none_before : {X : Type 0} (p : X → Bool) (xs : List X) (k : ℕ) (x : X) (b : Bool) → b ≡ nat_lt (position_or_len p xs) (length xs)
     → cond b (Some (position_or_len p xs)) None ≡ None → slice_get xs k ≡ Some x → p x ≡ false
 none_before p xs k x true e h at = cc
 none_before p xs k x false e h at =
