@@ -1,27 +1,29 @@
 -- What one more entry changes, kind by kind, and which entries are legal after legal ones.
-use Rattle.std.proofs.Common.{◌≡◌, ℕ, ◌+◌, ◌≤◌, ◌<◌, max, Bool, true, false, IsTrue, if◌then◌else◌, ◌==◌, List, [], ◌∷◌, ◌++◌, length, take, slice_set, Option, Some, None, refl, sym, ap, subst, ◌∙◌, arith, append-nil, append_assoc}
+use Rattle.std.proofs.Common.{◌≡◌, ℕ, ◌+◌, ◌<◌, Bool, true, false, IsTrue, if◌then◌else◌, ◌==◌, List, [], ◌∷◌, ◌++◌, length, take, slice_set, Option, Some, None, refl, sym, ap, subst, ◌∙◌, arith, append-nil, append_assoc}
 use Rattle.std.proofs.lemmas.Bool.Decides.{nat_tests}
 use Rattle.std.proofs.lemmas.List.{length-set, get_or-set_same, get_or-set_other}
-use Rattle.model_states.specs.Content.{Content, least, join_contents}
+use Rattle.model_states.specs.Counts.{count_at, larger}
+use Rattle.model_states.specs.Content.{Content, least, join_contents, IsContentAtMost, is_content_at_most}
 use Rattle.model_states.specs.Update.{Op, delta}
+use Rattle.model_states.proofs.ContentLaws.{test-from-at_most, at_most-from-test}
 use Rattle.model_graph.specs.Graph.{Decl, is_source, kind_at}
-use Rattle.model_graph.specs.Evaluation.{content_at, equation}
-use Rattle.model_journal.specs.Order.{IsContentAtMost, is_content_at_most}
-use Rattle.model_journal.specs.Entry.{Message, Act, Update, Deliver, Bind, Extend, Entry, Frame}
-use Rattle.model_journal.specs.Journal.{Snapshot, Journal, snapshot_at, count_at, sent_at, source_number, gain, with_gain, gained, graph_after, greater_counts, version_after, snapshot_after, binds_after, next, run, start, journal, graph, vals, val, counts, declared_by, declared}
-use Rattle.model_journal.specs.Clean.{version, applied, greatest_bound, base}
-use Rattle.model_journal.specs.Legal.{IsDerived, IsLawful, IsValidSnapshot, IsLegalFrom, IsLegal}
-use Rattle.model_journal.proofs.PlaceLaws.{at-kept, equal-numbers}
-use Rattle.model_journal.proofs.ContentLaws.{test-from-at_most, at_most-from-test}
-use Rattle.model_journal.proofs.EvalLaws.{same-lists}
-use Rattle.model_journal.proofs.StepLaws.{gained-length, gained-at, after-at}
+use Rattle.model_graph.specs.Evaluation.{least_of, content_at, equation}
+use Rattle.model_graph.specs.Lawful.{IsDerived}
+use Rattle.model_graph.proofs.PlaceLaws.{equal-numbers, same-lists}
+use Rattle.model_messages.specs.Message.{Message, sent_at, source_number, with_gain, gained}
+use Rattle.model_journal.specs.Entry.{Act, Update, Deliver, Bind, Extend, Entry, Frame}
+use Rattle.model_journal.specs.Journal.{Snapshot, Journal, snapshot_at, gain, graph_after, version_after, snapshot_after, next, run, start, journal, graph, vals, val, counts, declared_by, declared}
+use Rattle.model_journal.specs.Clean.{version}
+use Rattle.model_journal.specs.Legal.{IsLegal}
+use Rattle.model_journal.proofs.GainLaws.{gained-length, gained-at}
+use Rattle.model_journal.proofs.StepLaws.{after-at}
 use Rattle.model_journal.proofs.JournalLaws.{journal-push, journal-good}
-use Rattle.model_journal.proofs.CleanLaws.{snapshot-take, read-is, max-version}
+use Rattle.model_journal.proofs.CleanLaws.{snapshot-take}
 
 -- ---- contents
 
 one-gained : (y : ℕ) (c : Content) (ss : List Content) → y < length ss → (gains : ℕ → Option Content) → ((x : ℕ) → gains x ≡ (if x == y then Some c else None)) → gained gains 0 ss ++ [] ≡ slice_set ss y (join_contents (content_at ss y) c)
-one-gained y c ss low gains only = append-nil (gained gains 0 ss) ∙ same-lists (gained gains 0 ss) (slice_set ss y (join_contents (content_at ss y) c))
+one-gained y c ss low gains only = append-nil (gained gains 0 ss) ∙ same-lists (gained gains 0 ss) (slice_set ss y (join_contents (content_at ss y) c)) least
     (gained-length gains 0 ss ∙ sym (length-set ss y (join_contents (content_at ss y) c)))
     (λ x h. at x (omega (arith, h, gained-length gains 0 ss))) where
       choose : (x : ℕ) (b : Bool) → (x == y) ≡ b → with_gain (content_at ss x) (if b then Some c else None) ≡ content_at (slice_set ss y (join_contents (content_at ss y) c)) x
@@ -74,11 +76,11 @@ deliver-derived X h legal e m is x d =
     ∙ after-at X (journal X h) (Deliver m) x (omega (arith, d.declared, (journal-good X h legal).shape))
     ∙ ap (λ (b : Bool). with_gain (val X h x) (if b then Some (sent_at m.sources (source_number (graph X h) x)) else None)) d.process
 
-pub deliver-counts : (X : Frame) (h : List Entry) (e : Entry) (m : Message) → e.act ≡ Deliver m → counts X (h ++ e ∷ []) ≡ greater_counts (counts X h) m.counts
+pub deliver-counts : (X : Frame) (h : List Entry) (e : Entry) (m : Message) → e.act ≡ Deliver m → counts X (h ++ e ∷ []) ≡ larger (counts X h) m.counts
 deliver-counts X h e m is = ap (λ (s : Snapshot). s.counts) (pushed X h e (Deliver m) is)
 
-pub extend-vals : (X : Frame) (h : List Entry) (e : Entry) (d : Decl) → e.act ≡ Extend d → vals X (h ++ e ∷ []) ≡ vals X h ++ least ∷ []
-extend-vals X h e d is = ap (λ (s : Snapshot). s.contents) (pushed X h e (Extend d) is) ∙ ap (λ (ss : List Content). ss ++ least ∷ []) (none-gained 0 (vals X h))
+pub extend-vals : (X : Frame) (h : List Entry) (e : Entry) (d : Decl) → e.act ≡ Extend d → vals X (h ++ e ∷ []) ≡ vals X h ++ least_of X.nodes d.kind ∷ []
+extend-vals X h e d is = ap (λ (s : Snapshot). s.contents) (pushed X h e (Extend d) is) ∙ ap (λ (ss : List Content). ss ++ least_of X.nodes d.kind ∷ []) (none-gained 0 (vals X h))
 
 pub extend-counts : (X : Frame) (h : List Entry) (e : Entry) (d : Decl) → e.act ≡ Extend d → counts X (h ++ e ∷ []) ≡ counts X h
 extend-counts X h e d is = ap (λ (s : Snapshot). s.counts) (pushed X h e (Extend d) is)
@@ -118,72 +120,6 @@ version-up X h e x grew = version-at X h e x ∙ choose (is_content_at_most (val
   choose true t = absurd (grew (at_most-from-test (val X (h ++ e ∷ []) x) (val X h x) t))
   choose false t = refl
 
--- ---- legal entries
-
-legal-from-parts : (X : Frame) (j : Journal) (h k : List Entry) → IsLegalFrom X j (h ++ k) → IsLegalFrom X j h × IsLegalFrom X (run X j h) k
-legal-from-parts X j [] k legal = (tt, legal)
-legal-from-parts X j (e ∷ h) k legal = let rest = legal-from-parts X (next X j e) h k legal.2 in ((legal.0, legal.1, rest.0), rest.1)
-
-legal-from-both : (X : Frame) (j : Journal) (h k : List Entry) → IsLegalFrom X j h → IsLegalFrom X (run X j h) k → IsLegalFrom X j (h ++ k)
-legal-from-both X j [] k first rest = rest
-legal-from-both X j (e ∷ h) k first rest = (first.0, first.1, legal-from-both X (next X j e) h k first.2 rest)
-
-pub legal-first : (X : Frame) (h k : List Entry) → IsLegal X (h ++ k) → IsLegal X h
-legal-first X h k legal = record { opening = legal.opening; member = legal.member; in_turn = (legal-from-parts X (start X) h k legal.in_turn).0 }
-
-pub legal-last : (X : Frame) (h : List Entry) (e : Entry) → IsLegal X (h ++ e ∷ []) → IsLawful X (journal X h) e.act
-legal-last X h e legal = (legal-from-parts X (start X) h (e ∷ []) legal.in_turn).1.0
-
-pub legal-valid : (X : Frame) (h : List Entry) (e : Entry) → IsLegal X (h ++ e ∷ []) → IsValidSnapshot X.nodes (journal X (h ++ e ∷ [])).now
-legal-valid X h e legal = subst (λ (j : Journal). IsValidSnapshot X.nodes j.now) (sym (journal-push X h e)) (legal-from-parts X (start X) h (e ∷ []) legal.in_turn).1.1
-
-pub legal-push : (X : Frame) (h : List Entry) (e : Entry) → IsLegal X h → IsLawful X (journal X h) e.act → IsValidSnapshot X.nodes (journal X (h ++ e ∷ [])).now → IsLegal X (h ++ e ∷ [])
-legal-push X h e legal lawful small = record {
-  opening = legal.opening;
-  member = legal.member;
-  in_turn = legal-from-both X (start X) h (e ∷ []) legal.in_turn (lawful, subst (λ (j : Journal). IsValidSnapshot X.nodes j.now) (journal-push X h e) small, tt);
-}
-
--- ---- applied versions
-
-bound-kept : (j : Journal) (act : Act) (y : ℕ) → ((n : ℕ) → act ≡ Bind y n → ⊥) → greatest_bound (binds_after j.binds act) y ≡ greatest_bound j.binds y
-bound-kept j (Update z op) y other = refl
-bound-kept j (Deliver m) y other = refl
-bound-kept j (Extend d) y other = refl
-bound-kept j (Bind z n) y other = choose (z == y) refl where
-  choose : (b : Bool) → (z == y) ≡ b → (if b then max n (greatest_bound j.binds y) else greatest_bound j.binds y) ≡ greatest_bound j.binds y
-  choose true e = absurd (other n (ap (λ (x : ℕ). Bind x n) (equal-numbers z y e)))
-  choose false e = refl
-
-bound-greater : (j : Journal) (act : Act) (y n : ℕ) → act ≡ Bind y n → greatest_bound (binds_after j.binds act) y ≡ max n (greatest_bound j.binds y)
-bound-greater j act y n is =
-    let own : (y == y) ≡ true = grind (arith, nat_tests) in
-    ap (λ (a : Act). greatest_bound (binds_after j.binds a) y) is ∙ ap (λ (b : Bool). if b then max n (greatest_bound j.binds y) else greatest_bound j.binds y) own
-
--- what was applied after one more entry, by the base after it
-applied-next : (X : Frame) (h : List Entry) (e : Entry) → IsLegal X (h ++ e ∷ []) → (y x n : ℕ) → greatest_bound (binds_after (journal X h).binds e.act) y ≡ n → n ≤ length (journal X h).past
-    → applied X (h ++ e ∷ []) y x ≡ (snapshot_at (journal X h) n).versions x
-applied-next X h e legal y x n top low =
-    read-is (journal X (h ++ e ∷ [])) (journal-good X (h ++ e ∷ []) legal) (journal X (h ++ e ∷ [])).binds y x
-    ∙ ap (λ (j : Journal). (snapshot_at j (greatest_bound j.binds y)).versions x) (journal-push X h e)
-    ∙ ap (λ (i : ℕ). (snapshot_at (next X (journal X h) e) i).versions x) top
-    ∙ ap (λ (s : Snapshot). s.versions x) (at-kept (journal X h).past (journal X h).now (snapshot_after X (journal X h) e.act) n low)
-
-pub applied-kept : (X : Frame) (h : List Entry) (e : Entry) → IsLegal X (h ++ e ∷ []) → (y x : ℕ) → ((n : ℕ) → e.act ≡ Bind y n → ⊥) → applied X (h ++ e ∷ []) y x ≡ applied X h y x
-applied-kept X h e legal y x other =
-    let good = journal-good X h (legal-first X h (e ∷ []) legal) in
-    applied-next X h e legal y x (base X h y) (bound-kept (journal X h) e.act y other) (good.within y)
-    ∙ sym (read-is (journal X h) good (journal X h).binds y x)
-
-pub applied-bind : (X : Frame) (h : List Entry) (e : Entry) → IsLegal X (h ++ e ∷ []) → (y x n : ℕ) → e.act ≡ Bind y n → applied X (h ++ e ∷ []) y x ≡ max (version X (take n h) x) (applied X h y x)
-applied-bind X h e legal y x n is =
-    let good = journal-good X h (legal-first X h (e ∷ []) legal) in
-    let lawful = subst (λ (a : Act). IsLawful X (journal X h) a) is (legal-last X h e legal) in
-    applied-next X h e legal y x (max n (base X h y)) (bound-greater (journal X h) e.act y n is) (omega (arith, lawful.0, good.within y))
-    ∙ sym (max-version (journal X h) good n (base X h y) x)
-    ∙ ap (λ (s : Snapshot). max (s.versions x) ((snapshot_at (journal X h) (base X h y)).versions x)) (snapshot-take X h n)
-    ∙ ap (λ (v : ℕ). max (version X (take n h) x) v) (sym (read-is (journal X h) good (journal X h).binds y x))
-
 pub version-start : (X : Frame) (x : ℕ) → version X [] x ≡ 0
 version-start X x = refl
 
@@ -191,10 +127,8 @@ pub ruleset updates = (update-vals, update-counts)
 
 pub ruleset deliveries = (deliver-source, deliver-derived, deliver-counts)
 
-pub ruleset binds = (bind-vals, bind-counts, applied-bind, applied-kept)
+pub ruleset binds = (bind-vals, bind-counts)
 
 pub ruleset declarations = (extend-vals, extend-counts, graph-is)
 
 pub ruleset versions = (version-start, version-still, version-up)
-
-pub ruleset legal = (legal-first, legal-last, legal-valid, legal-push)

@@ -1,13 +1,18 @@
 -- The laws of journals, each from what holds of every journal that legal entries lead to.
-use Rattle.std.proofs.Common.{◌≡◌, ℕ, ◌+◌, ◌≤◌, List, [], ◌∷◌, ◌++◌, length, refl, sym, ap, subst, ◌∙◌, arith, zero, suc, replicate}
+use Rattle.std.proofs.Common.{◌≡◌, ℕ, zero, suc, ◌+◌, ◌≤◌, List, [], ◌∷◌, ◌++◌, length, slice_set, refl, sym, ap, subst, ◌∙◌, arith}
 use Rattle.std.proofs.lemmas.List.{length-set}
-use Rattle.model_journal.specs.Order.{ContentsAtMost}
+use Rattle.model_states.specs.Counts.{count_at, AreCountsAtMost}
+use Rattle.model_states.proofs.CountLaws.{count_at-larger, length-larger, length-zeros}
+use Rattle.model_graph.specs.Order.{ContentsAtMost}
+use Rattle.model_graph.specs.Lawful.{IsGraph}
+use Rattle.model_graph.proofs.PlaceLaws.{at-past, length-append}
 use Rattle.model_journal.specs.Entry.{Act, Update, Deliver, Bind, Extend, Entry, Frame}
-use Rattle.model_journal.specs.Journal.{Journal, snapshot_at, snapshot_after, next, run, start, journal, vals, count_at, counts_after, greater_counts, counts}
-use Rattle.model_journal.specs.Legal.{IsLegalFrom, IsLegal}
-use Rattle.model_journal.proofs.PlaceLaws.{at-past, at-kept, length-append}
+use Rattle.model_journal.specs.Journal.{Journal, snapshot_at, snapshot_after, next, run, start, journal, graph, vals, counts_after, counts}
+use Rattle.model_journal.specs.Legal.{IsLawful, IsLegalFrom, IsLegal}
+use Rattle.model_journal.proofs.PlaceLaws.{at-kept}
 use Rattle.model_journal.proofs.StepLaws.{IsLater, later-itself, later-chain, step-later}
-use Rattle.model_journal.proofs.GoodLaws.{IsGood, start-good, next-good}
+use Rattle.model_journal.proofs.GoodLaws.{IsGood, start-good}
+use Rattle.model_journal.proofs.NextLaws.{next-good}
 
 pub run-append : (X : Frame) (j : Journal) (h k : List Entry) → run X j (h ++ k) ≡ run X (run X j h) k
 run-append X j [] k = refl
@@ -38,11 +43,11 @@ journal-push X h e = run-append X (start X) h (e ∷ [])
 
 -- ---- legal entries
 
-pub run-good : (X : Frame) (j : Journal) (h : List Entry) → IsGood j → IsLegalFrom X j h → IsGood (run X j h)
+pub run-good : (X : Frame) (j : Journal) (h : List Entry) → IsGood X j → IsLegalFrom X j h → IsGood X (run X j h)
 run-good X j [] good legal = good
 run-good X j (e ∷ h) good legal = run-good X (next X j e) h (next-good X j e good legal.0) legal.2
 
-pub journal-good : (X : Frame) (h : List Entry) → IsLegal X h → IsGood (journal X h)
+pub journal-good : (X : Frame) (h : List Entry) → IsLegal X h → IsGood X (journal X h)
 journal-good X h legal = run-good X (start X) h (start-good X legal.opening) legal.in_turn
 
 run-later : (X : Frame) (j : Journal) (h : List Entry) → IsLater j.now (run X j h).now
@@ -55,26 +60,42 @@ journal-later X h k = subst (λ (j : Journal). IsLater (journal X h).now j.now) 
 pub vals-grow : (X : Frame) (h k : List Entry) → ContentsAtMost (vals X h) (vals X (h ++ k))
 vals-grow X h k = (journal-later X h k).grown
 
+-- the graph after legal entries is a graph
+pub journal-graph : (X : Frame) (h : List Entry) → IsLegal X h → IsGraph (graph X h)
+journal-graph X h legal = (journal-good X h legal).graph
+
 -- ---- counts
 
-greater-length : (cs ds : List ℕ) → length (greater_counts cs ds) ≡ length cs
-greater-length [] ds = refl
-greater-length (c ∷ cs) [] = refl
-greater-length (c ∷ cs) (d ∷ ds) = omega (arith, greater-length cs ds)
+after-length : (X : Frame) (cs : List ℕ) (j : Journal) (act : Act) → IsLawful X j act → length cs ≡ X.nodes → length (counts_after X cs act) ≡ X.nodes
+after-length X cs j (Update y op) lawful e = length-set cs X.replica (count_at cs X.replica + 1) ∙ e
+after-length X cs j (Deliver m) lawful e = omega (arith, length-larger cs m.counts, lawful.0, e)
+after-length X cs j (Bind y n) lawful e = e
+after-length X cs j (Extend d) lawful e = e
 
-after-length : (X : Frame) (cs : List ℕ) (act : Act) → length (counts_after X cs act) ≡ length cs
-after-length X cs (Update y op) = length-set cs X.replica (count_at cs X.replica + 1)
-after-length X cs (Deliver m) = greater-length cs m.counts
-after-length X cs (Bind y n) = refl
-after-length X cs (Extend d) = refl
+run-length : (X : Frame) (j : Journal) (h : List Entry) → length j.now.counts ≡ X.nodes → IsLegalFrom X j h → length (run X j h).now.counts ≡ X.nodes
+run-length X j [] e legal = e
+run-length X j (entry ∷ h) e legal = run-length X (next X j entry) h (after-length X j.now.counts j entry.act legal.0 e) legal.2
 
-run-length : (X : Frame) (j : Journal) (h : List Entry) → length (run X j h).now.counts ≡ length j.now.counts
-run-length X j [] = refl
-run-length X j (e ∷ h) = run-length X (next X j e) h ∙ after-length X j.now.counts e.act
+pub counts-length : (X : Frame) (h : List Entry) → IsLegal X h → length (counts X h) ≡ X.nodes
+counts-length X h legal = run-length X (start X) h (length-zeros X.nodes) legal.in_turn
 
-zeros-length : (n : ℕ) → length {A = ℕ} (replicate n 0) ≡ n
-zeros-length zero = refl
-zeros-length (suc n) = omega (arith, zeros-length n)
+raised : (cs : List ℕ) (replica q : ℕ) → count_at cs q ≤ count_at (slice_set cs replica (count_at cs replica + 1)) q
+raised [] replica q = omega arith
+raised (c ∷ cs) zero zero = omega arith
+raised (c ∷ cs) zero (suc q) = omega arith
+raised (c ∷ cs) (suc replica) zero = omega arith
+raised (c ∷ cs) (suc replica) (suc q) = raised cs replica q
 
-pub counts-length : (X : Frame) (h : List Entry) → length (counts X h) ≡ X.nodes
-counts-length X h = run-length X (start X) h ∙ zeros-length X.nodes
+after-counts : (X : Frame) (cs : List ℕ) (act : Act) → AreCountsAtMost cs (counts_after X cs act)
+after-counts X cs (Update y op) q = raised cs X.replica q
+after-counts X cs (Deliver m) q = omega (arith, count_at-larger cs m.counts q)
+after-counts X cs (Bind y n) q = omega arith
+after-counts X cs (Extend d) q = omega arith
+
+run-counts : (X : Frame) (j : Journal) (h : List Entry) → AreCountsAtMost j.now.counts (run X j h).now.counts
+run-counts X j [] q = omega arith
+run-counts X j (e ∷ h) q = omega (arith, after-counts X j.now.counts e.act q, run-counts X (next X j e) h q)
+
+-- counts only rise
+pub counts-grow : (X : Frame) (h k : List Entry) → AreCountsAtMost (counts X h) (counts X (h ++ k))
+counts-grow X h k = subst (λ (j : Journal). AreCountsAtMost (counts X h) j.now.counts) (sym (run-append X (start X) h k)) (run-counts X (journal X h) k)

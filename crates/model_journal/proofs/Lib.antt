@@ -1,13 +1,21 @@
+-- The laws of journals.
 pub mod PlaceLaws
-pub mod ContentLaws
-pub mod EvalLaws
+pub mod GainLaws
+pub mod GraphLaws
 pub mod StepLaws
 pub mod GoodLaws
+pub mod NextLaws
 pub mod JournalLaws
+pub mod WidthLaws
+pub mod ValidLaws
+pub mod EquationLaws
+pub mod StandLaws
 pub mod CleanLaws
 pub mod WordLaws
 pub mod EntryLaws
-pub mod EvaluationLaws
-pub mod ExampleLaws
-pub mod ValidLaws
+pub mod LegalLaws
 pub mod MessageLaws
+pub mod ExampleLaws
+pub mod KeepLaws
+pub mod LimitLaws
+pub mod CallerLaws

@@ -1,13 +1,17 @@
 -- What a replica's message has, and that it may be delivered where the graph begins as the sender's.
-use Rattle.std.proofs.Common.{◌≡◌, ℕ, zero, suc, ◌+◌, ◌<◌, Bool, true, false, if◌then◌else◌, IsTrue, List, [], ◌∷◌, ◌++◌, length, map, cond, refl, sym, ap, ◌∙◌, arith}
+use Rattle.std.proofs.Common.{◌≡◌, ℕ, zero, suc, ◌+◌, ◌<◌, Bool, true, false, if◌then◌else◌, IsTrue, List, [], ◌∷◌, ◌++◌, length, map, cond, refl, sym, ap, subst, ◌∙◌, arith}
 use Rattle.model_states.specs.Content.{Content}
 use Rattle.model_graph.specs.Graph.{Decl, is_source, kind_at}
 use Rattle.model_graph.specs.Evaluation.{content_at}
-use Rattle.model_journal.specs.Entry.{Sent, Deliver, Entry, Frame}
-use Rattle.model_journal.specs.Journal.{sent_at, source_number, journal, graph, vals, val}
-use Rattle.model_journal.specs.Message.{sent_from, message}
-use Rattle.model_journal.specs.Legal.{sources_among, IsLawful, IsLegal}
+use Rattle.model_graph.specs.Lawful.{width_at, widths, sources_among}
+use Rattle.model_messages.specs.Message.{Sent, sent_at, source_number, sent_from}
+use Rattle.model_journal.specs.Entry.{Deliver, Entry, Frame}
+use Rattle.model_journal.specs.Journal.{journal, graph, vals, val}
+use Rattle.model_journal.specs.Message.{message}
+use Rattle.model_journal.specs.Legal.{IsValid, IsLawful, AreValidSources, BringsValid, IsLegal}
 use Rattle.model_journal.proofs.JournalLaws.{journal-good, counts-length}
+use Rattle.model_journal.proofs.WidthLaws.{width-source, widths-at}
+use Rattle.model_journal.proofs.StandLaws.{journal-valid}
 
 pub sent-is : (g : List Decl) (ss : List Content) (x : ℕ) → x < length g → length ss ≡ length g → IsTrue (is_source (kind_at g x)) → sent_at (sent_from g ss) (source_number g x) ≡ content_at ss x
 sent-is [] ss x low long source = absurd (omega (arith, low))
@@ -45,10 +49,24 @@ among-append (d ∷ g) more = choose (is_source d.kind) (among-append g more) wh
 pub message-source : (X : Frame) (h : List Entry) → IsLegal X h → (x : ℕ) → x < length (graph X h) → IsTrue (is_source (kind_at (graph X h) x)) → sent_at (message X h).sources (source_number (graph X h) x) ≡ val X h x
 message-source X h legal x low source = sent-is (graph X h) (vals X h) x low (journal-good X h legal).shape source
 
+sent-all : (nodes : ℕ) (g : List Decl) (ss : List Content) → ((x : ℕ) → x < length g → IsTrue (is_source (kind_at g x)) → IsValid nodes (kind_at g x) 1 (content_at ss x)) → AreValidSources nodes (sent_from g ss)
+sent-all nodes [] ss valid = tt
+sent-all nodes (d ∷ g) [] valid = tt
+sent-all nodes (d ∷ g) (s ∷ ss) valid = choose (is_source d.kind) refl (sent-all nodes g ss (λ x low e. valid (suc x) (omega (arith, low)) e)) where
+  choose : (b : Bool) → is_source d.kind ≡ b → AreValidSources nodes (sent_from g ss) → AreValidSources nodes (if b then record { decl = d; content = s } ∷ sent_from g ss else sent_from g ss)
+  choose true e rest = (valid 0 (omega arith) e, rest)
+  choose false e rest = rest
+
+-- what a message brings is valid
+pub message-valid : (X : Frame) (h : List Entry) → IsLegal X h → BringsValid X.nodes (Deliver (message X h))
+message-valid X h legal = sent-all X.nodes (graph X h) (vals X h) (λ x low e.
+    let one : width_at (widths (graph X h)) x ≡ 1 = widths-at (graph X h) (journal-good X h legal).graph x low ∙ width-source (kind_at (graph X h) x) (widths (graph X h)) e in
+    subst (λ (w : ℕ). IsValid X.nodes (kind_at (graph X h) x) w (val X h x)) one ((journal-valid X h legal).contents x low))
+
 -- a replica may take in what another one knows, where its graph goes on from the other's
 pub message-lawful : (X Z : Frame) (h k : List Entry) (more : List Decl) → IsLegal X h → X.nodes ≡ Z.nodes → graph X h ++ more ≡ graph Z k → IsLawful Z (journal Z k) (Deliver (message X h))
 message-lawful X Z h k more legal nodes grown = (
-  counts-length X h ∙ nodes,
+  counts-length X h legal ∙ nodes,
   (
     sources_among more,
     ap (λ (ds : List Decl). ds ++ sources_among more) (sent-among (graph X h) (vals X h) (journal-good X h legal).shape)
@@ -57,4 +75,4 @@ message-lawful X Z h k more legal nodes grown = (
   ),
 )
 
-pub ruleset messages = (message-source)
+pub ruleset messages = (message-source, message-valid)

@@ -1,84 +1,67 @@
 -- What one entry does to what stands: contents only grow, versions tell where, and the graph keeps its declarations.
-use Rattle.std.proofs.Common.{◌≡◌, ℕ, zero, suc, ◌+◌, ◌≤◌, ◌<◌, ◌⊎◌, inl, inr, Bool, true, false, if◌then◌else◌, IsTrue, List, [], ◌∷◌, ◌++◌, length, Option, refl, sym, ap, subst, ◌∙◌, arith}
-use Rattle.model_states.specs.Content.{Content, least}
-use Rattle.model_graph.specs.Graph.{Decl, decl_at, no_decl}
+use Rattle.std.proofs.Common.{◌≡◌, ℕ, zero, suc, ◌+◌, ◌≤◌, ◌<◌, ◌⊎◌, inl, inr, Bool, true, false, if◌then◌else◌, IsTrue, List, [], ◌∷◌, length, refl, sym, ap, subst, ◌∙◌, arith}
+use Rattle.model_states.specs.Content.{Content, least, IsContentAtMost, is_content_at_most, IsOrdered}
+use Rattle.model_states.proofs.ContentLaws.{at_most-itself, at_most-chain, at_most-least, at_most-from-test, test-from-at_most}
+use Rattle.model_graph.specs.Graph.{Decl, decl_at}
 use Rattle.model_graph.specs.Evaluation.{content_at}
-use Rattle.model_journal.specs.Order.{IsContentAtMost, is_content_at_most, IsOrdered, ContentsAtMost}
+use Rattle.model_graph.specs.Order.{ContentsAtMost}
+use Rattle.model_graph.proofs.PlaceLaws.{at-append, at-past, length-append, below-or-not}
+use Rattle.model_messages.specs.Message.{with_gain, gained}
 use Rattle.model_journal.specs.Entry.{Act, Update, Deliver, Bind, Extend, Frame}
-use Rattle.model_journal.specs.Journal.{Snapshot, Journal, gain, with_gain, gained, opened, contents_after, graph_after, snapshot_after}
-use Rattle.model_journal.proofs.PlaceLaws.{at-append, at-past, length-append, below-or-not}
-use Rattle.model_journal.proofs.ContentLaws.{at_most-itself, at_most-chain, at_most-least, at_most-from-test, test-from-at_most, gain-grows, gain-ordered}
+use Rattle.model_journal.specs.Journal.{Snapshot, Journal, gain, opened, contents_after, graph_after, snapshot_after}
+use Rattle.model_journal.proofs.PlaceLaws.{past-append}
+use Rattle.model_journal.proofs.GainLaws.{gain-grows, gain-ordered, gain-wider, gained-length, gained-at, least_of-ordered}
+use Rattle.model_journal.proofs.GraphLaws.{graph-keeps, graph-longer}
 
-pub gained-length : (gains : ℕ → Option Content) (n : ℕ) (ss : List Content) → length (gained gains n ss) ≡ length ss
-gained-length gains n [] = refl
-gained-length gains n (s ∷ ss) = omega (arith, gained-length gains (n + 1) ss)
-
-pub gained-at : (gains : ℕ → Option Content) (n : ℕ) (ss : List Content) (x : ℕ) → x < length ss → content_at (gained gains n ss) x ≡ with_gain (content_at ss x) (gains (n + x))
-gained-at gains n [] x h = absurd (omega (arith, h))
-gained-at gains n (s ∷ ss) zero h = let here : n ≡ n + 0 = omega arith in ap (λ (i : ℕ). with_gain s (gains i)) here
-gained-at gains n (s ∷ ss) (suc x) h =
-    let there : (n + 1) + x ≡ n + suc x = omega arith in
-    gained-at gains (n + 1) ss x (omega (arith, h)) ∙ ap (λ (i : ℕ). with_gain (content_at ss x) (gains i)) there
-
-opened-least : (act : Act) (x : ℕ) → content_at (opened act) x ≡ least
-opened-least (Update y op) x = refl
-opened-least (Deliver m) x = refl
-opened-least (Bind y n) x = refl
-opened-least (Extend d) zero = refl
-opened-least (Extend d) (suc x) = refl
-
-past-append : (ss ts : List Content) (x : ℕ) → ((i : ℕ) → content_at ts i ≡ least) → length ss ≤ x → content_at (ss ++ ts) x ≡ least
-past-append [] ts x all h = all x
-past-append (s ∷ ss) ts zero all h = absurd (omega (arith, h))
-past-append (s ∷ ss) ts (suc x) all h = past-append ss ts x all (omega (arith, h))
+opened-ordered : (nodes : ℕ) (act : Act) (x : ℕ) → IsOrdered (content_at (opened nodes act) x)
+opened-ordered nodes (Update y op) x = record { rows = refl; values = refl }
+opened-ordered nodes (Deliver m) x = record { rows = refl; values = refl }
+opened-ordered nodes (Bind y n) x = record { rows = refl; values = refl }
+opened-ordered nodes (Extend d) zero = least_of-ordered nodes d.kind
+opened-ordered nodes (Extend d) (suc x) = record { rows = refl; values = refl }
 
 -- a variable that stood has what it gained
 pub after-at : (X : Frame) (j : Journal) (act : Act) (x : ℕ) → x < length j.now.contents → content_at (contents_after X j act) x ≡ with_gain (content_at j.now.contents x) (gain X j act x)
 after-at X j act x h =
-    at-append (gained (gain X j act) 0 j.now.contents) (opened act) x least (omega (arith, h, gained-length (gain X j act) 0 j.now.contents))
+    at-append (gained (gain X j act) 0 j.now.contents) (opened X.nodes act) x least (omega (arith, h, gained-length (gain X j act) 0 j.now.contents))
     ∙ (let here : 0 + x ≡ x = omega arith in gained-at (gain X j act) 0 j.now.contents x h ∙ ap (λ (i : ℕ). with_gain (content_at j.now.contents x) (gain X j act i)) here)
 
--- any other is least
-pub after-past : (X : Frame) (j : Journal) (act : Act) (x : ℕ) → length j.now.contents ≤ x → content_at (contents_after X j act) x ≡ least
-after-past X j act x h = past-append (gained (gain X j act) 0 j.now.contents) (opened act) x (opened-least act) (omega (arith, h, gained-length (gain X j act) 0 j.now.contents))
+-- what holds of a variable that stood with what it gained, and of what an act adds, holds after the act
+after-each : (P : ℕ → Content → Type 0) (X : Frame) (j : Journal) (act : Act)
+    → ((x : ℕ) → x < length j.now.contents → P x (with_gain (content_at j.now.contents x) (gain X j act x)))
+    → ((x i : ℕ) → length j.now.contents ≤ x → P x (content_at (opened X.nodes act) i))
+    → (x : ℕ) → P x (content_at (contents_after X j act) x)
+after-each P X j act stood added x = choose (below-or-not x (length j.now.contents)) where
+  choose : (x < length j.now.contents) ⊎ (length j.now.contents ≤ x) → P x (content_at (contents_after X j act) x)
+  choose (inl h) = subst (P x) (sym (after-at X j act x h)) (stood x h)
+  choose (inr h) = past-append (P x) (gained (gain X j act) 0 j.now.contents) (opened X.nodes act) x least (λ i. added x i h) (omega (arith, h, gained-length (gain X j act) 0 j.now.contents))
 
 pub after-grows : (X : Frame) (j : Journal) (act : Act) → ContentsAtMost j.now.contents (contents_after X j act)
-after-grows X j act x = choose (below-or-not x (length j.now.contents)) where
-  choose : (x < length j.now.contents) ⊎ (length j.now.contents ≤ x) → IsContentAtMost (content_at j.now.contents x) (content_at (contents_after X j act) x)
-  choose (inl h) = subst (λ (s : Content). IsContentAtMost (content_at j.now.contents x) s) (sym (after-at X j act x h)) (gain-grows (content_at j.now.contents x) (gain X j act x))
-  choose (inr h) = subst (λ (s : Content). IsContentAtMost s (content_at (contents_after X j act) x)) (sym (at-past j.now.contents x least h)) (at_most-least (content_at (contents_after X j act) x))
+after-grows X j act = after-each (λ (x : ℕ) (s : Content). IsContentAtMost (content_at j.now.contents x) s) X j act
+    (λ x h. gain-grows (content_at j.now.contents x) (gain X j act x))
+    (λ x i h. subst (λ (s : Content). IsContentAtMost s (content_at (opened X.nodes act) i)) (sym (at-past j.now.contents x least h)) (at_most-least (content_at (opened X.nodes act) i)))
+
+pub after-wider : (X : Frame) (j : Journal) (act : Act) (x : ℕ) → length (content_at j.now.contents x).counts ≤ length (content_at (contents_after X j act) x).counts
+after-wider X j act = after-each (λ (x : ℕ) (s : Content). length (content_at j.now.contents x).counts ≤ length s.counts) X j act
+    (λ x h. gain-wider (content_at j.now.contents x) (gain X j act x))
+    (λ x i h. subst (λ (s : Content). length s.counts ≤ length (content_at (opened X.nodes act) i).counts) (sym (at-past j.now.contents x least h)) (omega arith))
 
 pub after-ordered : (X : Frame) (j : Journal) (act : Act) → ((x : ℕ) → IsOrdered (content_at j.now.contents x)) → (x : ℕ) → IsOrdered (content_at (contents_after X j act) x)
-after-ordered X j act up x = choose (below-or-not x (length j.now.contents)) where
-  choose : (x < length j.now.contents) ⊎ (length j.now.contents ≤ x) → IsOrdered (content_at (contents_after X j act) x)
-  choose (inl h) = subst IsOrdered (sym (after-at X j act x h)) (gain-ordered (content_at j.now.contents x) (gain X j act x) (up x))
-  choose (inr h) = subst IsOrdered (sym (after-past X j act x h)) refl
+after-ordered X j act up = after-each (λ (x : ℕ) (s : Content). IsOrdered s) X j act
+    (λ x h. gain-ordered (content_at j.now.contents x) (gain X j act x) (up x)) (λ x i h. opened-ordered X.nodes act i)
 
--- ---- the graph
-
-pub graph-keeps : (g : List Decl) (act : Act) (y : ℕ) → y < length g → decl_at (graph_after g act) y ≡ decl_at g y
-graph-keeps g (Update z op) y h = refl
-graph-keeps g (Deliver m) y h = refl
-graph-keeps g (Bind z n) y h = refl
-graph-keeps g (Extend d) y h = at-append g (d ∷ []) y no_decl h
-
-pub graph-longer : (g : List Decl) (act : Act) → length g ≤ length (graph_after g act)
-graph-longer g (Update z op) = omega arith
-graph-longer g (Deliver m) = omega arith
-graph-longer g (Bind z n) = omega arith
-graph-longer g (Extend d) = omega (arith, length-append g (d ∷ []))
-
-pub opened-length : (g : List Decl) (act : Act) → length (graph_after g act) ≡ length g + length (opened act)
-opened-length g (Update z op) = omega arith
-opened-length g (Deliver m) = omega arith
-opened-length g (Bind z n) = omega arith
-opened-length g (Extend d) = length-append g (d ∷ [])
+pub opened-length : (nodes : ℕ) (g : List Decl) (act : Act) → length (graph_after g act) ≡ length g + length (opened nodes act)
+opened-length nodes g (Update z op) = omega arith
+opened-length nodes g (Deliver m) = omega arith
+opened-length nodes g (Bind z n) = omega arith
+opened-length nodes g (Extend d) = length-append g (d ∷ [])
 
 -- ---- one snapshot after another
 
 -- what stands later: contents are greater, versions tell where they are, and the graph goes on
 pub record IsLater (a b : Snapshot) : Type 0 where
   pub grown : ContentsAtMost a.contents b.contents
+  pub wider : (x : ℕ) → length (content_at a.contents x).counts ≤ length (content_at b.contents x).counts
   pub counted : (x : ℕ) → a.versions x ≤ b.versions x
   pub same : (x : ℕ) → a.versions x ≡ b.versions x → IsContentAtMost (content_at b.contents x) (content_at a.contents x)
   pub moved : (x : ℕ) → a.versions x < b.versions x → IsContentAtMost (content_at b.contents x) (content_at a.contents x) → ⊥
@@ -88,6 +71,7 @@ pub record IsLater (a b : Snapshot) : Type 0 where
 pub later-itself : (a : Snapshot) → IsLater a a
 later-itself a = record {
   grown = λ x. at_most-itself (content_at a.contents x);
+  wider = λ x. omega arith;
   counted = λ x. omega arith;
   same = λ x e. at_most-itself (content_at a.contents x);
   moved = λ x h g. omega (arith, h);
@@ -98,6 +82,7 @@ later-itself a = record {
 pub later-chain : (a b c : Snapshot) → IsLater a b → IsLater b c → IsLater a c
 later-chain a b c p q = record {
   grown = λ x. at_most-chain (content_at a.contents x) (content_at b.contents x) (content_at c.contents x) (p.grown x) (q.grown x);
+  wider = λ x. omega (arith, p.wider x, q.wider x);
   counted = λ x. omega (arith, p.counted x, q.counted x);
   same = λ x e. at_most-chain (content_at c.contents x) (content_at b.contents x) (content_at a.contents x)
       (q.same x (omega (arith, e, p.counted x, q.counted x))) (p.same x (omega (arith, e, p.counted x, q.counted x)));
@@ -127,6 +112,7 @@ step-later X j act =
     let new = contents_after X j act in
     record {
       grown = after-grows X j act;
+      wider = after-wider X j act;
       counted = λ x. version-up (is_content_at_most (content_at new x) (content_at old x)) (j.now.versions x);
       same = λ x e. at_most-from-test (content_at new x) (content_at old x) (version-still (is_content_at_most (content_at new x) (content_at old x)) (j.now.versions x) e);
       moved = λ x h low. version-moved (is_content_at_most (content_at new x) (content_at old x)) (j.now.versions x) h (test-from-at_most (content_at new x) (content_at old x) low);

@@ -1,22 +1,28 @@
--- What keeps contents valid: joins, the deltas of updates, and equations, as long as there is room.
-use Rattle.std.proofs.Common.{◌≡◌, ℕ, suc, ◌≤◌, ◌<◌, max, ◌⊎◌, inl, inr, Bool, true, false, cond, if◌then◌else◌, List, [], ◌∷◌, length, map, filter, slice_index_or, refl, sym, ap, subst, arith}
+-- What keeps contents valid: joins, the deltas of updates, and what a variable has before anything happened.
+use Rattle.std.proofs.Common.{◌≡◌, ℕ, ℤ, suc, ◌≤◌, ◌<◌, max, ◌⊎◌, inl, inr, Bool, true, false, cond, ◌==◌, List, [], ◌∷◌, length, map, filter, Option, Some, None, FitsSigned, int_lt, refl, sym, subst, ◌∙◌, arith}
 use Rattle.std.proofs.lemmas.Bool.Decides.{nat_tests}
-use Rattle.std.specs.Ordering.{eq_by_cmp}
-use Rattle.model_values.specs.Value.{Val, val_cmp}
-use Rattle.model_values.specs.Token.{Tok, single}
-use Rattle.model_values.specs.Row.{Key, Row, key_cmp, key_exact}
+use mir.Syntax.{w64}
+use Rattle.model_values.specs.Value.{Val}
+use Rattle.model_values.specs.Token.{Tok}
+use Rattle.model_values.specs.Row.{Row}
 use Rattle.model_values.specs.Size.{IsOfWidth, IsTokenOfWidth}
-use Rattle.model_sets.specs.Rows.{mark, HasRow, add_delta, remove_delta, is_of, buried}
-use Rattle.model_sets.proofs.RowLaws.{mark-join, is-Equal}
-use Rattle.model_sets.proofs.UpdateLaws.{dead_of, remove-mark, remove-ascending}
+use Rattle.model_sets.specs.Rows.{mark, HasRow, remove_delta, is_of, buried}
+use Rattle.model_sets.specs.Values.{held, IsHeld}
+use Rattle.model_sets.proofs.RowLaws.{mark-join}
+use Rattle.model_sets.proofs.ValueLaws.{held-unite, held-small}
+use Rattle.model_states.specs.Counts.{count_max, count_at}
+use Rattle.model_states.specs.Register.{later}
 use Rattle.model_states.specs.Content.{Content, least, join_contents, size_of, row_limit}
-use Rattle.model_states.specs.Update.{Op, Add, Remove, delta}
-use Rattle.model_graph.specs.Graph.{Kind, OrSet, Union}
-use Rattle.model_graph.specs.Evaluation.{content_at, equation}
-use Rattle.model_journal.specs.Clean.{IsInput}
-use Rattle.model_journal.specs.Legal.{IsTokenOf, IsValid, IsSmallOp, width_of, count_limit}
-use Rattle.model_journal.proofs.PlaceLaws.{below-or-not}
-use Rattle.model_journal.proofs.ContentLaws.{ordered-join}
+use Rattle.model_states.specs.Shape.{HasShape}
+use Rattle.model_states.specs.Update.{Op, Add, Remove, Insert, Inc, Max, Join, delta}
+use Rattle.model_states.proofs.CountLaws.{count_at-larger, count_at-zeros, length-zeros}
+use Rattle.model_states.proofs.ContentLaws.{ordered-join}
+use Rattle.model_states.proofs.DeltaLaws.{shape-join, add-row, remove-row, remove-shape, insert-value, inc-own, inc-others, inc-shape}
+use Rattle.model_graph.specs.Graph.{Kind, OrSet, GSet, Counter, MaxReg, Union, Product, Intersection, Map, Filter, Fold}
+use Rattle.model_graph.specs.Evaluation.{least_of}
+use Rattle.model_graph.specs.Lawful.{shape_of}
+use Rattle.model_graph.proofs.PlaceLaws.{below-or-not, equal-numbers}
+use Rattle.model_journal.specs.Legal.{IsTokenOf, FitsTop, IsValid, IsOpOf, IsSmallOp, count_limit}
 
 positive-max : (a b : ℕ) → 0 < max a b → (0 < a) ⊎ (0 < b)
 positive-max a b h = choose (below-or-not 0 a) where
@@ -27,49 +33,91 @@ positive-max a b h = choose (below-or-not 0 a) where
 row-of-join : (s t : Content) (v : Val) (w : Tok) → HasRow (join_contents s t).rows v w → HasRow s.rows v w ⊎ HasRow t.rows v w
 row-of-join s t v w h = positive-max (mark s.rows v w) (mark t.rows v w) (subst (λ (n : ℕ). 0 < n) (mark-join s.rows t.rows v w) h)
 
-pub valid-join : (nodes w : ℕ) (s t : Content) → IsValid nodes w s → IsValid nodes w t → size_of (join_contents s t) ≤ row_limit → IsValid nodes w (join_contents s t)
-valid-join nodes w s t p q small = record { ordered = ordered-join s t; few = small; values = λ v u h. values v u (row-of-join s t v u h); tokens = λ v u h. tokens v u (row-of-join s t v u h) } where
-  values : (v : Val) (u : Tok) → HasRow s.rows v u ⊎ HasRow t.rows v u → IsOfWidth w v
-  values v u (inl h) = p.values v u h
-  values v u (inr h) = q.values v u h
+value-of-join : (s t : Content) (v : Val) → IsHeld (join_contents s t).values v → IsHeld s.values v ⊎ IsHeld t.values v
+value-of-join s t v h = choose (positive-max (held s.values v) (held t.values v) (omega (arith, h, held-unite s.values t.values v))) where
+  choose : (0 < held s.values v) ⊎ (0 < held t.values v) → IsHeld s.values v ⊎ IsHeld t.values v
+  choose (inl p) = inl (omega (arith, p, held-small s.values v))
+  choose (inr p) = inr (omega (arith, p, held-small t.values v))
 
-  tokens : (v : Val) (u : Tok) → HasRow s.rows v u ⊎ HasRow t.rows v u → IsTokenOfWidth w u × IsTokenOf nodes u
-  tokens v u (inl h) = p.tokens v u h
-  tokens v u (inr h) = q.tokens v u h
+fits-later : (s t : Option ℤ) → FitsTop s → FitsTop t → FitsTop (later s t)
+fits-later None t p q = q
+fits-later (Some m) None p q = p
+fits-later (Some m) (Some n) p q = choose (int_lt n m) where
+  choose : (b : Bool) → FitsSigned w64 (cond b m n)
+  choose true = p
+  choose false = q
 
-pub valid-wider : (nodes w x : ℕ) (s : Content) → w ≤ x → IsValid nodes w s → IsValid nodes x s
-valid-wider nodes w x s wide p = record {
-  ordered = p.ordered;
-  few = p.few;
-  values = λ v u h. record { leaves = omega (arith, (p.values v u h).leaves, wide); bytes = omega (arith, (p.values v u h).bytes, wide) };
-  tokens = λ v u h. (omega (arith, (p.tokens v u h).0, wide), (p.tokens v u h).1);
-}
+pub valid-join : (nodes : ℕ) (k : Kind) (w : ℕ) (s t : Content) → IsValid nodes k w s → IsValid nodes k w t → size_of (join_contents s t) ≤ row_limit → IsValid nodes k w (join_contents s t)
+valid-join nodes k w s t p q small = record {
+  ordered = ordered-join s t;
+  shape = shape-join (shape_of nodes k) s t p.shape q.shape;
+  few = small;
+  values = λ v u h. value v u (row-of-join s t v u h);
+  tokens = λ v u h. token v u (row-of-join s t v u h);
+  elements = λ v h. element v (value-of-join s t v h);
+  counts = λ node. omega (arith, count_at-larger s.counts t.counts node, p.counts node, q.counts node);
+  top = fits-later s.top t.top p.top q.top;
+} where
+  value : (v : Val) (u : Tok) → HasRow s.rows v u ⊎ HasRow t.rows v u → IsOfWidth w v
+  value v u (inl h) = p.values v u h
+  value v u (inr h) = q.values v u h
 
-pub valid-least : (nodes w : ℕ) → IsValid nodes w least
-valid-least nodes w = record { ordered = refl; few = omega arith; values = λ v u h. absurd (omega (arith, h)); tokens = λ v u h. absurd (omega (arith, h)) }
+  token : (v : Val) (u : Tok) → HasRow s.rows v u ⊎ HasRow t.rows v u → IsTokenOfWidth w u × IsTokenOf nodes u
+  token v u (inl h) = p.tokens v u h
+  token v u (inr h) = q.tokens v u h
 
--- the one row of an add
-added-row : (v : Val) (replica k : ℕ) (u : Val) (t : Tok) → HasRow (add_delta v replica k) u t → (u ≡ v) × (t ≡ single replica k)
-added-row v replica k u t h = choose (eq_by_cmp key_cmp (u, t) (v, single replica k)) refl h where
-  choose : (b : Bool) → eq_by_cmp key_cmp (u, t) (v, single replica k) ≡ b → 0 < max (if b then 1 else 0) 0 → (u ≡ v) × (t ≡ single replica k)
-  choose true e pos = let same : (u, t) ≡ (v, single replica k) = key_exact (u, t) (v, single replica k) (is-Equal (key_cmp (u, t) (v, single replica k)) e) in
-      (ap (λ (q : Key). q.0) same, ap (λ (q : Key). q.1) same)
-  choose false e pos = absurd (omega (arith, pos))
+  element : (v : Val) → IsHeld s.values v ⊎ IsHeld t.values v → IsOfWidth w v
+  element v (inl h) = p.elements v h
+  element v (inr h) = q.elements v h
 
-valid-add : (nodes replica k : ℕ) (v : Val) → IsOfWidth 1 v → replica < nodes → 1 ≤ k → k ≤ count_limit → IsValid nodes 1 (record { rows = add_delta v replica k })
-valid-add nodes replica k v ok member some most = record {
-  ordered = refl;
+-- ---- before anything happened
+
+valid-nothing : (nodes : ℕ) (k : Kind) (w : ℕ) → HasShape (shape_of nodes k) least → IsValid nodes k w least
+valid-nothing nodes k w shape = record {
+  ordered = record { rows = refl; values = refl };
+  shape = shape;
   few = omega arith;
-  values = λ u t h. subst (λ (z : Val). IsOfWidth 1 z) (sym (added-row v replica k u t h).0) ok;
-  tokens = λ u t h. subst (λ (z : Tok). IsTokenOfWidth 1 z × IsTokenOf nodes z) (sym (added-row v replica k u t h).1) (omega arith, (member, some, most));
+  values = λ v u h. absurd (omega (arith, h));
+  tokens = λ v u h. absurd (omega (arith, h));
+  elements = λ v h. absurd (omega (arith, h));
+  counts = λ q. omega arith;
+  top = tt;
 }
 
--- a remove's rows are rows of the state
-removed-row : (v : Val) (s : List Row) (u : Val) (t : Tok) → HasRow (remove_delta v s) u t → HasRow s u t
-removed-row v s u t h = choose (eq_by_cmp val_cmp v u) (subst (λ (n : ℕ). 0 < n) (remove-mark v s u t) h) where
-  choose : (b : Bool) → 0 < (if b then dead_of (mark s u t) else 0) → 0 < mark s u t
-  choose true p = grind (arith, nat_tests, p)
-  choose false p = absurd (omega (arith, p))
+pub valid-least_of : (nodes : ℕ) (k : Kind) (w : ℕ) → IsValid nodes k w (least_of nodes k)
+valid-least_of nodes OrSet w = valid-nothing nodes OrSet w refl
+valid-least_of nodes GSet w = valid-nothing nodes GSet w refl
+valid-least_of nodes MaxReg w = valid-nothing nodes MaxReg w refl
+valid-least_of nodes (Union x y) w = valid-nothing nodes (Union x y) w refl
+valid-least_of nodes (Product x y) w = valid-nothing nodes (Product x y) w refl
+valid-least_of nodes (Intersection x y) w = valid-nothing nodes (Intersection x y) w refl
+valid-least_of nodes (Map x place ops) w = valid-nothing nodes (Map x place ops) w refl
+valid-least_of nodes (Filter x place ops) w = valid-nothing nodes (Filter x place ops) w refl
+valid-least_of nodes (Fold x op place lift) w = valid-nothing nodes (Fold x op place lift) w refl
+valid-least_of nodes Counter w = record {
+  ordered = record { rows = refl; values = refl };
+  shape = (refl, length-zeros nodes);
+  few = omega arith;
+  values = λ v u h. absurd (omega (arith, h));
+  tokens = λ v u h. absurd (omega (arith, h));
+  elements = λ v h. absurd (omega (arith, h));
+  counts = λ q. omega (arith, count_at-zeros nodes q);
+  top = tt;
+}
+
+-- ---- the deltas of updates
+
+valid-add : (nodes replica number : ℕ) (v : Val) (s : Content) → IsOfWidth 1 v → replica < nodes → 1 ≤ number → number ≤ count_limit → IsValid nodes OrSet 1 (delta (Add v) s replica number)
+valid-add nodes replica number v s ok member some most = record {
+  ordered = record { rows = refl; values = refl };
+  shape = refl;
+  few = omega arith;
+  values = λ u t h. subst (λ (z : Val). IsOfWidth 1 z) (sym ((add-row v s replica number u t).0 h).0) ok;
+  tokens = λ u t h. subst (λ (z : Tok). IsTokenOfWidth 1 z × IsTokenOf nodes z) (sym ((add-row v s replica number u t).0 h).1) (omega arith, (member, some, most));
+  elements = λ u h. absurd (omega (arith, h));
+  counts = λ q. omega arith;
+  top = tt;
+}
 
 removed-length : (v : Val) (s : List Row) → length (remove_delta v s) ≤ length s
 removed-length v [] = omega arith
@@ -79,22 +127,66 @@ removed-length v (r ∷ s) =
       | false ↦ omega (arith, removed-length v s)
     ]
 
-pub valid-delta : (nodes replica k : ℕ) (op : Op) (s : Content) → IsValid nodes 1 s → IsSmallOp op → replica < nodes → 1 ≤ k → k ≤ count_limit → IsValid nodes 1 (delta op s replica k)
-valid-delta nodes replica k (Add v) s p ok member some most = valid-add nodes replica k v ok member some most
-valid-delta nodes replica k (Remove v) s p ok member some most = record {
-  ordered = remove-ascending v s.rows p.ordered;
+valid-remove : (nodes replica number : ℕ) (v : Val) (s : Content) → IsValid nodes OrSet 1 s → IsValid nodes OrSet 1 (delta (Remove v) s replica number)
+valid-remove nodes replica number v s p = record {
+  ordered = (remove-shape v s replica number p.ordered).0;
+  shape = refl;
   few = omega (arith, removed-length v s.rows, p.few);
-  values = λ u t h. p.values u t (removed-row v s.rows u t h);
-  tokens = λ u t h. p.tokens u t (removed-row v s.rows u t h);
+  values = λ u t h. (let row = (remove-row v s replica number u t).0 h in subst (λ (z : Val). IsOfWidth 1 z) (sym row.0) (p.values v t row.1));
+  tokens = λ u t h. p.tokens v t ((remove-row v s replica number u t).0 h).1;
+  elements = λ u h. absurd (omega (arith, h));
+  counts = λ q. omega arith;
+  top = tt;
 }
 
-pub valid-equation : (nodes : ℕ) (k : Kind) (ws : List ℕ) (ss : List Content) → ((x : ℕ) → IsInput k x → IsValid nodes (slice_index_or ws x 0) (content_at ss x)) → size_of (equation k ss) ≤ row_limit → IsValid nodes (width_of k ws) (equation k ss)
-valid-equation nodes OrSet ws ss inputs small = valid-least nodes 1
-valid-equation nodes (Union a b) ws ss inputs small =
-    let wide = max (slice_index_or ws a 0) (slice_index_or ws b 0) in
-    valid-join nodes wide (content_at ss a) (content_at ss b)
-    (valid-wider nodes (slice_index_or ws a 0) wide (content_at ss a) (omega arith) (inputs a (inl refl)))
-    (valid-wider nodes (slice_index_or ws b 0) wide (content_at ss b) (omega arith) (inputs b (inr refl)))
-    small
+valid-insert : (nodes replica number : ℕ) (v : Val) (s : Content) → IsOfWidth 1 v → IsValid nodes GSet 1 (delta (Insert v) s replica number)
+valid-insert nodes replica number v s ok = record {
+  ordered = record { rows = refl; values = refl };
+  shape = refl;
+  few = omega arith;
+  values = λ u t h. absurd (omega (arith, h));
+  tokens = λ u t h. absurd (omega (arith, h));
+  elements = λ u h. subst (λ (z : Val). IsOfWidth 1 z) (sym ((insert-value v s replica number u).0 h)) ok;
+  counts = λ q. omega arith;
+  top = tt;
+}
 
-pub ruleset valid = (valid-least)
+valid-inc : (nodes replica number by : ℕ) (s : Content) → IsValid nodes Counter 1 s → replica < nodes → IsValid nodes Counter 1 (delta (Inc by) s replica number)
+valid-inc nodes replica number by s p member = record {
+  ordered = record { rows = refl; values = refl };
+  shape = (refl, (inc-shape by s replica number).1.1 ∙ p.shape.1);
+  few = omega arith;
+  values = λ u t h. absurd (omega (arith, h));
+  tokens = λ u t h. absurd (omega (arith, h));
+  elements = λ u h. absurd (omega (arith, h));
+  counts = λ q. choose q (q == replica) refl;
+  top = tt;
+} where
+  low : replica < length s.counts
+  low = omega (arith, member, p.shape.1)
+
+  choose : (q : ℕ) (b : Bool) → (q == replica) ≡ b → count_at (delta (Inc by) s replica number).counts q ≤ count_max
+  choose q true e = subst (λ (n : ℕ). count_at (delta (Inc by) s replica number).counts n ≤ count_max) (sym (equal-numbers q replica e)) (omega (arith, inc-own by s replica number low))
+  choose q false e = omega (arith, inc-others by s replica number q low (grind (arith, nat_tests, e)))
+
+valid-max : (nodes replica number : ℕ) (n : ℤ) (s : Content) → FitsSigned w64 n → IsValid nodes MaxReg 1 (delta (Max n) s replica number)
+valid-max nodes replica number n s fits = record {
+  ordered = record { rows = refl; values = refl };
+  shape = refl;
+  few = omega arith;
+  values = λ u t h. absurd (omega (arith, h));
+  tokens = λ u t h. absurd (omega (arith, h));
+  elements = λ u h. absurd (omega (arith, h));
+  counts = λ q. omega arith;
+  top = fits;
+}
+
+pub valid-delta : (nodes replica number : ℕ) (k : Kind) (op : Op) (s : Content) → IsValid nodes k 1 s → IsOpOf k op → IsSmallOp nodes k op → replica < nodes → 1 ≤ number → number ≤ count_limit → IsValid nodes k 1 (delta op s replica number)
+valid-delta nodes replica number k (Add v) s p e ok member some most = subst (λ (c : Kind). IsValid nodes c 1 (delta (Add v) s replica number)) (sym e) (valid-add nodes replica number v s ok member some most)
+valid-delta nodes replica number k (Remove v) s p e ok member some most =
+    subst (λ (c : Kind). IsValid nodes c 1 (delta (Remove v) s replica number)) (sym e) (valid-remove nodes replica number v s (subst (λ (c : Kind). IsValid nodes c 1 s) e p))
+valid-delta nodes replica number k (Insert v) s p e ok member some most = subst (λ (c : Kind). IsValid nodes c 1 (delta (Insert v) s replica number)) (sym e) (valid-insert nodes replica number v s ok)
+valid-delta nodes replica number k (Inc by) s p e ok member some most =
+    subst (λ (c : Kind). IsValid nodes c 1 (delta (Inc by) s replica number)) (sym e) (valid-inc nodes replica number by s (subst (λ (c : Kind). IsValid nodes c 1 s) e p) member)
+valid-delta nodes replica number k (Max n) s p e ok member some most = subst (λ (c : Kind). IsValid nodes c 1 (delta (Max n) s replica number)) (sym e) (valid-max nodes replica number n s ok)
+valid-delta nodes replica number k (Join t) s p e ok member some most = ok

@@ -1,18 +1,19 @@
 -- Clean in words of the entries: some bind read the inputs as they are, or they are all least.
 use Rattle.std.proofs.Common.{◌≡◌, ℕ, zero, suc, ◌≤◌, max, ◌⊎◌, inl, inr, ◌↔◌, Bool, true, false, if◌then◌else◌, ◌==◌, List, [], ◌∷◌, take, refl, sym, ap, subst, ◌∙◌, arith}
 use Rattle.std.proofs.lemmas.Bool.Decides.{nat_tests}
-use Rattle.model_states.specs.Content.{Content, least}
-use Rattle.model_graph.specs.Graph.{kind_at}
+use Rattle.model_states.specs.Content.{Content, least, IsContentAtMost}
+use Rattle.model_states.proofs.ContentLaws.{at_most-chain, at_most-least, at_most-same, same-content}
+use Rattle.model_graph.specs.Graph.{kind_at, IsInput}
 use Rattle.model_graph.specs.Evaluation.{content_at}
-use Rattle.model_journal.specs.Order.{IsContentAtMost}
+use Rattle.model_graph.proofs.PlaceLaws.{equal-numbers}
 use Rattle.model_journal.specs.Entry.{Act, Update, Deliver, Bind, Extend, Entry, Frame}
 use Rattle.model_journal.specs.Journal.{Snapshot, Journal, snapshot_at, binds_after, next, run, start, journal, graph, val}
-use Rattle.model_journal.specs.Clean.{IsInput, version, applied, IsClean, greatest_bound, base, HasBind, HasReadPresent, AreInputsLeast}
+use Rattle.model_journal.specs.Clean.{version, applied, IsClean, greatest_bound, base, HasBind, HasReadPresent, AreInputsLeast}
 use Rattle.model_journal.specs.Legal.{IsLegal}
-use Rattle.model_journal.proofs.PlaceLaws.{equal-numbers}
-use Rattle.model_journal.proofs.ContentLaws.{at_most-chain, at_most-least, at_most-same, same-content}
-use Rattle.model_journal.proofs.GoodLaws.{IsGood, to-now, now-tidy}
+use Rattle.model_journal.proofs.GraphLaws.{input-set}
+use Rattle.model_journal.proofs.GoodLaws.{IsGood, to-now, now-tidy, set-bottom}
 use Rattle.model_journal.proofs.JournalLaws.{journal-good}
+use Rattle.model_journal.proofs.StandLaws.{input-was-flat}
 use Rattle.model_journal.proofs.CleanLaws.{snapshot-take, read-is, applied-same, same-applied}
 
 -- ---- the binds that a journal keeps are those of its entries
@@ -108,29 +109,29 @@ kept-low (b ∷ binds) y n (inr k) = choose (b.0 == y) (kept-low binds y n k) wh
 
 clean-says : (X : Frame) (h : List Entry) → IsLegal X h → (y : ℕ) → IsClean X h y → HasReadPresent X h y ⊎ AreInputsLeast X h y
 clean-says X h legal y clean = choose (greatest-kept (journal X h).binds y) where
-  good : IsGood (journal X h)
+  good : IsGood X (journal X h)
   good = journal-good X h legal
 
   same : (x : ℕ) → IsInput (kind_at (graph X h) y) x → content_at (snapshot_at (journal X h) (base X h y)).contents x ≡ val X h x
-  same x i = applied-same (journal X h) good y x (clean x i)
+  same x i = applied-same X h legal y x i (clean x i)
 
   choose : IsKept (journal X h).binds y (base X h y) ⊎ (base X h y ≡ 0) → HasReadPresent X h y ⊎ AreInputsLeast X h y
   choose (inl k) = inl (base X h y, journal-kept X h y (base X h y) k, λ x i. ap (λ (s : Snapshot). content_at s.contents x) (sym (snapshot-take X h (base X h y))) ∙ same x i)
-  choose (inr none) = inr (λ x i. sym (same x i) ∙ ap (λ (n : ℕ). content_at (snapshot_at (journal X h) n).contents x) none ∙ good.bottom x)
+  choose (inr none) = inr (λ x i. sym (same x i) ∙ ap (λ (n : ℕ). content_at (snapshot_at (journal X h) n).contents x) none ∙ set-bottom X (journal X h) good x (input-set (graph X h) good.graph y x i))
 
 says-clean : (X : Frame) (h : List Entry) → IsLegal X h → (y : ℕ) → HasReadPresent X h y ⊎ AreInputsLeast X h y → IsClean X h y
-says-clean X h legal y says x i = same-applied (journal X h) good y x (between says) where
-  good : IsGood (journal X h)
+says-clean X h legal y says x i = same-applied X (journal X h) good y x (between says) where
+  good : IsGood X (journal X h)
   good = journal-good X h legal
 
   old : Content
   old = content_at (snapshot_at (journal X h) (base X h y)).contents x
 
   up : IsContentAtMost old (val X h x)
-  up = (to-now (journal X h) good (base X h y)).grown x
+  up = (to-now X (journal X h) good (base X h y)).grown x
 
   close : IsContentAtMost (val X h x) old → old ≡ val X h x
-  close down = same-content old (val X h x) (good.tidy (base X h y) x) (now-tidy (journal X h) good x) up down
+  close down = same-content old (val X h x) (good.tidy (base X h y) x) (now-tidy X (journal X h) good x) (input-was-flat X h legal y x (base X h y) i) up down
 
   between : HasReadPresent X h y ⊎ AreInputsLeast X h y → old ≡ val X h x
   between (inl read) =
@@ -156,19 +157,19 @@ pub base-greatest : (X : Frame) (h : List Entry) (y n : ℕ) → HasBind h y n �
 base-greatest X h y n b = kept-low (journal X h).binds y n (run-has X (start X) h y n b)
 
 pub applied-base : (X : Frame) (h : List Entry) → IsLegal X h → (y x : ℕ) → applied X h y x ≡ version X (take (base X h y) h) x
-applied-base X h legal y x = read-is (journal X h) (journal-good X h legal) (journal X h).binds y x ∙ ap (λ (s : Snapshot). s.versions x) (snapshot-take X h (base X h y))
+applied-base X h legal y x = read-is X (journal X h) (journal-good X h legal) (journal X h).binds y x ∙ ap (λ (s : Snapshot). s.versions x) (snapshot-take X h (base X h y))
 
 pub applied-greatest : (X : Frame) (h : List Entry) → IsLegal X h → (y x n : ℕ) → HasBind h y n → version X (take n h) x ≤ applied X h y x
 applied-greatest X h legal y x n b =
     let up = ((journal-good X h legal).order n (base X h y) (base-greatest X h y n b)).counted x in
     let here : (snapshot_at (journal X h) n).versions x ≡ version X (take n h) x = ap (λ (s : Snapshot). s.versions x) (snapshot-take X h n) in
-    let there : applied X h y x ≡ (snapshot_at (journal X h) (base X h y)).versions x = read-is (journal X h) (journal-good X h legal) (journal X h).binds y x in
+    let there : applied X h y x ≡ (snapshot_at (journal X h) (base X h y)).versions x = read-is X (journal X h) (journal-good X h legal) (journal X h).binds y x in
     omega (arith, up, here, there)
 
 pub applied-reached : (X : Frame) (h : List Entry) → IsLegal X h → (y x : ℕ) → ((n : ℕ) × HasBind h y n × (applied X h y x ≡ version X (take n h) x)) ⊎ (applied X h y x ≡ 0)
 applied-reached X h legal y x = choose (base-reached X h y) where
   choose : HasBind h y (base X h y) ⊎ (base X h y ≡ 0) → ((n : ℕ) × HasBind h y n × (applied X h y x ≡ version X (take n h) x)) ⊎ (applied X h y x ≡ 0)
   choose (inl b) = inl (base X h y, b, applied-base X h legal y x)
-  choose (inr none) = inr (read-is (journal X h) (journal-good X h legal) (journal X h).binds y x ∙ ap (λ (n : ℕ). (snapshot_at (journal X h) n).versions x) none ∙ (journal-good X h legal).uncounted x)
+  choose (inr none) = inr (read-is X (journal X h) (journal-good X h legal) (journal X h).binds y x ∙ ap (λ (n : ℕ). (snapshot_at (journal X h) n).versions x) none ∙ (journal-good X h legal).uncounted x)
 
 pub ruleset reads = (applied-greatest, applied-reached, base-greatest, base-reached)

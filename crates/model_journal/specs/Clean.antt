@@ -1,14 +1,9 @@
 -- When a derived variable has taken in the present contents of its inputs.
 use Rattle.std.specs.Prelude.{◌≡◌, ℕ, max, ◌⊎◌, if◌then◌else◌, ◌==◌, List, [], ◌∷◌, take}
 use Rattle.model_states.specs.Content.{least}
-use Rattle.model_graph.specs.Graph.{Kind, OrSet, Union, kind_at}
+use Rattle.model_graph.specs.Graph.{IsInput, kind_at}
 use Rattle.model_journal.specs.Entry.{Bind, Entry, Frame}
 use Rattle.model_journal.specs.Journal.{Journal, snapshot_at, journal, graph, val}
-
--- x is an input of a variable of this kind
-abbrev pub IsInput : Kind → ℕ → Type 0
-IsInput OrSet x = ⊥
-IsInput (Union a b) x = (x ≡ a) ⊎ (x ≡ b)
 
 -- the number of entries at which variable x grew
 abbrev pub version : Frame → List Entry → ℕ → ℕ

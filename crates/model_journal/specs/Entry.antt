@@ -1,18 +1,8 @@
 -- What a replica writes down: one entry for each change.
 use Rattle.std.specs.Prelude.{ℕ, List}
-use Rattle.model_states.specs.Content.{Content}
 use Rattle.model_states.specs.Update.{Op}
 use Rattle.model_graph.specs.Graph.{Decl}
-
--- a source in a message: its declaration and what it holds
-pub record Sent : Type 0 where
-  pub decl : Decl
-  pub content : Content
-
--- a message of a replica: how many updates of each replica it knows, and its sources in their order
-pub record Message : Type 0 where
-  pub counts : List ℕ
-  pub sources : List Sent
+use Rattle.model_messages.specs.Message.{Message}
 
 pub data Act : Type 0 where
   -- an update of a source

@@ -1,11 +1,12 @@
 -- What a list of entries comes to: a machine that takes one entry after the other and keeps what stood before each.
-use Rattle.std.specs.Prelude.{ℕ, zero, suc, ◌+◌, max, if◌then◌else◌, ◌==◌, List, [], ◌∷◌, ◌++◌, length, Option, Some, None, slice_index_or, slice_set, replicate}
-use Rattle.model_states.specs.Content.{Content, least, join_contents}
+use Rattle.std.specs.Prelude.{ℕ, ◌+◌, if◌then◌else◌, ◌==◌, List, [], ◌∷◌, ◌++◌, map, Option, Some, None, slice_index_or, slice_set}
+use Rattle.model_states.specs.Counts.{count_at, zeros, larger}
+use Rattle.model_states.specs.Content.{Content, least, is_content_at_most}
 use Rattle.model_states.specs.Update.{delta}
 use Rattle.model_graph.specs.Graph.{Decl, kind_at, is_source}
-use Rattle.model_graph.specs.Evaluation.{content_at, equation}
-use Rattle.model_journal.specs.Order.{is_content_at_most}
-use Rattle.model_journal.specs.Entry.{Sent, Act, Update, Deliver, Bind, Extend, Entry, Frame}
+use Rattle.model_graph.specs.Evaluation.{least_of, content_at, equation}
+use Rattle.model_messages.specs.Message.{brought, gained}
+use Rattle.model_journal.specs.Entry.{Act, Update, Deliver, Bind, Extend, Entry, Frame}
 
 -- what stands after some entries: the graph, the content of each variable, the counts, and how often each variable grew
 pub record Snapshot : Type 0 where
@@ -25,49 +26,23 @@ pub record Journal : Type 0 where
 abbrev pub snapshot_at : Journal → ℕ → Snapshot
 snapshot_at j n = slice_index_or j.past n j.now
 
--- how many updates of replica q are known
-abbrev pub count_at : List ℕ → ℕ → ℕ
-count_at counts q = slice_index_or counts q 0
-
--- how many sources are declared before variable x: its place in a message
-abbrev pub source_number : List Decl → ℕ → ℕ
-source_number [] x = 0
-source_number (d ∷ g) zero = 0
-source_number (d ∷ g) (suc x) = if is_source d.kind then source_number g x + 1 else source_number g x
-
--- what a message has of its i-th source; least where it has fewer
-abbrev pub sent_at : List Sent → ℕ → Content
-sent_at [] i = least
-sent_at (s ∷ sent) zero = s.content
-sent_at (s ∷ sent) (suc i) = sent_at sent i
-
 -- what an act joins into variable x, if anything
 abbrev pub gain : Frame → Journal → Act → ℕ → Option Content
 gain X j (Update y op) x = if x == y then Some (delta op (content_at j.now.contents y) X.replica (count_at j.now.counts X.replica + 1)) else None
-gain X j (Deliver m) x = if is_source (kind_at j.now.graph x) then Some (sent_at m.sources (source_number j.now.graph x)) else None
+gain X j (Deliver m) x = brought j.now.graph m x
 gain X j (Bind y n) x = if x == y then Some (equation (kind_at j.now.graph y) (snapshot_at j n).contents) else None
 gain X j (Extend d) x = None
 
--- a content with what it gains
-abbrev pub with_gain : Content → Option Content → Content
-with_gain s None = s
-with_gain s (Some t) = join_contents s t
-
--- the contents from variable x on, each with what it gains
-abbrev pub gained : (ℕ → Option Content) → ℕ → List Content → List Content
-gained gains x [] = []
-gained gains x (s ∷ rest) = with_gain s (gains x) ∷ gained gains (x + 1) rest
-
--- the contents that an act adds at the end: a declared variable is least
-abbrev pub opened : Act → List Content
-opened (Update y op) = []
-opened (Deliver m) = []
-opened (Bind y n) = []
-opened (Extend d) = least ∷ []
+-- the contents that an act adds at the end: what a declared variable has before anything happened
+abbrev pub opened : ℕ → Act → List Content
+opened nodes (Update y op) = []
+opened nodes (Deliver m) = []
+opened nodes (Bind y n) = []
+opened nodes (Extend d) = least_of nodes d.kind ∷ []
 
 -- the contents after an act
 abbrev pub contents_after : Frame → Journal → Act → List Content
-contents_after X j act = gained (gain X j act) 0 j.now.contents ++ opened act
+contents_after X j act = gained (gain X j act) 0 j.now.contents ++ opened X.nodes act
 
 -- the graph after an act
 abbrev pub graph_after : List Decl → Act → List Decl
@@ -76,16 +51,10 @@ graph_after g (Deliver m) = g
 graph_after g (Bind y n) = g
 graph_after g (Extend d) = g ++ d ∷ []
 
--- place by place the greater count
-abbrev pub greater_counts : List ℕ → List ℕ → List ℕ
-greater_counts [] ds = []
-greater_counts (c ∷ cs) [] = c ∷ cs
-greater_counts (c ∷ cs) (d ∷ ds) = max c d ∷ greater_counts cs ds
-
 -- the counts after an act: an update is counted at its replica
 abbrev pub counts_after : Frame → List ℕ → Act → List ℕ
 counts_after X counts (Update y op) = slice_set counts X.replica (count_at counts X.replica + 1)
-counts_after X counts (Deliver m) = greater_counts counts m.counts
+counts_after X counts (Deliver m) = larger counts m.counts
 counts_after X counts (Bind y n) = counts
 counts_after X counts (Extend d) = counts
 
@@ -118,11 +87,11 @@ abbrev pub run : Frame → Journal → List Entry → Journal
 run X j [] = j
 run X j (e ∷ entries) = run X (next X j e) entries
 
--- before the first entry: every variable of the opening graph is least, and nothing is counted
+-- before the first entry: every variable of the opening graph has what it has before anything happened, and no update is known
 abbrev pub start : Frame → Journal
 start X = record {
   past = [];
-  now = record { graph = X.opening; contents = replicate (length X.opening) least; counts = replicate X.nodes 0; versions = λ x. 0 };
+  now = record { graph = X.opening; contents = map (λ d. least_of X.nodes d.kind) X.opening; counts = zeros X.nodes; versions = λ x. 0 };
   binds = [];
 }
 

@@ -1,7 +1,7 @@
-pub mod Order
 pub mod Entry
 pub mod Journal
 pub mod Clean
 pub mod Legal
+pub mod Callers
 pub mod Example
 pub mod Message

@@ -3,10 +3,11 @@
 ghost use Rattle.std.specs.Prelude.{◌≡◌, ℕ, ◌≤◌, List, take, ◌↔◌, ◌⊎◌};
 ghost use Rattle.model_graph.specs.Graph.{kind_at};
 ghost use Rattle.model_graph.specs.Evaluation.{equation, eval};
+ghost use Rattle.model_graph.specs.Lawful.{IsDerived};
 ghost use Rattle.model_journal.specs.Entry.{Entry, Frame};
 ghost use Rattle.model_journal.specs.Journal.{graph, vals, val, sources};
 ghost use Rattle.model_journal.specs.Clean.{version, applied, base, IsClean, HasBind, HasReadPresent, AreInputsLeast};
-ghost use Rattle.model_journal.specs.Legal.{IsDerived, IsLegal};
+ghost use Rattle.model_journal.specs.Legal.{IsLegal};
 
 /// A clean variable is its equation on the present contents. Where every derived variable is clean, all are what the plain evaluation of the present sources gives.
 #[tactic(auto, using(crate::proofs::CleanLaws::clean))]

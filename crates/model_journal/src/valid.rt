@@ -1,18 +1,18 @@
-//! What keeps contents valid.
+//! What keeps contents valid, kind by kind.
 
-ghost use Rattle.std.specs.Prelude.{ℕ, ◌<◌, ◌≤◌, List, slice_index_or};
-ghost use Rattle.model_states.specs.Content.{Content, least, join_contents, size_of, row_limit};
+ghost use Rattle.std.specs.Prelude.{ℕ, ◌<◌, ◌≤◌, IsFalse, List};
+ghost use Rattle.model_states.specs.Content.{Content, join_contents, size_of, row_limit};
 ghost use Rattle.model_states.specs.Update.{Op, delta};
-ghost use Rattle.model_graph.specs.Graph.{Kind};
-ghost use Rattle.model_graph.specs.Evaluation.{content_at, equation};
-ghost use Rattle.model_journal.specs.Clean.{IsInput};
-ghost use Rattle.model_journal.specs.Legal.{IsValid, IsSmallOp, width_of, count_limit};
+ghost use Rattle.model_graph.specs.Graph.{Kind, is_source, IsInput};
+ghost use Rattle.model_graph.specs.Evaluation.{least_of, content_at, equation};
+ghost use Rattle.model_graph.specs.Lawful.{width_at, width_of};
+ghost use Rattle.model_journal.specs.Legal.{IsValid, IsOpOf, IsSmallOp, count_limit};
 
-/// Joins, the deltas of updates and equations of valid contents are valid, as long as there is room.
-#[tactic(auto, using(crate::proofs::ValidLaws::valid))]
+/// What a variable has before anything happened, joins, the deltas of updates, and equations of valid contents are valid, as long as there is room.
 pub fn contents_stay_valid()
-    ensures least { (nodes w : ℕ) → IsValid nodes w least }
-    ensures join { (nodes w : ℕ) (s t : Content) → IsValid nodes w s → IsValid nodes w t → size_of (join_contents s t) ≤ row_limit → IsValid nodes w (join_contents s t) }
-    ensures delta { (nodes replica k : ℕ) (op : Op) (s : Content) → IsValid nodes 1 s → IsSmallOp op → replica < nodes → 1 ≤ k → k ≤ count_limit → IsValid nodes 1 (delta op s replica k) }
-    ensures equation { (nodes : ℕ) (k : Kind) (ws : List ℕ) (ss : List Content) → ((x : ℕ) → IsInput k x → IsValid nodes (slice_index_or ws x 0) (content_at ss x)) → size_of (equation k ss) ≤ row_limit → IsValid nodes (width_of k ws) (equation k ss) }
+    ensures least { (nodes : ℕ) (k : Kind) (w : ℕ) → IsValid nodes k w (least_of nodes k) }
+    ensures join { (nodes : ℕ) (k : Kind) (w : ℕ) (s t : Content) → IsValid nodes k w s → IsValid nodes k w t → size_of (join_contents s t) ≤ row_limit → IsValid nodes k w (join_contents s t) }
+    ensures delta { (nodes replica number : ℕ) (k : Kind) (op : Op) (s : Content) → IsValid nodes k 1 s → IsOpOf k op → IsSmallOp nodes k op → replica < nodes → 1 ≤ number → number ≤ count_limit → IsValid nodes k 1 (delta op s replica number) }
+    ensures equation { (nodes : ℕ) (kinds : ℕ → Kind) (k : Kind) (ws : List ℕ) (ss : List Content) → IsFalse (is_source k)
+        → ((x : ℕ) → IsInput k x → IsValid nodes (kinds x) (width_at ws x) (content_at ss x)) → size_of (equation k ss) ≤ row_limit → IsValid nodes k (width_of k ws) (equation k ss) }
 {}

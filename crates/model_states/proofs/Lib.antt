@@ -4,3 +4,4 @@ pub mod RegisterLaws
 pub mod ContentLaws
 pub mod DeltaLaws
 pub mod ThresholdLaws
+pub mod SizeLaws

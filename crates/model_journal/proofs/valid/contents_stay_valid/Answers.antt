@@ -1,5 +1,9 @@
-use Rattle.model_journal.proofs.ValidLaws.{valid-join, valid-delta, valid-equation}
+use Rattle.model_journal.proofs.ValidLaws.{valid-least_of, valid-join, valid-delta}
+use Rattle.model_journal.proofs.EquationLaws.{valid-equation}
 use Rattle.model_journal.proofs.valid.contents_stay_valid.Goals as goal
+
+pub returns-clause-least : goal.returns-clause-least
+returns-clause-least c = valid-least_of
 
 pub returns-clause-join : goal.returns-clause-join
 returns-clause-join c = valid-join

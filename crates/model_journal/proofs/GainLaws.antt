@@ -1,0 +1,70 @@
+-- What a content gains: it grows, keeps its order, and has no fewer counts. And what a variable has before anything happened.
+use Rattle.std.proofs.Common.{◌≡◌, ℕ, zero, suc, ◌+◌, ◌≤◌, ◌<◌, IsTrue, IsFalse, List, [], ◌∷◌, length, Option, Some, None, refl, ap, ◌∙◌, arith}
+use Rattle.model_states.specs.Content.{Content, least, IsContentAtMost, IsOrdered}
+use Rattle.model_states.proofs.ContentLaws.{at_most-itself, join-left, ordered-join, counts-join}
+use Rattle.model_graph.specs.Graph.{Kind, OrSet, GSet, Counter, MaxReg, Union, Product, Intersection, Map, Filter, Fold, is_source, is_set}
+use Rattle.model_graph.specs.Evaluation.{least_of, content_at}
+use Rattle.model_messages.specs.Message.{with_gain, gained}
+
+pub gain-grows : (s : Content) (gain : Option Content) → IsContentAtMost s (with_gain s gain)
+gain-grows s None = at_most-itself s
+gain-grows s (Some t) = join-left s t
+
+pub gain-ordered : (s : Content) (gain : Option Content) → IsOrdered s → IsOrdered (with_gain s gain)
+gain-ordered s None up = up
+gain-ordered s (Some t) up = ordered-join s t
+
+pub gain-wider : (s : Content) (gain : Option Content) → length s.counts ≤ length (with_gain s gain).counts
+gain-wider s None = omega arith
+gain-wider s (Some t) = omega (arith, counts-join s t)
+
+pub gained-length : (gains : ℕ → Option Content) (n : ℕ) (ss : List Content) → length (gained gains n ss) ≡ length ss
+gained-length gains n [] = refl
+gained-length gains n (s ∷ ss) = omega (arith, gained-length gains (n + 1) ss)
+
+pub gained-at : (gains : ℕ → Option Content) (n : ℕ) (ss : List Content) (x : ℕ) → x < length ss → content_at (gained gains n ss) x ≡ with_gain (content_at ss x) (gains (n + x))
+gained-at gains n [] x h = absurd (omega (arith, h))
+gained-at gains n (s ∷ ss) zero h = let here : n ≡ n + 0 = omega arith in ap (λ (i : ℕ). with_gain s (gains i)) here
+gained-at gains n (s ∷ ss) (suc x) h =
+    let there : (n + 1) + x ≡ n + suc x = omega arith in
+    gained-at gains (n + 1) ss x (omega (arith, h)) ∙ ap (λ (i : ℕ). with_gain (content_at ss x) (gains i)) there
+
+-- ---- before anything happened
+
+pub least_of-ordered : (nodes : ℕ) (k : Kind) → IsOrdered (least_of nodes k)
+least_of-ordered nodes OrSet = record { rows = refl; values = refl }
+least_of-ordered nodes GSet = record { rows = refl; values = refl }
+least_of-ordered nodes Counter = record { rows = refl; values = refl }
+least_of-ordered nodes MaxReg = record { rows = refl; values = refl }
+least_of-ordered nodes (Union x y) = record { rows = refl; values = refl }
+least_of-ordered nodes (Product x y) = record { rows = refl; values = refl }
+least_of-ordered nodes (Intersection x y) = record { rows = refl; values = refl }
+least_of-ordered nodes (Map x place ops) = record { rows = refl; values = refl }
+least_of-ordered nodes (Filter x place ops) = record { rows = refl; values = refl }
+least_of-ordered nodes (Fold x op place lift) = record { rows = refl; values = refl }
+
+-- a set is least
+pub least_of-set : (nodes : ℕ) (k : Kind) → IsTrue (is_set k) → least_of nodes k ≡ least
+least_of-set nodes OrSet e = refl
+least_of-set nodes GSet e = refl
+least_of-set nodes Counter e = cc
+least_of-set nodes MaxReg e = refl
+least_of-set nodes (Union x y) e = refl
+least_of-set nodes (Product x y) e = refl
+least_of-set nodes (Intersection x y) e = refl
+least_of-set nodes (Map x place ops) e = refl
+least_of-set nodes (Filter x place ops) e = refl
+least_of-set nodes (Fold x op place lift) e = refl
+
+-- a derived variable is least
+pub least_of-derived : (nodes : ℕ) (k : Kind) → IsFalse (is_source k) → least_of nodes k ≡ least
+least_of-derived nodes OrSet e = refl
+least_of-derived nodes GSet e = refl
+least_of-derived nodes Counter e = cc
+least_of-derived nodes MaxReg e = refl
+least_of-derived nodes (Union x y) e = refl
+least_of-derived nodes (Product x y) e = refl
+least_of-derived nodes (Intersection x y) e = refl
+least_of-derived nodes (Map x place ops) e = refl
+least_of-derived nodes (Filter x place ops) e = refl
+least_of-derived nodes (Fold x op place lift) e = refl
