@@ -33,7 +33,7 @@ act-run : (c : ℕ) (f : Followed) (a : Act) (r : Result Run Stop) (then : Run �
 act-run c f a (Ok next) then = refl
 act-run c f a (Err stop) then = refl
 
-each-run : (c : ℕ) (f : Followed) (many : List Act) (then : Run → Result Run Stop) → (follow_each c f many >>= (λ next. then next.run)) ≡ (each c f.run many >>= then)
+pub each-run : (c : ℕ) (f : Followed) (many : List Act) (then : Run → Result Run Stop) → (follow_each c f many >>= (λ next. then next.run)) ≡ (each c f.run many >>= then)
 each-run c f [] then = refl
 each-run c f (a ∷ rest) then =
     bind-again (follow_act c f a) (λ next. follow_each c next rest) (λ next. then next.run)
@@ -164,11 +164,11 @@ calm-afters nodes f (Extend d ∷ rest) h s = absurd h.0
 plain-op : (f : Followed) (x : ℕ) (op : Op) → ((t : Content) → op ≡ Join t → ⊥) → (t : Content) → op ≡ Join t → AreOwned f.deltas x t.rows
 plain-op f x op n t e = absurd (n t e)
 
-source-of : (g : List Decl) (x : ℕ) (k : Kind) → IsTrue (is_source k) → kind_at g x ≡ k → IsTrue (is_source (kind_at g x))
+pub source-of : (g : List Decl) (x : ℕ) (k : Kind) → IsTrue (is_source k) → kind_at g x ≡ k → IsTrue (is_source (kind_at g x))
 source-of g x k source e = subst (λ (c : Kind). IsTrue (is_source c)) (sym e) source
 
 -- the mark of a variable has tokens of that variable
-mark-owned : (nodes : ℕ) (f : Followed) (x m : ℕ) → IsSound nodes f → m < length f.marked → slice_index_or f.marked m 0 ≡ x → AreOwned f.deltas x (mark_at f.run.marks m).content.rows
+pub mark-owned : (nodes : ℕ) (f : Followed) (x m : ℕ) → IsSound nodes f → m < length f.marked → slice_index_or f.marked m 0 ≡ x → AreOwned f.deltas x (mark_at f.run.marks m).content.rows
 mark-owned nodes f x m s made e =
     let keeps = s.keeps m made in
     subst (λ (y : ℕ). AreOwned f.deltas y (mark_at f.run.marks m).content.rows) e

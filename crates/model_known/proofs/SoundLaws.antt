@@ -64,7 +64,7 @@ carries-nothing g nodes all = record {
       ∙ ap (λ (ds : List Delta). join_all (least_of nodes (kind_at g x)) (brought_to x ds)) (sym (first-none all));
 }
 
-no-deltas : (n q : ℕ) → length (deltas_at (replicate n []) q) ≡ 0
+pub no-deltas : (n q : ℕ) → length (deltas_at (replicate n []) q) ≡ 0
 no-deltas zero q = refl
 no-deltas (suc n) zero = refl
 no-deltas (suc n) (suc q) = no-deltas n q
