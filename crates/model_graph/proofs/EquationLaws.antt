@@ -1,5 +1,5 @@
 -- What equations do with the order and the inputs of a variable. Only the clauses by kind look into a kind.
-use Rattle.std.proofs.Common.{◌≡◌, ℕ, inl, inr, List, [], map, refl, subst, ◌∙◌, arith}
+use Rattle.std.proofs.Common.{◌≡◌, ℕ, inl, inr, List, [], map, refl, ◌∙◌, arith}
 use Rattle.model_values.specs.Row.{Row}
 use Rattle.model_functions.specs.Map.{mapped}
 use Rattle.model_functions.specs.Predicate.{passes}
@@ -8,17 +8,9 @@ use Rattle.model_sets.specs.Equations.{moved, map_set, filter_set, union_set, pr
 use Rattle.model_sets.proofs.RowLaws.{join-monotone, ascending-join, ascending-of_rows}
 use Rattle.model_sets.proofs.EquationLaws.{map-monotone, filter-monotone, product-monotone, intersect-monotone, filter-ascending, ascending-product, ascending-intersect}
 use Rattle.model_states.specs.Content.{Content, least, of_set, IsContentAtMost, IsOrdered, at_row, at_value, at_count, at_top}
+use Rattle.model_states.proofs.ContentLaws.{at_most-itself}
 use Rattle.model_graph.specs.Graph.{Kind, OrSet, GSet, Counter, MaxReg, Union, Product, Intersection, Map, Filter, Fold, IsInput}
 use Rattle.model_graph.specs.Evaluation.{content_at, rows_at, equation}
-
-pub at_most-itself : (s : Content) → IsContentAtMost s s
-at_most-itself s k = omega arith
-
-pub at_most-chain : (s t u : Content) → IsContentAtMost s t → IsContentAtMost t u → IsContentAtMost s u
-at_most-chain s t u a b k = omega (arith, a k, b k)
-
-pub at_most-same : (s t : Content) → s ≡ t → IsContentAtMost s t
-at_most-same s t e = subst (λ (u : Content). IsContentAtMost s u) e (at_most-itself s)
 
 -- rows at most others make a content at most the other
 set-at_most : (s t : List Row) → IsAtMost s t → IsContentAtMost (of_set s) (of_set t)

@@ -2,12 +2,13 @@
 use Rattle.std.proofs.Common.{◌≡◌, ℕ, zero, suc, ◌+◌, ◌≤◌, ◌<◌, ◌⊎◌, inl, inr, Bool, true, false, if◌then◌else◌, IsTrue, List, [], ◌∷◌, ◌++◌, length, refl, sym, ap, subst, ◌∙◌, arith}
 use Rattle.std.proofs.lemmas.List.{length-take}
 use Rattle.model_states.specs.Content.{Content, least, IsContentAtMost, IsOrdered}
+use Rattle.model_states.proofs.ContentLaws.{at_most-chain, at_most-same}
 use Rattle.model_graph.specs.Graph.{Kind, Decl, is_source, IsInput, no_decl, kind_at}
 use Rattle.model_graph.specs.Evaluation.{content_at, equation, evaluated, eval_from, eval}
 use Rattle.model_graph.specs.Order.{ContentsAtMost}
 use Rattle.model_graph.specs.Lawful.{IsGraph, IsDerived}
 use Rattle.model_graph.proofs.PlaceLaws.{at-append, at-past, at-last, at-push, length-append, below-or-not, same-lists, from-nothing}
-use Rattle.model_graph.proofs.EquationLaws.{at_most-chain, at_most-same, at_most-itself, equation-monotone, equation-alike, equation-ordered, equation-least}
+use Rattle.model_graph.proofs.EquationLaws.{equation-monotone, equation-alike, equation-ordered, equation-least}
 
 pub eval_from-length : (g : List Decl) (done ss : List Content) → length (eval_from g done ss) ≡ length done + length g
 eval_from-length [] done ss = omega arith
@@ -69,8 +70,27 @@ eval-at g ss edges x h =
     subst (λ (n : ℕ). content_at (eval g ss) n ≡ value_in (kind_at g x) (eval g ss) ss n) (sym (from-nothing x))
     (eval_from-at g [] ss x h (λ i small z input. let low = edges i z input in omega (arith, low)))
 
+eval_from-given : (g : List Decl) (done ss : List Content) (j : ℕ) → j < length g → is_source (kind_at g j) ≡ true → content_at (eval_from g done ss) (length done + j) ≡ content_at ss (length done + j)
+eval_from-given [] done ss j h source = absurd (omega (arith, h))
+eval_from-given (d ∷ g) done ss zero h source =
+    let here : length done + 0 ≡ length done = omega arith in
+    let more = done ++ evaluated d.kind done ss ∷ [] in
+    let long : length more ≡ length done + 1 = length-append done (evaluated d.kind done ss ∷ []) in
+    subst (λ (n : ℕ). content_at (eval_from g more ss) n ≡ content_at ss n) (sym here)
+    (eval_from-keeps g more ss (length done) (omega (arith, long))
+    ∙ at-last done (evaluated d.kind done ss) least
+    ∙ ap (λ (b : Bool). if b then content_at ss (length done) else equation d.kind done) source)
+eval_from-given (d ∷ g) done ss (suc j) h source =
+    let more = done ++ evaluated d.kind done ss ∷ [] in
+    let there : length more + j ≡ length done + suc j = omega (arith, length-append done (evaluated d.kind done ss ∷ [])) in
+    subst (λ (n : ℕ). content_at (eval_from g more ss) n ≡ content_at ss n) there (eval_from-given g more ss j (omega (arith, h)) source)
+
+pub eval-given : (g : List Decl) (ss : List Content) (x : ℕ) → x < length g → IsTrue (is_source (kind_at g x)) → content_at (eval g ss) x ≡ content_at ss x
+eval-given g ss x low source = subst (λ (n : ℕ). content_at (eval g ss) n ≡ content_at ss n) (sym (from-nothing x)) (eval_from-given g [] ss x low source)
+
+-- the same of a graph
 pub eval-source : (g : List Decl) (ss : List Content) → IsGraph g → (x : ℕ) → x < length g → IsTrue (is_source (kind_at g x)) → content_at (eval g ss) x ≡ content_at ss x
-eval-source g ss ok x low source = eval-at g ss (graph-earlier g ok) x low ∙ ap (λ (b : Bool). if b then content_at ss x else equation (kind_at g x) (eval g ss)) source
+eval-source g ss ok x low source = eval-given g ss x low source
 
 pub eval-derived : (g : List Decl) (ss : List Content) → IsGraph g → (x : ℕ) → IsDerived g x → content_at (eval g ss) x ≡ equation (kind_at g x) (eval g ss)
 eval-derived g ss ok x d = eval-at g ss (graph-earlier g ok) x d.declared ∙ ap (λ (b : Bool). if b then content_at ss x else equation (kind_at g x) (eval g ss)) d.process
@@ -105,7 +125,7 @@ pub eval-monotone : (g : List Decl) (ss ts : List Content) → IsGraph g
 eval-monotone g ss ts ok h x = choose (below-or-not x (length g)) where
   choose : (x < length g) ⊎ (length g ≤ x) → IsContentAtMost (content_at (eval g ss) x) (content_at (eval g ts) x)
   choose (inl low) = eval-above g ts (eval g ss) ok
-      (λ y small source. subst (λ (s : Content). IsContentAtMost s (content_at ts y)) (sym (eval-source g ss ok y small source)) (h y small source))
+      (λ y small source. subst (λ (s : Content). IsContentAtMost s (content_at ts y)) (sym (eval-given g ss y small source)) (h y small source))
       (λ y d. at_most-same (content_at (eval g ss) y) (equation (kind_at g y) (eval g ss)) (eval-derived g ss ok y d)) x low
   choose (inr high) = at_most-same (content_at (eval g ss) x) (content_at (eval g ts) x)
       (at-past (eval g ss) x least (omega (arith, high, eval-length g ss)) ∙ sym (at-past (eval g ts) x least (omega (arith, high, eval-length g ts))))
@@ -190,6 +210,6 @@ eval-ordered g ss given = eval_from-ordered g [] ss (λ x. record { rows = refl;
 
 pub ruleset equations = (equation-monotone, equation-ordered, equation-alike, equation-least)
 
-pub ruleset evaluation = (eval-length, eval-source, eval-derived, eval-above, eval-only)
+pub ruleset evaluation = (eval-length, eval-given, eval-derived, eval-above, eval-only)
 
 pub ruleset growth = (eval-monotone, eval-sources, eval-longer)

@@ -1,5 +1,5 @@
 -- Places of lists: appended, past the end, set, and two lists that grow together.
-use Rattle.std.proofs.Common.{◌≡◌, ℕ, zero, suc, ◌+◌, ◌≤◌, ◌<◌, ◌⊎◌, inl, inr, true, ◌==◌, List, [], ◌∷◌, ◌++◌, length, map, slice_index_or, refl, arith}
+use Rattle.std.proofs.Common.{◌≡◌, ℕ, zero, suc, ◌+◌, ◌≤◌, ◌<◌, ◌⊎◌, inl, inr, true, ◌==◌, List, [], ◌∷◌, ◌++◌, length, map, replicate, slice_index_or, slice_set, refl, arith}
 use Rattle.std.proofs.lemmas.Bool.Decides.{nat_tests}
 
 pub below-or-not : (x n : ℕ) → (x < n) ⊎ (n ≤ x)
@@ -69,3 +69,30 @@ same-lists [] [] d e same = refl
 same-lists [] (y ∷ ys) d e same = absurd (omega (arith, e))
 same-lists (x ∷ xs) [] d e same = absurd (omega (arith, e))
 same-lists (x ∷ xs) (y ∷ ys) d e same = λ i. same 0 (omega arith) i ∷ same-lists xs ys d (omega (arith, e)) (λ j h. same (suc j) (omega (arith, h))) i
+
+-- what holds of a place after one was set
+pub at-set : {A : Type 0} (P : A → Type 0) (xs : List A) (p : ℕ) (y d : A) (q : ℕ) → q < length xs → (q ≡ p → P y) → ((q ≡ p → ⊥) → P (slice_index_or xs q d)) → P (slice_index_or (slice_set xs p y) q d)
+at-set P [] p y d q h here other = absurd (omega (arith, h))
+at-set P (x ∷ xs) zero y d zero h here other = here refl
+at-set P (x ∷ xs) zero y d (suc q) h here other = other (λ e. omega (arith, e))
+at-set P (x ∷ xs) (suc p) y d zero h here other = other (λ e. omega (arith, e))
+at-set P (x ∷ xs) (suc p) y d (suc q) h here other = at-set P xs p y d q (omega (arith, h)) (λ e. here (omega (arith, e))) (λ n. other (λ e. n (omega (arith, e))))
+
+pub set-length : {A : Type 0} (xs : List A) (p : ℕ) (y : A) → length (slice_set xs p y) ≡ length xs
+set-length [] p y = refl
+set-length (x ∷ xs) zero y = refl
+set-length (x ∷ xs) (suc p) y = omega (arith, set-length xs p y)
+
+pub at-map-low : {A B : Type 0} (f : A → B) (xs : List A) (i : ℕ) (d : A) (e : B) → i < length xs → slice_index_or (map f xs) i e ≡ f (slice_index_or xs i d)
+at-map-low f [] i d e h = absurd (omega (arith, h))
+at-map-low f (x ∷ xs) zero d e h = refl
+at-map-low f (x ∷ xs) (suc i) d e h = at-map-low f xs i d e (omega (arith, h))
+
+pub at-replicate : {A : Type 0} (n i : ℕ) (y d : A) → i < n → slice_index_or (replicate n y) i d ≡ y
+at-replicate zero i y d h = absurd (omega (arith, h))
+at-replicate (suc n) zero y d h = refl
+at-replicate (suc n) (suc i) y d h = at-replicate n i y d (omega (arith, h))
+
+pub length-replicate : {A : Type 0} (n : ℕ) (y : A) → length (replicate n y) ≡ n
+length-replicate zero y = refl
+length-replicate (suc n) y = omega (arith, length-replicate n y)

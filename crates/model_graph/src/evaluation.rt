@@ -11,7 +11,7 @@ ghost use Rattle.model_graph.specs.Lawful.{IsGraph, IsDerived};
 #[tactic(auto, using(crate::proofs::EvalLaws::evaluation))]
 pub fn evaluation_solves_the_equations()
     ensures long { (g : List Decl) (sources : List Content) → length (eval g sources) ≡ length g }
-    ensures source { (g : List Decl) (sources : List Content) → IsGraph g → (x : ℕ) → x < length g → IsTrue (is_source (kind_at g x)) → content_at (eval g sources) x ≡ content_at sources x }
+    ensures source { (g : List Decl) (sources : List Content) (x : ℕ) → x < length g → IsTrue (is_source (kind_at g x)) → content_at (eval g sources) x ≡ content_at sources x }
     ensures derived { (g : List Decl) (sources : List Content) → IsGraph g → (x : ℕ) → IsDerived g x → content_at (eval g sources) x ≡ equation (kind_at g x) (eval g sources) }
     ensures above { (g : List Decl) (sources contents : List Content) → IsGraph g
         → ((x : ℕ) → x < length g → IsTrue (is_source (kind_at g x)) → IsContentAtMost (content_at contents x) (content_at sources x))

@@ -57,7 +57,7 @@ stop-same None c p rest run last same e = same e
 stop-same (Some x) c p rest run last same e = absurd cc
 
 -- a point leaves the world as it is
-point-same : (c p : ℕ) (peers : List Peer) (run last : Run) → point_from c p peers run ≡ Ok last → last ≡ run
+pub point-same : (c p : ℕ) (peers : List Peer) (run last : Run) → point_from c p peers run ≡ Ok last → last ≡ run
 point-same c p [] run last e = cc
 point-same c p (r ∷ peers) run last e =
     stop-same (first_large 0 (shown_at run.graph r)) c p (point_from c (p + 1) peers run) run last (λ h. point-same c (p + 1) peers run last h) e

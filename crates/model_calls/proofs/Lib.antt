@@ -1,0 +1,5 @@
+pub mod TiedLaws
+pub mod StepLaws
+pub mod RunLaws
+pub mod BindLaws
+pub mod CallLaws

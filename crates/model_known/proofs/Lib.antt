@@ -1,0 +1,11 @@
+pub mod MeasureLaws
+pub mod EffectLaws
+pub mod HoldLaws
+pub mod TokenLaws
+pub mod SoundLaws
+pub mod PlayLaws
+pub mod PlaceLaws
+pub mod DirectLaws
+pub mod KnownLaws
+pub mod AlikeLaws
+pub mod ReportLaws

@@ -1,0 +1,5 @@
+pub mod Delta
+pub mod Follow
+pub mod Holds
+pub mod Owner
+pub mod Direct
