@@ -1,11 +1,13 @@
 -- States as contents: the order, the join and growth of each kind are those of its part.
 use Rattle.std.proofs.Common.{◌≡◌, ◌≢◌, ◌↔◌, ℕ, ◌≤◌, max, ℤ, Bool, IsTrue, List, [], ◌∷◌, length, Option, None, Some, Result, Ok, Err, IfOk, OnOk, refl, sym, ap, subst, ◌∙◌, arith}
 use Rattle.model_values.specs.Row.{Row}
+use Rattle.model_values.specs.Value.{Val}
+use Rattle.model_sets.specs.Values.{IsWithin}
 use Rattle.model_sets.specs.Rows.{IsAtMost}
 use Rattle.model_states.specs.Counts as counts
 use Rattle.model_states.specs.Counts.{AreCountsAtMost}
 use Rattle.model_states.specs.Register as register
-use Rattle.model_states.specs.Content.{Content, of_set, of_counts, of_top, join_contents, Key, at_row, at_value, at_count, at_top, content_mark, IsContentAtMost}
+use Rattle.model_states.specs.Content.{Content, of_set, of_grow, of_counts, of_top, join_contents, Key, at_row, at_value, at_count, at_top, content_mark, IsContentAtMost}
 use Rattle.model_states.proofs.RegisterLaws.{not_later-reaches, reaches-not_later}
 use Rattle.model_states.specs.Threshold.{Shape, counter}
 use Rattle.lasp_counters.specs.declared.register.MaxReg.{MaxReg}
@@ -19,6 +21,14 @@ order-set s t = (there, λ h v w. h (at_row v w)) where
   there : IsAtMost s t → (k : Key) → content_mark (of_set s) k ≤ content_mark (of_set t) k
   there h (at_row v w) = h v w
   there h (at_value v) = omega arith
+  there h (at_count node) = omega arith
+  there h (at_top n) = omega arith
+
+pub order-grow : (s t : List Val) → IsWithin s t ↔ IsContentAtMost (of_grow s) (of_grow t)
+order-grow s t = (there, λ h v. h (at_value v)) where
+  there : IsWithin s t → (k : Key) → content_mark (of_grow s) k ≤ content_mark (of_grow t) k
+  there h (at_row v w) = omega arith
+  there h (at_value v) = h v
   there h (at_count node) = omega arith
   there h (at_top n) = omega arith
 
@@ -72,6 +82,9 @@ join-top s t = ap of_top (later-plain s t)
 
 pub differ-sets : (s t : List Row) → (s ≢ t) ↔ (of_set s ≢ of_set t)
 differ-sets s t = (λ h e. h (ap (λ (c : Content). c.rows) e), λ h e. h (ap of_set e))
+
+pub differ-grow : (s t : List Val) → (s ≢ t) ↔ (of_grow s ≢ of_grow t)
+differ-grow s t = (λ h e. h (ap (λ (c : Content). c.values) e), λ h e. h (ap of_grow e))
 
 pub differ-counts : (s t : List ℕ) → (s ≢ t) ↔ (of_counts s ≢ of_counts t)
 differ-counts s t = (λ h e. h (ap (λ (c : Content). c.counts) e), λ h e. h (ap of_counts e))

@@ -3,37 +3,41 @@ use Rattle.std.specs.Prelude.{◌≡◌, ℕ, ◌<◌, List, length, sum}
 use Rattle.std.specs.Fmt.{decimal}
 use Rattle.model_values.specs.Text.{shown_values}
 use Rattle.model_sets.specs.Rows.{visible}
-use Rattle.model_states.specs.Content.{Content, of_set, of_counts, of_top}
-use Rattle.model_states.specs.Threshold.{Shape, set, counter, register}
+use Rattle.model_states.specs.Content.{Content, of_set, of_grow, of_counts, of_top}
+use Rattle.model_states.specs.Threshold.{Shape, set, grow, counter, register}
 use Rattle.model_states.specs.Update as plain
 use Rattle.model_world.specs.Line.{shown_top}
 use Rattle.lasp_value.specs.Value.{val_of}
 use Rattle.lasp_state.specs.declared.state.State.{State}
-use Rattle.lasp_state.specs.declared.state.State.TheVariants.{Set, Count, Max}
+use Rattle.lasp_state.specs.declared.state.State.TheVariants.{Set, Grow, Count, Max}
 use Rattle.lasp_state.specs.declared.op.Op.{Op}
 use Rattle.lasp_state.specs.declared.op.Op.TheVariants as op
 
 -- what a state holds
 abbrev pub content_of : State → Content
 content_of (Set rows) = of_set rows
+content_of (Grow values) = of_grow values
 content_of (Count counts) = of_counts counts
 content_of (Max m) = of_top m.value
 
 -- what sort of content it has
 abbrev pub shape_of : State → Shape
 shape_of (Set rows) = set
+shape_of (Grow values) = grow
 shape_of (Count counts) = counter (length counts)
 shape_of (Max m) = register
 
 -- how it is printed
 abbrev pub shown_state : State → List ℕ
 shown_state (Set rows) = shown_values (visible rows)
+shown_state (Grow values) = shown_values values
 shown_state (Count counts) = decimal (sum counts)
 shown_state (Max m) = shown_top m.value
 
 abbrev pub op_of : Op → plain.Op
 op_of (op.Add v) = plain.Add (val_of v)
 op_of (op.Remove v) = plain.Remove (val_of v)
+op_of (op.Insert v) = plain.Insert (val_of v)
 op_of (op.Inc by) = plain.Inc by
 op_of (op.Max n) = plain.Max n
 
@@ -41,5 +45,6 @@ op_of (op.Max n) = plain.Max n
 abbrev pub IsOpOf : Op → ℕ → Shape → Type 0
 IsOpOf (op.Add v) replica shape = shape ≡ set
 IsOpOf (op.Remove v) replica shape = shape ≡ set
+IsOpOf (op.Insert v) replica shape = shape ≡ grow
 IsOpOf (op.Inc by) replica shape = (nodes : ℕ) × (shape ≡ counter nodes) × (replica < nodes)
 IsOpOf (op.Max n) replica shape = shape ≡ register

@@ -9,6 +9,8 @@ pub enum Op {
     Add(Value),
     /// Removes what the replica observes of the value in an observed-remove set.
     Remove(Value),
+    /// Puts the value into a grow-only set.
+    Insert(Value),
     /// Counts so many more, from 1 to 4,294,967,295.
     Inc(u32),
     /// Raises a register to at least this number.

@@ -3,13 +3,13 @@
 ghost use Rattle.std.specs.Prelude.{◌≡◌, ◌≢◌, ◌↔◌, ◌<◌, ◌++◌, IfOk, OnOk, OnErr, IsTrue, string_bytes};
 ghost use Rattle.model_states.specs.Counts.{zeros};
 ghost use Rattle.model_states.specs.Content.{join_contents, least, of_counts, size_of, IsContentAtMost};
-ghost use Rattle.model_states.specs.Threshold.{set, counter, register};
+ghost use Rattle.model_states.specs.Threshold.{set, grow, counter, register};
 ghost use Rattle.model_states.specs.Update.{delta};
 ghost use Rattle.lasp_state.specs.State.{content_of, shape_of, shown_state, op_of, IsOpOf};
 
 use super::op::Op;
 use super::print::{print_number, print_total};
-use lasp_counters::{GCount, MaxReg};
+use lasp_counters::{GCount, GSet, MaxReg};
 use lasp_orset::{OrSet, add_delta};
 use std::alloc::{AllocError, Global};
 
@@ -18,6 +18,8 @@ use std::alloc::{AllocError, Global};
 pub enum State {
     /// The rows of an observed-remove set, or of a process over sets.
     Set(OrSet),
+    /// The elements of a grow-only set.
+    Grow(GSet),
     /// What each node counted of a counter.
     Count(GCount),
     /// The greatest number of a register.
@@ -31,6 +33,14 @@ impl State {
         ensures shape { shape_of result ≡ set }
     {
         State::Set(OrSet::new(alloc))
+    }
+
+    /// The state of a grow-only set with no elements. It takes no memory.
+    pub fn no_elements(alloc: Global) -> State
+        ensures content { content_of result ≡ least }
+        ensures shape { shape_of result ≡ grow }
+    {
+        State::Grow(GSet::new(alloc))
     }
 
     /// The state of a counter of so many nodes, of which none counted yet.
@@ -49,13 +59,14 @@ impl State {
         State::Max(MaxReg { value: None })
     }
 
-    /// An equal state. Of a set it shares all rows with this one.
+    /// An equal state. Of a set it shares all rows or elements with this one.
     pub fn try_clone(&self) -> Result<State, AllocError>
         ensures content { IfOk result (λ s. content_of s ≡ content_of self.now) }
         ensures shape { IfOk result (λ s. shape_of s ≡ shape_of self.now) }
     {
         match self {
             State::Set(set) => Ok(State::Set(set.try_clone()?)),
+            State::Grow(values) => Ok(State::Grow(values.try_clone()?)),
             State::Count(counts) => Ok(State::Count(counts.try_clone()?)),
             State::Max(register) => Ok(State::Max(*register)),
         }
@@ -68,6 +79,7 @@ impl State {
     {
         match (self, other) {
             (State::Set(set), State::Set(bound)) => set.le(bound),
+            (State::Grow(values), State::Grow(bound)) => values.is_within(bound),
             (State::Count(counts), State::Count(bound)) => counts.is_at_most(bound),
             (State::Max(register), State::Max(bound)) => register.is_not_later(bound),
             (_, _) => unreachable!(),
@@ -84,6 +96,7 @@ impl State {
     {
         match (self, other) {
             (State::Set(set), State::Set(rows)) => set.join_in(rows),
+            (State::Grow(values), State::Grow(others)) => values.unite(others),
             (State::Count(counts), State::Count(others)) => Ok(counts.raise(others)),
             (State::Max(register), State::Max(number)) => Ok(register.raise(number)),
             (_, _) => unreachable!(),
@@ -99,6 +112,7 @@ impl State {
         match (self, op) {
             (State::Set(_), Op::Add(value)) => Ok(State::Set(add_delta(alloc, value, replica, k)?)),
             (State::Set(set), Op::Remove(value)) => Ok(State::Set(set.remove_delta(value)?)),
+            (State::Grow(_), Op::Insert(value)) => Ok(State::Grow(GSet::insert_delta(alloc, value)?)),
             (State::Count(counts), Op::Inc(by)) => Ok(State::Count(counts.inc_delta(
                 replica, *by,
             )?)),
@@ -115,17 +129,19 @@ impl State {
     {
         match self {
             State::Set(set) => set.rows(),
+            State::Grow(values) => values.len(),
             State::Count(_) => 0,
             State::Max(_) => 0,
         }
     }
 
-    /// Appends the printed form: of a set the array of its visible values in ascending order, of a counter its total, of a register its number or `null`.
+    /// Appends the printed form: of a set the array of its visible values in ascending order, of a grow-only set that of its elements, of a counter its total, of a register its number or `null`.
     pub fn print_into(&self, out: &mut String) -> Result<(), AllocError>
         ensures { OnOk result (string_bytes out.new ≡ string_bytes out.old ++ shown_state self.now) }
     {
         match self {
             State::Set(set) => set.print_into(out),
+            State::Grow(values) => values.print_into(out),
             State::Count(counts) => print_total(counts.total(), out),
             State::Max(register) => print_number(register.value, out),
         }

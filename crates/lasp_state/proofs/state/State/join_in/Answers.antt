@@ -1,15 +1,16 @@
 use Rattle.std.proofs.Common.{◌≢◌, ◌↔◌, length, Bool, IsTrue, IfOk, Result, Ok, ap, sym, subst, ◌∙◌}
-use Rattle.model_states.specs.Content.{of_set, of_counts, of_top}
+use Rattle.model_states.specs.Content.{of_set, of_grow, of_counts, of_top}
 use Rattle.model_states.specs.Threshold.{counter}
 use Rattle.lasp_counters.specs.CountLaws.{length-larger}
 use Rattle.lasp_state.specs.State.{content_of, shape_of}
-use Rattle.lasp_state.proofs.StateLaws.{join-counts, join-top, differ-sets, differ-counts, differ-registers, grew-as, grew-result, on-ok, same-nodes, joined-as}
-use Rattle.lasp_state.proofs.state.State.join_in.Goals.{in-Set-Set, in-Count-Count, in-Max-Max}
+use Rattle.lasp_state.proofs.StateLaws.{join-counts, join-top, differ-sets, differ-grow, differ-counts, differ-registers, grew-as, grew-result, on-ok, same-nodes, joined-as}
+use Rattle.lasp_state.proofs.state.State.join_in.Goals.{in-Set-Set, in-Grow-Grow, in-Count-Count, in-Max-Max}
 use Rattle.lasp_state.proofs.state.State.join_in.Goals as goal
 
 pub returns-clause-shape : goal.returns-clause-shape
 returns-clause-shape c = elim c.match-self.branch [
   | in-Set-Set w ↦ ap shape_of w.self-is ∙ sym (ap shape_of w.in-Set-Set.is-0)
+  | in-Grow-Grow w ↦ ap shape_of w.self-is ∙ sym (ap shape_of w.in-Grow-Grow.is-0)
   | in-Count-Count w ↦
       let same = same-nodes w.in-Count-Count.counts w.in-Count-Count.others _ _ c.requires (ap shape_of w.in-Count-Count.is-0) (ap shape_of w.in-Count-Count.is-1) in
       ap shape_of w.self-is ∙ ap counter (ap length w.raise.ensures.ok ∙ length-larger w.in-Count-Count.counts w.in-Count-Count.others same) ∙ sym (ap shape_of w.in-Count-Count.is-0)
@@ -22,6 +23,10 @@ returns-clause-ok c = elim c.match-self.branch [
       on-ok w.join_in.result c.match-self.result _ _ w.result-is
       (λ joined. joined-as _ _ _ (of_set w.join_in.new.self) (of_set w.in-Set-Set.set) (of_set w.in-Set-Set.rows)
       (ap content_of w.self-is) (ap content_of w.in-Set-Set.is-0) (ap content_of w.in-Set-Set.is-1) (ap of_set joined)) w.join_in.ensures.ok
+  | in-Grow-Grow w ↦
+      on-ok w.unite.result c.match-self.result _ _ w.result-is
+      (λ joined. joined-as _ _ _ (of_grow w.unite.new.self) (of_grow w.in-Grow-Grow.values) (of_grow w.in-Grow-Grow.others)
+          (ap content_of w.self-is) (ap content_of w.in-Grow-Grow.is-0) (ap content_of w.in-Grow-Grow.is-1) (ap of_grow joined)) w.unite.ensures.ok
   | in-Count-Count w ↦
       let counts = w.in-Count-Count.counts in
       let others = w.in-Count-Count.others in
@@ -43,6 +48,10 @@ returns-clause-grew c = elim c.match-self.branch [
       subst (λ (r : Result Bool _). IfOk r (λ grew. IsTrue grew ↔ (content_of c.match-self.self ≢ content_of c.args.self.now))) (sym w.result-is)
       (grew-result w.join_in.result (w.join_in.new.self ≢ w.in-Set-Set.set) _ _ (of_set w.join_in.new.self) (of_set w.in-Set-Set.set)
       (ap content_of w.self-is) (ap content_of w.in-Set-Set.is-0) (differ-sets w.join_in.new.self w.in-Set-Set.set) w.join_in.ensures.grew)
+  | in-Grow-Grow w ↦
+      subst (λ (r : Result Bool _). IfOk r (λ grew. IsTrue grew ↔ (content_of c.match-self.self ≢ content_of c.args.self.now))) (sym w.result-is)
+      (grew-result w.unite.result (w.unite.new.self ≢ w.in-Grow-Grow.values) _ _ (of_grow w.unite.new.self) (of_grow w.in-Grow-Grow.values)
+          (ap content_of w.self-is) (ap content_of w.in-Grow-Grow.is-0) (differ-grow w.unite.new.self w.in-Grow-Grow.values) w.unite.ensures.grew)
   | in-Count-Count w ↦
       subst (λ (r : Result Bool _). IfOk r (λ grew. IsTrue grew ↔ (content_of c.match-self.self ≢ content_of c.args.self.now))) (sym w.result-is)
       (grew-as w.raise.result (w.raise.new.self ≢ w.in-Count-Count.counts) _ _ (of_counts w.raise.new.self) (of_counts w.in-Count-Count.counts)

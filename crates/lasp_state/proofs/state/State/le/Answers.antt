@@ -1,7 +1,7 @@
 use Rattle.std.proofs.Common.{ap}
-use Rattle.model_states.specs.Content.{of_set, of_counts, of_top}
+use Rattle.model_states.specs.Content.{of_set, of_grow, of_counts, of_top}
 use Rattle.lasp_state.specs.State.{content_of}
-use Rattle.lasp_state.proofs.StateLaws.{order-as, order-set, order-counts, order-top}
+use Rattle.lasp_state.proofs.StateLaws.{order-as, order-set, order-grow, order-counts, order-top}
 use Rattle.lasp_state.proofs.state.State.le.Goals as goal
 
 pub returns-in-Set-Set : goal.returns-in-Set-Set
@@ -18,3 +18,8 @@ pub returns-in-Max-Max : goal.returns-in-Max-Max
 returns-in-Max-Max c =
     order-as c.is_not_later.result _ (content_of c.args.self.now) (content_of c.args.other.now) (of_top c.in-Max-Max.register.value) (of_top c.in-Max-Max.bound.value)
     (ap content_of c.in-Max-Max.is-0) (ap content_of c.in-Max-Max.is-1) (order-top c.in-Max-Max.register.value c.in-Max-Max.bound.value) c.is_not_later.ensures
+
+pub returns-in-Grow-Grow : goal.returns-in-Grow-Grow
+returns-in-Grow-Grow c =
+    order-as c.is_within.result _ (content_of c.args.self.now) (content_of c.args.other.now) (of_grow c.in-Grow-Grow.values) (of_grow c.in-Grow-Grow.bound)
+    (ap content_of c.in-Grow-Grow.is-0) (ap content_of c.in-Grow-Grow.is-1) (order-grow c.in-Grow-Grow.values c.in-Grow-Grow.bound) c.is_within.ensures
