@@ -1,6 +1,6 @@
 -- What is evaluated stays, and the first variable that is too large is the first that was met.
-use Rattle.std.proofs.Common.{◌≡◌, ◌∙◌, sym, ap, refl, subst, ℕ, zero, suc, ◌+◌, ◌<◌, ◌≤◌, List, [], ◌∷◌, ◌++◌, length, take, Err, Bool, IsTrue, true, false, Option, Some, None, nat_lt, if◌then◌else◌, append_assoc, arith}
-use Rattle.std.proofs.lemmas.List.{append-nil, length-map}
+use Rattle.std.proofs.Common.{◌≡◌, ◌∙◌, sym, ap, refl, subst, ℕ, zero, suc, ◌+◌, ◌<◌, ◌≤◌, List, [], ◌∷◌, ◌++◌, length, take, Err, Bool, IsTrue, true, false, Option, Some, None, nat_lt, if◌then◌else◌, append_assoc, length-append, Result, Ok, IfOk, arith}
+use Rattle.std.proofs.lemmas.List.{append-nil, length-map, map-append}
 use Rattle.std.proofs.lemmas.Bool.{lt-ltb, le-ltb}
 use Rattle.std.proofs.lemmas.Grind.{common_steps}
 use Rattle.std.specs.List.{slice_get}
@@ -8,10 +8,15 @@ use Rattle.std.proofs.lemmas.Option.{slice_get_within, get_or_from_slice_get}
 use Rattle.model_states.specs.Content.{Content, least, size_of, row_limit}
 use Rattle.model_states.specs.Threshold.{Shape, set}
 use Rattle.model_graph.specs.Graph.{Kind, OrSet, GSet, Counter, MaxReg, Union, Product, Intersection, Map, Filter, Fold, Decl, no_decl, kind_at, is_source, is_set}
-use Rattle.model_graph.specs.Evaluation.{content_at, equation, evaluated, eval_from, first_large}
+use Rattle.model_graph.specs.Evaluation.{content_at, equation, evaluated, eval_from, eval, first_large}
+use Rattle.model_graph.specs.Lawful.{width_limit, width_at, width_of, widths_from, widths}
+use Rattle.model_graph.specs.Width.{HasWidth}
+use Rattle.model_graph.proofs.WidthLaws.{eval-width}
+use Rattle.lasp_graph.proofs.Entries.{widths-push}
+use borrow.Author.Tests.{ltb-true, ltb-false}
 use Rattle.model_readings.specs.Lawful.{IsSetAt, AreInputs, IsGraph}
 use Rattle.lasp_graph.specs.States.{Held, held_at, contents_of}
-use Rattle.lasp_graph.specs.Evaluated.{inputs_of, process, AreSmall, Becomes, Evaluates, stopped_at, AreSets, KeepShapes}
+use Rattle.lasp_graph.specs.Evaluated.{inputs_of, process, AreSmall, Becomes, Evaluates, stopped_at, AreSets, AreNarrow, shape_after, KeepShapes}
 use Rattle.lasp_graph.specs.declared.inputs.EvalRefused.{EvalRefused}
 use Rattle.lasp_graph.specs.declared.inputs.EvalRefused.TheVariants as node
 
@@ -186,3 +191,97 @@ pub stopped-eval_from : (k : Kind) (d : Decl) (g : List Decl) (done sources : Li
 stopped-eval_from k d g done sources node.TooManyRows x is long small large =
     first_large-eval_from d g done sources small (rw (← is) large) ∙ ap Some long
 stopped-eval_from k d g done sources node.Memory x is long small large = tt
+
+-- a source keeps its shape
+pub source-shape : (k : Kind) (s : Shape) → inputs_of k ≡ None → shape_after k s ≡ s
+source-shape k s none = ap (λ (b : Bool). if b then s else set) (source-inputs k none)
+
+pub shape-as : {A E : Type 0} (r : Result A E) (shape : A → Shape) (s t : Shape) → s ≡ t → IfOk r (λ a. shape a ≡ s) → IfOk r (λ a. shape a ≡ t)
+shape-as (Ok a) shape s t e h = h ∙ e
+shape-as (Err e) shape s t h k = tt
+
+-- ---- one state more
+
+at-before : (states : List Held) (h : Held) (x : ℕ) → x < length states → held_at (states ++ h ∷ []) x ≡ held_at states x
+at-before [] h x within = absurd (omega (arith, within))
+at-before (a ∷ states) h zero within = refl
+at-before (a ∷ states) h (suc x) within = at-before states h x (omega (arith, within))
+
+at-last : (states : List Held) (h : Held) → held_at (states ++ h ∷ []) (length states) ≡ h
+at-last [] h = refl
+at-last (a ∷ states) h = at-last states h
+
+pub contents-push : (states : List Held) (h : Held) → contents_of (states ++ h ∷ []) ≡ contents_of states ++ h.content ∷ []
+contents-push states h = map-append (λ h. h.content) states (h ∷ [])
+
+pub shapes-push : (many : ℕ) (g : List Decl) (sources states : List Held) (h : Held) → length states ≡ many → KeepShapes many g sources states
+    → h.shape ≡ shape_after (kind_at g many) (held_at sources many).shape → KeepShapes (many + 1) g sources (states ++ h ∷ [])
+shapes-push many g sources states h long keep last x within = by_place (nat_lt x many) refl where
+  by_place : (b : Bool) → nat_lt x many ≡ b → (held_at (states ++ h ∷ []) x).shape ≡ shape_after (kind_at g x) (held_at sources x).shape
+  by_place true e =
+      let before : x < many = ltb-true _ _ e in
+      ap (λ (h : Held). h.shape) (at-before states h x (omega (arith, before, long))) ∙ keep x before
+  by_place false e =
+      let past : many ≤ x = ltb-false _ _ e in
+      let is : x ≡ many = omega (arith, past, within) in
+      let here : x ≡ length states = omega (arith, is, long) in
+      ap (λ (n : ℕ). (held_at (states ++ h ∷ []) n).shape) here ∙ ap (λ (h : Held). h.shape) (at-last states h) ∙ last ∙ ap (λ (n : ℕ). shape_after (kind_at g n) (held_at sources n).shape) (sym is)
+
+-- ---- widths
+
+begins-widths_from : (g : List Decl) (ws : List ℕ) → (rest : List ℕ) × (widths_from g ws ≡ ws ++ rest)
+begins-widths_from [] ws = ([], sym (append-nil ws))
+begins-widths_from (d ∷ g) ws =
+    let tail = begins-widths_from g (ws ++ width_of d.kind ws ∷ []) in
+    (width_of d.kind ws ∷ tail.0, tail.1 ∙ append_assoc ws (width_of d.kind ws ∷ []) tail.0)
+
+width-after : (ws : List ℕ) (w : ℕ) (rest : List ℕ) → width_at (ws ++ w ∷ rest) (length ws) ≡ w
+width-after [] w rest = refl
+width-after (a ∷ ws) w rest = width-after ws w rest
+
+width-here : (d : Decl) (g : List Decl) (ws : List ℕ) → width_at (widths_from (d ∷ g) ws) (length ws) ≡ width_of d.kind ws
+width-here d g ws =
+    let tail = begins-widths_from g (ws ++ width_of d.kind ws ∷ []) in
+    ap (λ (all : List ℕ). width_at all (length ws)) (tail.1 ∙ append_assoc ws (width_of d.kind ws ∷ []) tail.0) ∙ width-after ws (width_of d.kind ws) tail.0
+
+-- no variable of a graph is wider than 16
+narrow-at : (g before : List Decl) (x : ℕ) → ((i : ℕ) (d : Decl) → slice_get g i ≡ Some d → width_of d.kind (widths (before ++ take i g)) ≤ width_limit) → x < length g
+    → width_at (widths_from g (widths before)) (length (widths before) + x) ≤ width_limit
+narrow-at [] before x h within = absurd (omega (arith, within))
+narrow-at (d ∷ g) before zero h within =
+    let first = subst (λ (ds : List Decl). width_of d.kind (widths ds) ≤ width_limit) (append-nil before) (h 0 d refl) in
+    let here = width-here d g (widths before) in
+    let place : length (widths before) + 0 ≡ length (widths before) = omega arith in
+    subst (λ (n : ℕ). width_at (widths_from (d ∷ g) (widths before)) n ≤ width_limit) (sym place) (subst (λ (w : ℕ). w ≤ width_limit) (sym here) first)
+narrow-at (d ∷ g) before (suc x) h within =
+    let more = widths-push before d in
+    let long : length (widths (before ++ d ∷ [])) ≡ length (widths before) + 1 = ap length more ∙ length-append (widths before) (width_of d.kind (widths before) ∷ []) in
+    let rest = narrow-at g (before ++ d ∷ []) x (λ i e at. subst (λ (ds : List Decl). width_of e.kind (widths ds) ≤ width_limit) (sym (append_assoc before (d ∷ []) (take i g))) (h (suc i) e at)) (omega (arith, within)) in
+    let place : length (widths (before ++ d ∷ [])) + x ≡ length (widths before) + suc x = omega (arith, long) in
+    subst (λ (n : ℕ). width_at (widths_from (d ∷ g) (widths before)) n ≤ width_limit) place
+    (subst (λ (ws : List ℕ). width_at (widths_from g ws) (length (widths (before ++ d ∷ [])) + x) ≤ width_limit) more rest)
+
+pub narrow-widths : (g : List Decl) (x : ℕ) → IsGraph g → x < length g → width_at (widths g) x ≤ width_limit
+narrow-widths g x good within =
+    let place : 0 + x ≡ x = omega arith in
+    subst (λ (n : ℕ). width_at (widths g) n ≤ width_limit) place (narrow-at g [] x (λ i d at. (good.each i d at).narrow) within)
+
+wider : (w : ℕ) (s : Content) → w ≤ 16 → HasWidth w s → HasWidth 16 s
+wider w s le h = record {
+  values = λ v t row. record { leaves = omega (arith, le, (h.values v t row).leaves); bytes = omega (arith, le, (h.values v t row).bytes) };
+  tokens = λ v t row. omega (arith, le, h.tokens v t row);
+}
+
+content-front : (done rest : List Content) (x : ℕ) → x < length done → content_at (done ++ rest) x ≡ content_at done x
+content-front [] rest x within = absurd (omega (arith, within))
+content-front (a ∷ done) rest zero within = refl
+content-front (a ∷ done) rest (suc x) within = content-front done rest x (omega (arith, within))
+
+-- what is evaluated so far is of width 16 at most
+pub done-width : (g more : List Decl) (sources done : List Held) (many : ℕ) → IsGraph g → AreNarrow g sources → eval_from more (contents_of done) (contents_of sources) ≡ eval g (contents_of sources)
+    → length done ≡ many → many < length g → (x : ℕ) → x < many → HasWidth 16 (content_at (contents_of done) x)
+done-width g more sources done many good narrow whole long within x before =
+    let tail = begins-eval_from more (contents_of done) (contents_of sources) in
+    let same : content_at (eval g (contents_of sources)) x ≡ content_at (contents_of done) x =
+    ap (λ (all : List Content). content_at all x) (sym whole ∙ tail.is) ∙ content-front (contents_of done) tail.rest x (omega (arith, before, long, length-contents done)) in
+    subst (HasWidth 16) same (wider (width_at (widths g) x) _ (narrow-widths g x good (omega (arith, before, within))) (eval-width g (contents_of sources) narrow x))

@@ -7,13 +7,15 @@ ghost use Rattle.model_states.specs.Threshold.{set};
 ghost use Rattle.model_graph.specs.Graph.{kind_at, is_source};
 ghost use Rattle.model_graph.specs.Evaluation.{content_at, eval, evaluated};
 ghost use Rattle.model_graph.specs.Width.{HasWidth};
-ghost use Rattle.model_readings.specs.Lawful.{FitsAll};
+ghost use Rattle.model_readings.specs.Lawful.{Fits, FitsAll};
 ghost use Rattle.lasp_state.specs.State.{content_of, shape_of};
+ghost use Rattle.lasp_graph.specs.Kind.{kind_of};
 ghost use Rattle.lasp_graph.specs.Library.{library_of};
 ghost use Rattle.lasp_graph.specs.States.{held_of, held_at, contents_of};
 ghost use Rattle.lasp_graph.specs.Evaluated.{process, AreSmall, Becomes, Evaluates, seen, AreSets, AreNarrow, shape_after, KeepShapes, second_of};
 
 use super::graph::Graph;
+use super::kind::Kind;
 use super::inputs::{EvalAll, EvalRefused, Inputs};
 use super::process::eval_process;
 use super::states::States;
@@ -101,12 +103,33 @@ fn eval_var(
             g.recall();
             let first = done.at(x as u64);
             let second = done.at(y as u64);
-            let state = eval_process(alloc, kind, lib, first, second)?;
-            match Arc::new(alloc, state) {
-                Ok(share) => Ok(share),
-                Err(_) => Err(EvalRefused::Memory),
-            }
+            eval_derived(alloc, kind, lib, first, second)
         }
+    }
+}
+
+/// The state of a process on its inputs, to be shared.
+fn eval_derived(
+    alloc: Global,
+    kind: &Kind,
+    lib: &Library,
+    x: &State,
+    y: &State,
+) -> Result<Arc<State>, EvalRefused>
+    requires derived { IsFalse (is_source (kind_of kind.now)) }
+    requires fits { Fits (library_of lib.now) (kind_of kind.now) }
+    requires sets { (shape_of x.now ≡ set) × (shape_of y.now ≡ set) }
+    requires width { HasWidth 16 (content_of x.now) }
+    requires small { size_of (content_of x.now) ≤ row_limit }
+    ensures content { Becomes (seen (λ s. content_of (arc_value s)) result) (process (kind_of kind.now) (content_of x.now) (content_of y.now)) }
+    ensures shape { IfOk result (λ s. shape_of (arc_value s) ≡ set) }
+{
+    match eval_process(alloc, kind, lib, x, y) {
+        Ok(state) => match Arc::new(alloc, state) {
+            Ok(share) => Ok(share),
+            Err(_) => Err(EvalRefused::Memory),
+        },
+        Err(refused) => Err(refused),
     }
 }
 
