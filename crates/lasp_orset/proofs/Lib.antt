@@ -1,5 +1,8 @@
 pub mod PlaceLaws
 pub mod PieceLaws
 pub mod SetLaws
+pub mod PushLaws
+pub mod CountLaws
+pub mod ReadLaws
 pub mod SpanLaws
 pub mod ShownLaws

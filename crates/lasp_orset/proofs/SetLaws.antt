@@ -9,7 +9,7 @@ use Rattle.model_values.specs.Value.{Val}
 use Rattle.model_values.specs.Token.{Tok}
 use Rattle.model_values.specs.Row.{Key, Row, key_cmp, key_total, key_exact}
 use Rattle.model_sets.specs.Rows.{IsAscending, put, join, IsAtMost, level, row_mark, mark}
-use Rattle.model_sets.proofs.RowLaws.{and-left, and-right, and-both, is-Equal, ascending-put, join-append, join-right}
+use Rattle.model_sets.proofs.RowLaws.{and-left, and-right, and-both, is-Equal, ascending-put, join-append, join-right, join-at_most-right}
 use Rattle.lasp_orset.specs.Pieces.{joined, AreFilled, AreSound, is_covered}
 
 -- ---- soundness
@@ -34,7 +34,7 @@ sound-same css bss n r added sound new count is full = record {
 
 -- ---- the order by look-ups
 
-le-from_test : (m n : ℕ) → IsTrue (nat_le m n) → m ≤ n
+pub le-from_test : (m n : ℕ) → IsTrue (nat_le m n) → m ≤ n
 le-from_test m n h = grind (arith, nat_tests)
 
 le-to_test : (m n : ℕ) → m ≤ n → IsTrue (nat_le m n)
@@ -52,7 +52,7 @@ at_most-from_test [] t h v w = omega arith
 at_most-from_test (r ∷ s) t h v w =
     omega (arith, covered-mark r t v w (and-left (is_covered t r) (list_all (is_covered t) s) h), at_most-from_test s t (and-right (is_covered t r) (list_all (is_covered t) s) h) v w)
 
-own_mark : (r : Row) → row_mark r r.0.0 r.0.1 ≡ level r.1
+pub own_mark : (r : Row) → row_mark r r.0.0 r.0.1 ≡ level r.1
 own_mark r = ap (λ o. if is_eq o then level r.1 else 0) (tied_itself key_total r.0)
 
 pub at_most-to_test : (s t : List Row) → IsAtMost s t → IsTrue (list_all (is_covered t) s)
@@ -72,7 +72,7 @@ join-more s old new rows i x h is so_far more =
     more ∙ ap (λ (o : List Row). join o (x ∷ [])) so_far ∙ sym (join-append s (take i rows) (x ∷ []))
     ∙ ap (λ (l : List Row). join s l) (ap (λ (y : Row). take i rows ++ y ∷ []) is ∙ sym (take_more rows i x h))
 
-joined-append : (css dss : List (List Row)) → joined (css ++ dss) ≡ joined css ++ joined dss
+pub joined-append : (css dss : List (List Row)) → joined (css ++ dss) ≡ joined css ++ joined dss
 joined-append [] dss = refl
 joined-append (c ∷ cs) dss = ap (λ (s : List Row). c ++ s) (joined-append cs dss) ∙ sym (append_assoc c (joined cs) (joined dss))
 
@@ -85,6 +85,12 @@ pub join-piece : (s old new rows : List Row) (css : List (List Row)) (i : ℕ) (
 join-piece s old new rows css i c h is of so_far more =
     more ∙ ap (λ (o : List Row). join o rows) so_far ∙ ap (λ (l : List Row). join (join s (joined (take i css))) l) of ∙ sym (join-append s (joined (take i css)) c)
     ∙ ap (λ (l : List Row). join s l) (sym (joined-more css i c h is))
+
+-- A row that is covered changes nothing.
+pub join-covered : (s : List Row) (r : Row) (t : List Row) (dead seen : Bool) → IsAscending s → dead ≡ r.1 → seen ≡ is_covered t (r.0, dead) → t ≡ s → seen ≡ true → s ≡ join s (r ∷ [])
+join-covered s r t dead seen up of is all yes_it =
+    let covered : IsTrue (is_covered s r) = ap (λ d. is_covered s (r.0, d)) (sym of) ∙ ap (λ (l : List Row). is_covered l (r.0, dead)) (sym all) ∙ sym is ∙ yes_it in
+    sym (join-at_most-right s (r ∷ []) up (at_most-from_test (r ∷ []) s (and-both (is_covered s r) true covered refl)))
 
 -- A join that changes nothing was covered.
 pub at_most-unchanged : (s t new : List Row) → new ≡ join s t → new ≡ s → IsAtMost t s

@@ -107,11 +107,11 @@ impl Entry {
         }
     }
 
-    /// Whether this row is the other one's, and dead if the other one is.
-    pub(crate) fn covers(&self, other: &Entry) -> bool
-        ensures { result ≡ (is_eq (key_cmp self.now.0 other.now.0) && (self.now.1 || not other.now.1)) }
+    /// Whether this row has the key of the other one, and is dead where a dead one is asked for.
+    pub(crate) fn covers(&self, other: &Entry, dead: bool) -> bool
+        ensures { result ≡ (is_eq (key_cmp self.now.0 other.now.0) && (self.now.1 || not dead)) }
     {
-        self.compare(other).is_eq() && (self.dead || !other.dead)
+        self.compare(other).is_eq() && (self.dead || !dead)
     }
 
     /// Whether the row is of a value.

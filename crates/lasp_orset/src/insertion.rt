@@ -1,6 +1,6 @@
 //! Putting a row into pieces. A full piece is halved first, so that no failure comes after a change.
 
-ghost use Rattle.std.specs.Prelude.{◌≡◌, ◌<◌, ◌+◌, IfOk, OnOk, OnErr, length, if◌then◌else◌};
+ghost use Rattle.std.specs.Prelude.{◌≡◌, ◌<◌, ◌+◌, ◌++◌, ◌∷◌, [], IfOk, OnOk, OnErr, length, if◌then◌else◌};
 ghost use Rattle.model_sets.specs.Rows.{IsAscending, put};
 ghost use Rattle.lasp_orset.specs.Pieces.{IsPlace, AreFilled, joined};
 
@@ -28,6 +28,25 @@ pub(crate) fn put_entry(
     }
     let at = room_for(alloc, pieces, &entry)?;
     put_at(alloc, pieces, at, entry)
+}
+
+/// Appends a row, to the last piece where that has room.
+pub(crate) fn push_entry(
+    alloc: Global,
+    pieces: &mut Vec<Piece>,
+    entry: Entry,
+) -> Result<(), AllocError>
+    requires filled { AreFilled pieces.old.items }
+    ensures ok { OnOk result (joined pieces.new.items ≡ joined pieces.old.items ++ entry ∷ []) }
+    ensures err { OnErr result (joined pieces.new.items ≡ joined pieces.old.items) }
+    ensures full { AreFilled pieces.new.items }
+{
+    let behind = pieces.len();
+    if behind > 0 && pieces[behind - 1].rows().len() < FULL {
+        return pieces[behind - 1].push(alloc, entry);
+    }
+    pieces.push(Piece::of(alloc, entry)?)?;
+    Ok(())
 }
 
 /// Puts a row into the piece where it belongs.

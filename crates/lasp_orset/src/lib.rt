@@ -2,12 +2,16 @@
 //! It is kept in shared sorted pieces, so that an update costs a search and one piece, and a snapshot a list of shares.
 #![tactic(auto)]
 
+mod changes;
+mod counts;
 mod entry;
 mod insertion;
+mod lattice;
 mod order;
 mod piece;
 mod place;
 mod places;
+mod pushes;
 mod reads;
 mod rows;
 mod search;
@@ -15,6 +19,7 @@ mod set;
 mod span;
 mod updates;
 
+pub use changes::{changed, changed_rows};
 pub use entry::Entry;
 pub use rows::Rows;
 pub use set::OrSet;

@@ -11,7 +11,7 @@ use super::search::covers;
 use super::set::OrSet;
 
 impl OrSet {
-    /// The order: each row of this set is in the other one, and is dead there if it is dead here. It costs a search for each row.
+    /// The order: each row of this set is in the other one, and is dead there if it is dead here. It costs a search for each row, and nothing where this set has more rows.
     pub fn le(&self, other: &OrSet) -> bool
         ensures { IsTrue result ↔ IsAtMost self.now other.now }
     {
@@ -22,6 +22,11 @@ impl OrSet {
 pub(crate) fn is_at_most(set: &OrSet, other: &OrSet) -> bool
     ensures { IsTrue result ↔ IsAtMost set.now other.now }
 {
+    set.ascends();
+    other.ascends();
+    if set.rows() > other.rows() {
+        return false;
+    }
     covers_pieces(other.pieces(), set.pieces())
 }
 
@@ -44,7 +49,7 @@ fn covers_rows(pieces: &[Piece], rows: &[Entry]) -> bool
     ensures { result ≡ list_all (is_covered (joined pieces.now)) rows.now }
 {
     for row in rows {
-        if !covers(pieces, row) {
+        if !covers(pieces, row, row.is_dead()) {
             return false;
         }
     }

@@ -92,6 +92,14 @@ impl Piece {
         place_shared(alloc, &mut self.rows, entry)
     }
 
+    /// Appends a row.
+    pub(crate) fn push(&mut self, alloc: Global, entry: Entry) -> Result<(), AllocError>
+        ensures ok { OnOk result (self.new ≡ self.old ++ entry ∷ []) }
+        ensures err { OnErr result (self.new ≡ self.old) }
+    {
+        push_shared(alloc, &mut self.rows, entry)
+    }
+
     /// Copies of the first half of the rows and of the second.
     pub(crate) fn halves(&self, alloc: Global) -> Result<(Piece, Piece), AllocError>
         requires { 1 < length self.now }
@@ -132,6 +140,21 @@ fn place_shared(
     let added = place(&mut copy, entry)?;
     *shared = Arc::new(alloc, copy)?;
     Ok(added)
+}
+
+/// Appends a row to shared rows: in place where no one else has them, else to a copy.
+fn push_shared(alloc: Global, shared: &mut Arc<Vec<Entry>>, entry: Entry) -> Result<(), AllocError>
+    ensures ok { OnOk result ((arc_value shared.new).items ≡ (arc_value shared.old).items ++ entry ∷ []) }
+    ensures err { OnErr result ((arc_value shared.new).items ≡ (arc_value shared.old).items) }
+{
+    if let Some(rows) = Arc::get_mut(shared) {
+        rows.push(entry)?;
+        return Ok(());
+    }
+    let mut copy = copied(alloc, shared.as_slice())?;
+    copy.push(entry)?;
+    *shared = Arc::new(alloc, copy)?;
+    Ok(())
 }
 
 /// The same rows in a vector of their own; they share their values and tokens.

@@ -1,13 +1,15 @@
 //! What a set shows.
 
-ghost use Rattle.std.specs.Prelude.{◌≡◌, ◌↔◌, ◌++◌, IfOk, OnOk, IsTrue, string_bytes};
+ghost use Rattle.std.specs.Prelude.{◌≡◌, ◌≤◌, ◌^◌, ◌↔◌, ◌++◌, IfOk, OnOk, IsTrue, length, string_bytes};
 ghost use Rattle.std.specs.Option.{option_map};
 ghost use Rattle.model_values.specs.Text.{shown_values};
 ghost use Rattle.model_sets.specs.Rows.{IsAscending};
 ghost use Rattle.model_sets.specs.Values.{IsHeld, visible};
 ghost use Rattle.lasp_value.specs.Value.{val_of};
+ghost use Rattle.lasp_orset.specs.Reads.{is_row_of, HasRowOf};
 ghost use Rattle.lasp_orset.specs.Shown.{is_last, shown_next};
 
+use super::entry::Entry;
 use super::rows::Rows;
 use super::set::OrSet;
 use super::span::rows_near;
@@ -19,6 +21,7 @@ impl OrSet {
     pub fn iter(&self) -> Rows<'_>
         ensures exact { result ≡ self.now }
         ensures ascends { IsAscending self.now }
+        ensures small { length self.now ≤ 2 ^ 32 }
     {
         Rows::of(self.pieces())
     }
@@ -31,6 +34,20 @@ impl OrSet {
         let mut rows = rows_near(pieces, value);
         while let Some(row) = rows.next() {
             if row.is_of(value) && !row.is_dead() {
+                return true;
+            }
+        }
+        false
+    }
+
+    /// Whether the value has a row, and a dead one where `dead` is true. It costs a search and the value's rows.
+    pub fn has_row(&self, value: &Value, dead: bool) -> bool
+        ensures { IsTrue result ↔ HasRowOf self.now (val_of value.now) dead }
+    {
+        let pieces = self.pieces();
+        let mut rows = rows_near(pieces, value);
+        while let Some(row) = rows.next() {
+            if is_row_of(row, value, dead) {
                 return true;
             }
         }
@@ -71,6 +88,13 @@ impl OrSet {
         }
         out.push(']')
     }
+}
+
+/// Whether the row is of the value, and dead where `dead` is true.
+fn is_row_of(row: &Entry, value: &Value, dead: bool) -> bool
+    ensures { result ≡ is_row_of (val_of value.now) dead row.now }
+{
+    row.is_of(value) && (row.is_dead() || !dead)
 }
 
 /// Whether the value is the last one that was shown.

@@ -26,27 +26,27 @@ pub(crate) fn place_of(pieces: &[Piece], entry: &Entry) -> usize
     low
 }
 
-/// Whether the row stands among the pieces' rows, and is dead there if it is dead.
-pub(crate) fn covers(pieces: &[Piece], entry: &Entry) -> bool
+/// Whether a row of this one's key stands among the pieces' rows, a dead one where that is asked for.
+pub(crate) fn covers(pieces: &[Piece], entry: &Entry, dead: bool) -> bool
     requires ascends { IsAscending (joined pieces.now) }
     requires filled { AreFilled pieces.now }
-    ensures { result ≡ is_covered (joined pieces.now) entry.now }
+    ensures { result ≡ is_covered (joined pieces.now) (entry.now.0, dead) }
 {
     if pieces.is_empty() {
         return false;
     }
     let at = place_of(pieces, entry);
-    covers_in(pieces[at].rows(), entry)
+    covers_in(pieces[at].rows(), entry, dead)
 }
 
-/// Whether the row stands among these rows, and is dead there if it is dead.
-fn covers_in(rows: &[Entry], entry: &Entry) -> bool
+/// Whether a row of this one's key stands among these rows, a dead one where that is asked for.
+fn covers_in(rows: &[Entry], entry: &Entry, dead: bool) -> bool
     requires { IsAscending rows.now }
-    ensures { result ≡ is_covered rows.now entry.now }
+    ensures { result ≡ is_covered rows.now (entry.now.0, dead) }
 {
     if rows.is_empty() {
         return false;
     }
     let at = row_place(rows, entry);
-    rows[at].covers(entry)
+    rows[at].covers(entry, dead)
 }

@@ -1,13 +1,14 @@
 //! The set: the least one, the join, and how rows come in.
 
-ghost use Rattle.std.specs.Prelude.{◌≡◌, ◌≢◌, ◌≤◌, ◌^◌, ◌↔◌, ◌∷◌, [], IfOk, OnOk, OnErr, IsTrue, length};
+ghost use Rattle.std.specs.Prelude.{◌≡◌, ◌≢◌, ◌≤◌, ◌^◌, ◌↔◌, ◌++◌, ◌∷◌, [], IfOk, OnOk, OnErr, IsTrue, length};
 ghost use Rattle.model_sets.specs.Rows.{IsAscending, put, join};
 ghost use Rattle.lasp_orset.specs.Pieces.{AreFilled, joined};
 
 use super::entry::Entry;
-use super::insertion::put_entry;
+use super::insertion::{push_entry, put_entry};
 use super::order::is_at_most;
 use super::piece::Piece;
+use super::search::covers;
 use std::alloc::{AllocError, Global};
 use std::marker::Model;
 
@@ -94,8 +95,8 @@ impl OrSet {
         *self.pieces.allocator()
     }
 
-    /// The least set, by the same allocator.
-    pub(crate) fn empty(&self) -> OrSet
+    /// The least set, by the same allocator. It takes no memory.
+    pub fn empty(&self) -> OrSet
         ensures { result ≡ [] }
     {
         OrSet::new(self.allocator())
@@ -106,6 +107,7 @@ impl OrSet {
         ensures rows { joined result.now ≡ self.now }
         ensures ascends { IsAscending self.now }
         ensures filled { AreFilled result.now }
+        ensures small { length self.now ≤ 2 ^ 32 }
     {
         self.pieces.as_slice()
     }
@@ -125,6 +127,21 @@ impl OrSet {
         Ok(())
     }
 
+    /// Puts a row behind the last one.
+    pub(crate) fn append(&mut self, entry: Entry) -> Result<(), AllocError>
+        requires { IsAscending (self.old ++ entry ∷ []) }
+        ensures ok { OnOk result (self.new ≡ self.old ++ entry ∷ []) }
+        ensures err { OnErr result (self.new ≡ self.old) }
+    {
+        if self.count == MOST_ROWS {
+            return Err(AllocError);
+        }
+        let alloc = *self.pieces.allocator();
+        push_entry(alloc, &mut self.pieces, entry)?;
+        self.count += 1;
+        Ok(())
+    }
+
     /// One row goes in in place; more go into a list of shares, so that a failure leaves this set as it was.
     fn join_rows(&mut self, other: &OrSet) -> Result<(), AllocError>
         ensures ok { OnOk result (self.new ≡ join self.old other.now) }
@@ -141,11 +158,15 @@ impl OrSet {
         Ok(())
     }
 
+    /// Where the row is known already nothing is copied.
     fn add_one(&mut self, entry: &Entry) -> Result<(), AllocError>
         ensures ok { OnOk result (self.new ≡ join self.old (entry.now ∷ [])) }
         ensures err { OnErr result (self.new ≡ self.old) }
     {
         self.ascends();
+        if covers(self.pieces(), entry, entry.is_dead()) {
+            return Ok(());
+        }
         self.add(entry.try_clone()?)
     }
 

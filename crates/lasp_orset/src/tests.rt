@@ -1,7 +1,8 @@
 //! How sets behave over whole stories, against texts written by hand.
 
 use super::*;
-use lasp_value::Value;
+use lasp_lattice::Lattice;
+use lasp_value::{Token, Value};
 use std::alloc::{AllocError, Global};
 use std::test::Fail;
 
@@ -93,5 +94,120 @@ fn rows_that_come_in_any_order_stand_in_theirs(rt: HostRuntime) -> Result<(), Fa
     assert!(rt; all.join_in(&set)?);
     assert!(rt; all.le(&set));
     assert!(rt; !all.join_in(&set)?);
+    Ok(())
+}
+
+#[test]
+fn rows_stand_at_their_places(rt: HostRuntime) -> Result<(), Fail> {
+    let alloc = rt.alloc();
+    let mut set = OrSet::new(alloc);
+    for k in 0..300u64 {
+        add(alloc, &mut set, k as i64, 2, k + 1)?;
+    }
+    remove(&mut set, 7)?;
+    for i in [0u64, 7, 63, 64, 128, 299] {
+        if i < set.rows() {
+            let (value, token, dead) = set.row_at(i);
+            assert!(rt; *value == Value::Int(i as i64));
+            assert!(rt; *token == Token::Base(2, i + 1));
+            assert_eq!(rt; dead, i == 7);
+        }
+    }
+    Ok(())
+}
+
+#[test]
+fn rows_from_a_place_on_come_piece_by_piece(rt: HostRuntime) -> Result<(), Fail> {
+    let alloc = rt.alloc();
+    let mut set = OrSet::new(alloc);
+    for k in 0..300u64 {
+        add(alloc, &mut set, k as i64, 0, k + 1)?;
+    }
+    let mut seen = 0u64;
+    for _ in 0..300u64 {
+        if seen < set.rows() {
+            let rows = set.rows_from(seen);
+            assert!(rt; *rows[0].value() == Value::Int(seen as i64));
+            seen = seen.saturating_add(rows.len() as u64);
+        }
+    }
+    assert_eq!(rt; seen, 300);
+    Ok(())
+}
+
+#[test]
+fn a_removed_value_still_has_its_row(rt: HostRuntime) -> Result<(), Fail> {
+    let alloc = rt.alloc();
+    let mut set = OrSet::new(alloc);
+    add(alloc, &mut set, 1, 0, 1)?;
+    add(alloc, &mut set, 2, 0, 2)?;
+    remove(&mut set, 1)?;
+    for (n, has, has_row, has_dead) in [
+        (1i64, false, true, true),
+        (2, true, true, false),
+        (3, false, false, false),
+    ] {
+        assert_eq!(rt; set.has(&Value::Int(n)), has);
+        assert_eq!(rt; set.has_row(&Value::Int(n), false), has_row);
+        assert_eq!(rt; set.has_row(&Value::Int(n), true), has_dead);
+    }
+    Ok(())
+}
+
+#[test]
+fn a_join_has_the_rows_of_either_once(rt: HostRuntime) -> Result<(), Fail> {
+    let alloc = rt.alloc();
+    let mut here = OrSet::new(alloc);
+    let mut there = OrSet::new(alloc);
+    for k in 0..200u64 {
+        add(alloc, &mut here, k as i64, 0, k + 1)?;
+    }
+    for k in 150..210u64 {
+        add(alloc, &mut there, k as i64, 0, k + 1)?;
+    }
+    remove(&mut there, 160)?;
+    assert_eq!(rt; here.joined_rows(&there), 210);
+    assert_eq!(rt; there.joined_rows(&here), 210);
+    assert_eq!(rt; here.joined_rows(&OrSet::new(alloc)), 200);
+    assert!(rt; Lattice::join_in(&mut here, &there)?);
+    assert_eq!(rt; here.rows(), 210);
+    assert!(rt; Lattice::le(&there, &here));
+    assert!(rt; here.bottom_like()?.le(&there));
+    Ok(())
+}
+
+#[test]
+fn what_changed_is_what_was_added_and_what_died(rt: HostRuntime) -> Result<(), Fail> {
+    let alloc = rt.alloc();
+    let mut set = OrSet::new(alloc);
+    for k in 0..200u64 {
+        add(alloc, &mut set, k as i64, 0, k + 1)?;
+    }
+    let before = set.try_clone()?;
+    assert_eq!(rt; changed_rows(&before, &set), 0);
+    add(alloc, &mut set, 300, 0, 201)?;
+    remove(&mut set, 5)?;
+    let delta = changed(alloc, &before, &set)?;
+    assert_eq!(rt; changed_rows(&before, &set), 2);
+    assert_eq!(rt; delta.rows(), 2);
+    assert!(rt; delta.has_row(&Value::Int(5), true));
+    assert_eq!(rt; text(alloc, &delta)?.as_str(), "[300]");
+    let mut again = before.try_clone()?;
+    assert!(rt; again.join_in(&delta)?);
+    assert!(rt; set.le(&again));
+    assert!(rt; again.le(&set));
+    Ok(())
+}
+
+#[test]
+fn rows_in_order_are_appended(rt: HostRuntime) -> Result<(), Fail> {
+    let alloc = rt.alloc();
+    let mut set = OrSet::new(alloc);
+    set.push_row(&Value::Int(1), &Token::Base(0, 2), false)?;
+    set.push_row(&Value::Int(1), &Token::Base(1, 1), true)?;
+    set.push_row(&Value::Int(4), &Token::Base(0, 1), true)?;
+    assert_eq!(rt; set.rows(), 3);
+    assert_eq!(rt; text(alloc, &set)?.as_str(), "[1]");
+    assert!(rt; set.has_row(&Value::Int(4), true));
     Ok(())
 }

@@ -1,5 +1,5 @@
 -- The view of values as plain data, and their order through it.
-use Rattle.std.specs.Prelude.{ℕ, Some, refl}
+use Rattle.std.specs.Prelude.{Some, refl}
 use Rattle.std.specs.Ordering.{on, eq_by_cmp}
 use Rattle.std.specs.declared.cmp.Ordering.{Ordering}
 use Rattle.std.specs.Cmp.{IsTotalOrder, IsEquivalence, IsPartialOrder, on_total, eq_by_cmp_equiv, po}

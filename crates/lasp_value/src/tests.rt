@@ -17,8 +17,20 @@ fn a_value_prints_as_compact_json(rt: HostRuntime) -> Result<(), Fail> {
         (text(alloc, "a\"b\\c/")?, "\"a\\\"b\\\\c/\""),
         (text(alloc, "\u{8}\t\n\u{c}\r")?, "\"\\b\\t\\n\\f\\r\""),
         (
-            text(alloc, "\u{0}\u{1b}\u{7f}é€")?,
-            "\"\\u0000\\u001b\u{7f}é€\"",
+            text(alloc, "\u{0}\u{1}\u{2}\u{3}\u{4}\u{5}\u{6}\u{7}")?,
+            "\"\\u0000\\u0001\\u0002\\u0003\\u0004\\u0005\\u0006\\u0007\"",
+        ),
+        (
+            text(alloc, "\u{b}\u{e}\u{f}\u{10}\u{11}\u{12}\u{13}\u{14}")?,
+            "\"\\u000b\\u000e\\u000f\\u0010\\u0011\\u0012\\u0013\\u0014\"",
+        ),
+        (
+            text(alloc, "\u{15}\u{16}\u{17}\u{18}\u{19}\u{1a}")?,
+            "\"\\u0015\\u0016\\u0017\\u0018\\u0019\\u001a\"",
+        ),
+        (
+            text(alloc, "\u{1b}\u{1c}\u{1d}\u{1e}\u{1f} !\u{7f}\u{80}é€")?,
+            "\"\\u001b\\u001c\\u001d\\u001e\\u001f !\u{7f}\u{80}é€\"",
         ),
         (
             Value::Pair(
@@ -70,6 +82,49 @@ fn numbers_stand_before_texts_and_texts_before_pairs(rt: HostRuntime) -> Result<
     assert!(rt; text(alloc, "a")? < text(alloc, "b")?);
     assert!(rt; text(alloc, "b")? < pair);
     assert!(rt; pair == pair.try_clone(alloc)?);
+    Ok(())
+}
+
+#[test]
+fn a_value_is_as_large_as_its_parts_together(rt: HostRuntime) -> Result<(), Fail> {
+    let alloc = rt.alloc();
+    let number = Value::Int(-7);
+    assert_eq!(rt; number.leaves(), 1);
+    assert_eq!(rt; number.text_bytes(), 0);
+    let word = Value::Text(Text::of(alloc, "né")?);
+    assert_eq!(rt; word.leaves(), 1);
+    assert_eq!(rt; word.text_bytes(), 3);
+    let pair = Value::Pair(Box::new(alloc, number)?, Box::new(alloc, word)?);
+    let pairs = Value::Pair(Box::new(alloc, pair)?, Box::new(alloc, Value::Int(0))?);
+    assert_eq!(rt; pairs.leaves(), 3);
+    assert_eq!(rt; pairs.text_bytes(), 3);
+    Ok(())
+}
+
+#[test]
+fn a_clone_of_a_value_prints_the_same(rt: HostRuntime) -> Result<(), Fail> {
+    let alloc = rt.alloc();
+    let pair = Value::Pair(
+        Box::new(alloc, text(alloc, "a")?)?,
+        Box::new(alloc, Value::Int(i64::MAX))?,
+    );
+    let clone = pair.try_clone(alloc)?;
+    drop(pair);
+    let printed = print_value(alloc, &clone)?;
+    assert_eq!(rt; printed.as_str(), "[\"a\",9223372036854775807]");
+    Ok(())
+}
+
+#[test]
+fn a_token_is_as_wide_as_its_base_tokens_are_many(rt: HostRuntime) -> Result<(), Fail> {
+    let alloc = rt.alloc();
+    let base = Token::Base(3, 7);
+    assert_eq!(rt; base.width(), 1);
+    let two = Token::Both(Box::new(alloc, base)?, Box::new(alloc, Token::Base(0, 1))?);
+    let three = Token::Both(Box::new(alloc, Token::Base(1, 1))?, Box::new(alloc, two)?);
+    assert_eq!(rt; three.width(), 3);
+    let clone = three.try_clone(alloc)?;
+    assert!(rt; clone == three);
     Ok(())
 }
 

@@ -12,5 +12,5 @@ covers_in-requires c =
 
 pub returns : goal.returns
 returns c =
-    c.covers_in.ensures ∙ ap (λ (s : List Row). is_covered s c.args.entry.now) c.rows.ensures
-    ∙ covered-piece c.args.entry.now c.index-pieces-at.result c.args.pieces.now c.place_of-at.result c.requires.ascends c.requires.filled c.place_of-at.ensures c.index-pieces-at.is
+    c.covers_in.ensures ∙ ap (λ (s : List Row). is_covered s (c.args.entry.now.0, c.args.dead)) c.rows.ensures
+    ∙ covered-piece (c.args.entry.now.0, c.args.dead) c.index-pieces-at.result c.args.pieces.now c.place_of-at.result c.requires.ascends c.requires.filled c.place_of-at.ensures c.index-pieces-at.is

@@ -1,8 +1,14 @@
 use Rattle.std.proofs.Common.{◌∙◌, ap, sym}
 use Rattle.model_sets.specs.Rows.{put}
 use Rattle.model_sets.proofs.RowLaws.{join-row}
+use Rattle.lasp_orset.specs.Pieces.{joined}
 use Rattle.lasp_orset.proofs.PieceLaws.{on_ok}
+use Rattle.lasp_orset.proofs.SetLaws.{join-covered}
 use Rattle.lasp_orset.proofs.set.OrSet.add_one.Goals as goal
+
+pub returns-then-covers-clause-ok : goal.returns-then-covers-clause-ok
+returns-then-covers-clause-ok c =
+    join-covered c.args.self.now c.args.entry.now (joined c.pieces.result.now) c.is_dead.result c.covers.result c.ascends.ensures c.is_dead.ensures c.covers.ensures c.pieces.ensures.rows c.if-covers.true
 
 pub returns-clause-ok : goal.returns-clause-ok
 returns-clause-ok c =
