@@ -5,4 +5,5 @@ pub mod Lift
 pub mod Map
 pub mod Named
 pub mod Predicate
+pub mod Steps
 pub mod Stored

@@ -7,6 +7,7 @@ mod map;
 mod named;
 mod predicate;
 mod refused;
+mod steps;
 mod stored;
 
 pub use library::Library;
@@ -14,4 +15,8 @@ pub use lift::{LiftOp, apply_lift};
 pub use map::{MapOp, MapOps, apply_map};
 pub use predicate::{PredOp, PredOps, apply_pred};
 pub use refused::LibraryRefused;
+pub use steps::StepLib;
 pub use stored::{LiftFn, MapFn, PredFn, StoredLift, StoredMap, StoredPred};
+
+#[cfg(test)]
+mod tests;

@@ -1,9 +1,9 @@
 //! What a set shows.
 
-ghost use Rattle.std.specs.Prelude.{◌≡◌, ◌≤◌, ◌^◌, ◌↔◌, ◌++◌, IfOk, OnOk, IsTrue, length, string_bytes};
+ghost use Rattle.std.specs.Prelude.{◌≡◌, ◌≤◌, ◌^◌, ◌↔◌, ◌++◌, IfOk, OnOk, IsTrue, filter, length, string_bytes};
 ghost use Rattle.std.specs.Option.{option_map};
 ghost use Rattle.model_values.specs.Text.{shown_values};
-ghost use Rattle.model_sets.specs.Rows.{IsAscending};
+ghost use Rattle.model_sets.specs.Rows.{IsAscending, is_of};
 ghost use Rattle.model_sets.specs.Values.{IsHeld, visible};
 ghost use Rattle.lasp_value.specs.Value.{val_of};
 ghost use Rattle.lasp_orset.specs.Reads.{is_row_of, HasRowOf};
@@ -24,6 +24,13 @@ impl OrSet {
         ensures small { length self.now ≤ 2 ^ 32 }
     {
         Rows::of(self.pieces())
+    }
+
+    /// A pass over rows among which are all those of a value, and besides them at most those of two pieces. It costs a search to find them.
+    pub fn rows_near(&self, value: &Value) -> Rows<'_>
+        ensures { filter (is_of (val_of value.now)) result ≡ filter (is_of (val_of value.now)) self.now }
+    {
+        rows_near(self.pieces(), value)
     }
 
     /// Whether the value has a live row. It costs a search and the value's rows.

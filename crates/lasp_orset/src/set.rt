@@ -112,8 +112,8 @@ impl OrSet {
         self.pieces.as_slice()
     }
 
-    /// Puts a row in, or makes the row of its key dead where it is.
-    pub(crate) fn add(&mut self, entry: Entry) -> Result<(), AllocError>
+    /// Puts a row in, or makes the row of its key dead where it is. It costs a search, and a copy of the piece that has its place where other sets share that.
+    pub fn add(&mut self, entry: Entry) -> Result<(), AllocError>
         ensures ok { OnOk result (self.new ≡ put entry self.old) }
         ensures err { OnErr result (self.new ≡ self.old) }
     {
@@ -127,8 +127,8 @@ impl OrSet {
         Ok(())
     }
 
-    /// Puts a row behind the last one.
-    pub(crate) fn append(&mut self, entry: Entry) -> Result<(), AllocError>
+    /// Puts a row behind the last one. It costs no search.
+    pub fn append(&mut self, entry: Entry) -> Result<(), AllocError>
         requires { IsAscending (self.old ++ entry ∷ []) }
         ensures ok { OnOk result (self.new ≡ self.old ++ entry ∷ []) }
         ensures err { OnErr result (self.new ≡ self.old) }

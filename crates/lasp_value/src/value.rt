@@ -1,9 +1,10 @@
 //! Values: whole numbers, texts and pairs, with their one order.
 
-ghost use Rattle.std.specs.Prelude.{◌≡◌, ◌≤◌, ◌^◌, IfOk, refl};
+ghost use Rattle.std.specs.Prelude.{◌≡◌, ◌≤◌, ◌^◌, IfOk, FitsSigned, refl};
+ghost use mir.Syntax.{w64};
 ghost use Rattle.std.specs.Ordering.{eq_by_cmp, as_partial_cmp};
 ghost use Rattle.std.specs.Cmp.{partial_equiv_from_equiv};
-ghost use Rattle.model_values.specs.Size.{leaves, text_bytes};
+ghost use Rattle.model_values.specs.Size.{leaves, text_bytes, HasSmallInts};
 ghost use Rattle.lasp_value.specs.Value.{val_of, value_cmp, value_total, value_equivalence, value_order};
 
 use super::text::Text;
@@ -37,6 +38,20 @@ impl Value {
         }
     }
 
+    /// Recalls that each number in it has at most 64 bits. It walks through the value.
+    pub fn recall_ints(&self)
+        ensures { HasSmallInts (val_of self.now) }
+    {
+        match self {
+            Value::Int(n) => recall_range(*n),
+            Value::Text(_) => {}
+            Value::Pair(a, b) => {
+                a.recall_ints();
+                b.recall_ints();
+            }
+        }
+    }
+
     /// The number of numbers and texts in it.
     pub fn leaves(&self) -> u64
         requires { leaves (val_of self.now) ≤ 2 ^ 32 }
@@ -61,6 +76,11 @@ impl Value {
         }
     }
 }
+
+/// Recalls, at no cost, that a number has at most 64 bits.
+fn recall_range(n: i64)
+    ensures { FitsSigned w64 n }
+{}
 
 impl PartialEq for Value {
     ghost eq = { eq_by_cmp value_cmp };
