@@ -4,3 +4,4 @@ pub mod Entries
 pub mod Declared
 pub mod StateLists
 pub mod Evaluation
+pub mod ProcessLaws

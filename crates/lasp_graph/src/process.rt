@@ -1,21 +1,29 @@
 //! One process on its inputs.
 
-ghost use Rattle.std.specs.Prelude.{◌≡◌, ◌≤◌, IfOk, IsFalse};
-ghost use Rattle.model_states.specs.Content.{size_of, row_limit};
+ghost use Rattle.std.specs.Prelude.{◌≡◌, ◌<◌, ◌≤◌, Err, Some, IfOk, IsFalse, length};
+ghost use Rattle.model_functions.specs.Map.{mapped};
+ghost use Rattle.model_functions.specs.Predicate.{passes};
+ghost use Rattle.model_functions.specs.Library.{operations_at};
+ghost use Rattle.model_sets.specs.Equations.{map_set, filter_set};
+ghost use Rattle.model_states.specs.Content.{of_set, size_of, row_limit};
 ghost use Rattle.model_states.specs.Threshold.{set};
 ghost use Rattle.model_graph.specs.Graph.{is_source};
 ghost use Rattle.model_graph.specs.Width.{HasWidth};
 ghost use Rattle.model_readings.specs.Lawful.{Fits};
+ghost use Rattle.lasp_fns.specs.Library.{maps_of, predicates_of};
+ghost use Rattle.lasp_setops.specs.Width.{IsSetOfWidth};
 ghost use Rattle.lasp_state.specs.State.{content_of, shape_of};
 ghost use Rattle.lasp_graph.specs.Library.{library_of};
 ghost use Rattle.lasp_graph.specs.Kind.{kind_of};
 ghost use Rattle.lasp_graph.specs.Evaluated.{process, Becomes, seen};
 
 use super::inputs::EvalRefused;
-use super::kind::Kind;
+use super::kind::{Kind, MapRef, PredRef};
 use lasp_fns::Library;
+use lasp_orset::OrSet;
+use lasp_setops::{SetRefused, filter_set, intersect_sets, map_set, product_sets, union_sets};
 use lasp_state::State;
-use std::alloc::Global;
+use std::alloc::{AllocError, Global};
 
 /// The state of a process of this kind on two sets, of which a process over one reads the first.
 pub(crate) fn eval_process(
@@ -34,5 +42,63 @@ pub(crate) fn eval_process(
     ensures content { Becomes (seen content_of result) (process (kind_of kind.now) (content_of x.now) (content_of y.now)) }
     ensures shape { IfOk result (λ s. shape_of s ≡ set) }
 {
-    unreachable!()
+    match (x, y) {
+        (State::Set(x), State::Set(y)) => match process_sets(alloc, kind, lib, x, y) {
+            Ok(set) => Ok(State::Set(set)),
+            Err(SetRefused::TooManyRows) => Err(EvalRefused::TooManyRows),
+            Err(SetRefused::Memory) => Err(EvalRefused::Memory),
+        },
+        (_, _) => unreachable!(),
+    }
+}
+
+fn process_sets(
+    alloc: Global,
+    kind: &Kind,
+    lib: &Library,
+    x: &OrSet,
+    y: &OrSet,
+) -> Result<OrSet, SetRefused>
+    requires derived { IsFalse (is_source (kind_of kind.now)) }
+    requires fits { Fits (library_of lib.now) (kind_of kind.now) }
+    requires width { IsSetOfWidth 16 x.now }
+    requires small { length x.now ≤ row_limit }
+    ensures ok { IfOk result (λ s. process (kind_of kind.now) (of_set x.now) (of_set y.now) ≡ of_set s) }
+    ensures small { IfOk result (λ s. length s ≤ row_limit) }
+    ensures too_many { result ≡ Err SetRefused.TooManyRows → row_limit < size_of (process (kind_of kind.now) (of_set x.now) (of_set y.now)) }
+{
+    match kind {
+        Kind::Union(_, _) => union_sets(x, y),
+        Kind::Product(_, _) => product_sets(alloc, x, y),
+        Kind::Intersection(_, _) => intersect_sets(alloc, x, y),
+        Kind::Map(_, f) => match mapped_set(alloc, lib, f, x) {
+            Ok(set) => Ok(set),
+            Err(_) => Err(SetRefused::Memory),
+        },
+        Kind::Filter(_, p) => match filtered_set(lib, p, x) {
+            Ok(set) => Ok(set),
+            Err(_) => Err(SetRefused::Memory),
+        },
+        _ => unreachable!(),
+    }
+}
+
+/// What a function of the library makes of a set; it has no more rows.
+fn mapped_set(alloc: Global, lib: &Library, f: &MapRef, x: &OrSet) -> Result<OrSet, AllocError>
+    requires fits { operations_at (maps_of lib.now) f.now.place ≡ Some f.now.ops }
+    requires width { IsSetOfWidth 16 x.now }
+    ensures ok { IfOk result (λ s. s ≡ map_set (mapped f.now.ops) x.now) }
+    ensures small { length (map_set (mapped f.now.ops) x.now) ≤ length x.now }
+{
+    map_set(alloc, lib.map_at(f.place), x)
+}
+
+/// The rows of a set that pass a test of the library.
+fn filtered_set(lib: &Library, p: &PredRef, x: &OrSet) -> Result<OrSet, AllocError>
+    requires fits { operations_at (predicates_of lib.now) p.now.place ≡ Some p.now.ops }
+    requires width { IsSetOfWidth 16 x.now }
+    ensures ok { IfOk result (λ s. s ≡ filter_set (passes p.now.ops) x.now) }
+    ensures small { length (filter_set (passes p.now.ops) x.now) ≤ length x.now }
+{
+    filter_set(lib.pred_at(p.place), x)
 }
