@@ -1,11 +1,16 @@
 //! What a variable is.
 
-ghost use Rattle.std.specs.Prelude.{◌≡◌};
+ghost use Rattle.std.specs.Prelude.{◌≡◌, IfOk};
 ghost use Rattle.model_graph.specs.Graph.{is_set, is_source};
+ghost use Rattle.model_graph.specs.Evaluation.{least_of};
+ghost use Rattle.model_graph.specs.Lawful.{shape_of};
+ghost use Rattle.lasp_state.specs.State as state;
 ghost use Rattle.lasp_graph.specs.Kind.{kind_of};
 ghost use Rattle.lasp_graph.specs.Evaluated.{inputs_of};
 
 use lasp_fns::{MapOps, PredOps};
+use lasp_state::State;
+use std::alloc::{AllocError, Global};
 
 /// A map function of the library: its place there, and the operations that stand at it.
 #[derive(Drop)]
@@ -80,6 +85,19 @@ impl Kind {
             Kind::Map(x, _) => Some((*x, *x)),
             Kind::Filter(x, _) => Some((*x, *x)),
             _ => None,
+        }
+    }
+
+    /// The state of such a variable before anything happened, among so many nodes.
+    pub fn least(&self, alloc: Global, nodes: u8) -> Result<State, AllocError>
+        ensures content { IfOk result (λ s. state.content_of s ≡ least_of nodes (kind_of self.now)) }
+        ensures shape { IfOk result (λ s. state.shape_of s ≡ shape_of nodes (kind_of self.now)) }
+    {
+        match self {
+            Kind::GSet => Ok(State::no_elements(alloc)),
+            Kind::Counter => State::zero_count(alloc, nodes),
+            Kind::MaxReg => Ok(State::no_number()),
+            _ => Ok(State::empty_set(alloc)),
         }
     }
 }

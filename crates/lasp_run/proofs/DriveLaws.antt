@@ -6,10 +6,11 @@ use Rattle.std.proofs.Math.Seq.{map-set_same}
 use Rattle.std.proofs.lemmas.Bool.{le-ltb, lt-ltb}
 use Rattle.std.proofs.lemmas.Option.{slice_get_read, slice_get_within}
 use Rattle.model_states.specs.Content.{Content, size_of, row_limit}
+use Rattle.model_states.specs.Counts.{count_at}
 use Rattle.model_states.specs.Update.{Op}
 use Rattle.model_graph.specs.Graph.{Decl}
 use Rattle.model_graph.specs.Evaluation.{content_at, first_large}
-use Rattle.model_world.specs.World.{Peer, Run, peer_at, count_at, updated, checked_update, shown_at, point_from, stop_from, fresh_peer}
+use Rattle.model_world.specs.World.{Peer, Run, peer_at, with_peer, updated, checked_update, shown_at, point_from, stop_from, fresh_peer}
 use Rattle.model_world.specs.declared.stop.Stop.{Stop}
 use Rattle.model_world.specs.declared.stop.Stop.TheVariants.{TooLarge}
 use Rattle.lasp_run.specs.Drive.{AreReady, AreSettled, AreSettledBelow, Updates, Settles}
@@ -60,10 +61,10 @@ same-peer decls number peer g many c nodes p x op n ready within found =
     ∙ ap (λ (r : Peer). updated p x op r) (sym (get_or-map peer nodes p n (record { contents = []; counts = [] }) within ∙ ap peer (sym found)))
 
 abbrev run_from : List Decl → List Peer → List ℕ → Run
-run_from g peers text = record { graph = g; peers = peers; text = text }
+run_from g peers text = record { graph = g; peers = peers; sent = []; marks = []; reads = []; text = text }
 
 abbrev checked_by : ℕ → ℕ → ℕ → Run → Peer → Bool → Result Run Stop
-checked_by c p x run r long = if long then Err (TooLarge c p x) else Ok (record { graph = run.graph; peers = slice_set run.peers p r; text = run.text })
+checked_by c p x run r long = if long then Err (TooLarge c p x) else Ok (with_peer run p r)
 
 -- an update that its node did, the world did
 pub update-done : {N : Type 0} (decls : N → List Decl) (number : N → ℕ) (peer : N → Peer) (g : List Decl) (text : List ℕ) (many c : ℕ) (nodes : List N) (p x : ℕ) (op : Op) (n new : N)

@@ -1,12 +1,33 @@
 -- What the plain engine's nodes rest on.
 use Rattle.std.proofs.Common.{zero, suc, refl, sym, ap, subst, ◌∙◌, arith}
-use Rattle.std.specs.Prelude.{◌≡◌, ℕ, ◌+◌, ◌<◌, List, [], ◌∷◌, ◌++◌, length, replicate, Option, Some, None, Result, Ok, Err, Bool, true, false, if◌then◌else◌, nat_lt}
-use Rattle.model_states.specs.Content.{Content, size_of, row_limit}
-use Rattle.model_graph.specs.Graph.{Decl}
-use Rattle.model_graph.specs.Evaluation.{eval_from, eval, evaluated, first_large}
-use Rattle.lasp_graph.specs.Evaluated.{AreSmall, Evaluates}
+use Rattle.std.specs.Prelude.{◌≡◌, ℕ, ◌+◌, ◌<◌, ◌⊎◌, List, [], ◌∷◌, ◌++◌, length, map, replicate, slice_set, Option, Some, None, Result, Ok, Err, OnOk, Bool, IsTrue, true, false, if◌then◌else◌, nat_lt}
+use mathlib.Core.Logic.{inl, inr}
+use Rattle.std.proofs.lemmas.List.{map-set, length-set}
+use Rattle.std.proofs.lemmas.Option.{slice_get_within, get_or_from_slice_get}
+use Rattle.model_values.specs.Value.{Val}
+use Rattle.model_values.specs.Token.{Tok}
+use Rattle.model_values.specs.Size.{IsOfWidth, IsTokenOfWidth}
+use Rattle.model_sets.specs.Rows.{HasRow}
+use Rattle.model_sets.proofs.WordLaws.{union-has}
+use Rattle.model_states.specs.Content.{Content, join_contents, size_of, row_limit}
+use Rattle.model_states.specs.Threshold.{Shape, set as Set, grow as Grow, counter as Count, register as Register}
+use Rattle.model_states.specs.Update as plain
+use Rattle.model_states.proofs.DeltaLaws.{add-row, remove-row}
+use Rattle.model_graph.specs.Graph.{Kind, OrSet, GSet, Counter, MaxReg, Union, Product, Intersection, Map, Filter, Fold, Decl, no_decl, kind_at, is_source, is_set}
+use Rattle.model_graph.specs.Evaluation.{content_at, eval_from, eval, evaluated, first_large}
+use Rattle.model_graph.specs.Lawful.{shape_of}
+use Rattle.model_graph.specs.Width.{HasWidth}
+use Rattle.model_readings.specs.Script.{is_orset, is_gset, is_counter, is_maxreg}
+use Rattle.model_readings.specs.Lawful.{IsKindAt}
+use Rattle.lasp_state.specs.State.{op_of, IsOpOf}
+use Rattle.lasp_state.specs.declared.op.Op.{Op}
+use Rattle.lasp_state.specs.declared.op.Op.TheVariants as rust
+use Rattle.lasp_graph.specs.States.{Held, held_at, grown, contents_of}
+use Rattle.lasp_graph.specs.Evaluated.{AreSmall, Evaluates, AreSets, AreNarrow}
 use Rattle.lasp_graph.specs.declared.inputs.EvalAll.{EvalAll}
 use Rattle.lasp_graph.specs.declared.inputs.EvalAll.TheVariants as all
+use Rattle.lasp_run.specs.Plain.{AreShaped, IsJoined}
+use Rattle.lasp_run.specs.Drive.{IsOpAt}
 
 length-eval_from : (g : List Decl) (done sources : List Content) → length (eval_from g done sources) ≡ length done + length g
 length-eval_from [] done sources = omega arith
@@ -52,3 +73,242 @@ push-replicate xs n x y all same =
     ap (λ (zs : List _). zs ++ y ∷ []) all ∙ ap (λ z. replicate n x ++ z ∷ []) same ∙ sym (ap (λ (k : ℕ). replicate k x) (let next : n + 1 ≡ suc n = omega arith in next) ∙ replicate-push n x)
 
 pub ruleset pushes = (push-replicate)
+
+-- ---- states with shapes
+
+pub content-held : (states : List Held) (x : ℕ) → content_at (contents_of states) x ≡ (held_at states x).content
+content-held [] zero = refl
+content-held [] (suc x) = refl
+content-held (h ∷ states) zero = refl
+content-held (h ∷ states) (suc x) = content-held states x
+
+shape-set : (states : List Held) (x : ℕ) (s : Content) (y : ℕ) → (held_at (slice_set states x (grown (held_at states x) s)) y).shape ≡ (held_at states y).shape
+shape-set [] x s y = refl
+shape-set (h ∷ states) zero s zero = refl
+shape-set (h ∷ states) zero s (suc y) = refl
+shape-set (h ∷ states) (suc x) s zero = refl
+shape-set (h ∷ states) (suc x) s (suc y) = shape-set states x s y
+
+-- a state was joined to
+pub joined-at : (old new : List Held) (x : ℕ) (s : Content) → new ≡ slice_set old x (grown (held_at old x) s) → IsJoined old x s new
+joined-at old new x s is = record {
+  contents =
+      ap contents_of is ∙ map-set (λ (h : Held). h.content) old x (grown (held_at old x) s)
+      ∙ ap (λ (c : Content). slice_set (contents_of old) x (join_contents c s)) (sym (content-held old x));
+  shapes = λ y. ap (λ (hs : List Held). (held_at hs y).shape) is ∙ shape-set old x s y;
+  long = ap (λ (hs : List Held). length hs) is ∙ length-set old x (grown (held_at old x) s);
+}
+
+joined-as : (old new : List Held) (x : ℕ) (s t : Content) → s ≡ t → IsJoined old x s new → IsJoined old x t new
+joined-as old new x s t e h = subst (λ (c : Content). IsJoined old x c new) e h
+
+-- what was answered
+pub joined-result : {E : Type 0} (r : Result (Unit {0}) E) (old new : List Held) (x : ℕ) (d s : Content) → s ≡ d → OnOk r (new ≡ slice_set old x (grown (held_at old x) s)) → OnOk r (IsJoined old x d new)
+joined-result (Ok done) old new x d s e h = joined-as old new x s d e (joined-at old new x s h)
+joined-result (Err e) old new x d s same h = tt
+
+-- ---- shapes
+
+pub shaped-joined : (nodes : ℕ) (g : List Decl) (old new : List Held) (x : ℕ) (s : Content) → AreShaped nodes g old → IsJoined old x s new → AreShaped nodes g new
+shaped-joined nodes g old new x s shaped joined y within = joined.shapes y ∙ shaped y within
+
+-- the sets among the sources are sets
+pub sets-shaped : (nodes : ℕ) (g : List Decl) (sources : List Held) → AreShaped nodes g sources → AreSets g sources
+sets-shaped nodes g sources shaped x within source set = shaped x within ∙ set-shape (kind_at g x) source set where
+  set-shape : (k : Kind) → IsTrue (is_source k) → IsTrue (is_set k) → shape_of nodes k ≡ Set
+  set-shape OrSet source is = refl
+  set-shape GSet source is = absurd (wrong is)
+  set-shape Counter source is = absurd (wrong is)
+  set-shape MaxReg source is = absurd (wrong is)
+  set-shape (Union i j) source is = refl
+  set-shape (Product i j) source is = refl
+  set-shape (Intersection i j) source is = refl
+  set-shape (Map i place ops) source is = refl
+  set-shape (Filter i place ops) source is = refl
+  set-shape (Fold i op place lift) source is = absurd (wrong is)
+
+  wrong : IsTrue false → ⊥
+  wrong e = cc
+
+-- ---- what an update asks of its source
+
+wrong : IsTrue false → ⊥
+wrong e = cc
+
+orset-shape : (nodes : ℕ) (k : Kind) → IsTrue (is_orset k) → shape_of nodes k ≡ Set
+orset-shape nodes OrSet is = refl
+orset-shape nodes GSet is = absurd (wrong is)
+orset-shape nodes Counter is = absurd (wrong is)
+orset-shape nodes MaxReg is = absurd (wrong is)
+orset-shape nodes (Union i j) is = absurd (wrong is)
+orset-shape nodes (Product i j) is = absurd (wrong is)
+orset-shape nodes (Intersection i j) is = absurd (wrong is)
+orset-shape nodes (Map i place ops) is = absurd (wrong is)
+orset-shape nodes (Filter i place ops) is = absurd (wrong is)
+orset-shape nodes (Fold i op place lift) is = absurd (wrong is)
+
+gset-shape : (nodes : ℕ) (k : Kind) → IsTrue (is_gset k) → shape_of nodes k ≡ Grow
+gset-shape nodes OrSet is = absurd (wrong is)
+gset-shape nodes GSet is = refl
+gset-shape nodes Counter is = absurd (wrong is)
+gset-shape nodes MaxReg is = absurd (wrong is)
+gset-shape nodes (Union i j) is = absurd (wrong is)
+gset-shape nodes (Product i j) is = absurd (wrong is)
+gset-shape nodes (Intersection i j) is = absurd (wrong is)
+gset-shape nodes (Map i place ops) is = absurd (wrong is)
+gset-shape nodes (Filter i place ops) is = absurd (wrong is)
+gset-shape nodes (Fold i op place lift) is = absurd (wrong is)
+
+counter-shape : (nodes : ℕ) (k : Kind) → IsTrue (is_counter k) → shape_of nodes k ≡ Count nodes
+counter-shape nodes OrSet is = absurd (wrong is)
+counter-shape nodes GSet is = absurd (wrong is)
+counter-shape nodes Counter is = refl
+counter-shape nodes MaxReg is = absurd (wrong is)
+counter-shape nodes (Union i j) is = absurd (wrong is)
+counter-shape nodes (Product i j) is = absurd (wrong is)
+counter-shape nodes (Intersection i j) is = absurd (wrong is)
+counter-shape nodes (Map i place ops) is = absurd (wrong is)
+counter-shape nodes (Filter i place ops) is = absurd (wrong is)
+counter-shape nodes (Fold i op place lift) is = absurd (wrong is)
+
+register-shape : (nodes : ℕ) (k : Kind) → IsTrue (is_maxreg k) → shape_of nodes k ≡ Register
+register-shape nodes OrSet is = absurd (wrong is)
+register-shape nodes GSet is = absurd (wrong is)
+register-shape nodes Counter is = absurd (wrong is)
+register-shape nodes MaxReg is = refl
+register-shape nodes (Union i j) is = absurd (wrong is)
+register-shape nodes (Product i j) is = absurd (wrong is)
+register-shape nodes (Intersection i j) is = absurd (wrong is)
+register-shape nodes (Map i place ops) is = absurd (wrong is)
+register-shape nodes (Filter i place ops) is = absurd (wrong is)
+register-shape nodes (Fold i op place lift) is = absurd (wrong is)
+
+kind-here : (is_kind : Kind → Bool) (g : List Decl) (x : ℕ) → IsKindAt is_kind g x → IsTrue (is_kind (kind_at g x))
+kind-here is_kind g x at = subst (λ (d : Decl). IsTrue (is_kind d.kind)) (sym (get_or_from_slice_get g x at.decl no_decl at.declared)) at.kind
+
+kind-within : (is_kind : Kind → Bool) (g : List Decl) (x : ℕ) → IsKindAt is_kind g x → x < length g
+kind-within is_kind g x at = slice_get_within g x at.decl at.declared
+
+-- the operation suits the source's shape
+pub op-suits : (op : Op) (nodes replica : ℕ) (g : List Decl) (x : ℕ) → replica < nodes → IsOpAt g x (op_of op) → IsOpOf op replica (shape_of nodes (kind_at g x))
+op-suits (rust.Add v) nodes replica g x member at = orset-shape nodes (kind_at g x) (kind-here is_orset g x at.0)
+op-suits (rust.Remove v) nodes replica g x member at = orset-shape nodes (kind_at g x) (kind-here is_orset g x at.0)
+op-suits (rust.Insert v) nodes replica g x member at = gset-shape nodes (kind_at g x) (kind-here is_gset g x at.0)
+op-suits (rust.Inc by) nodes replica g x member at = (nodes, counter-shape nodes (kind_at g x) (kind-here is_counter g x at), member)
+op-suits (rust.Max n) nodes replica g x member at = register-shape nodes (kind_at g x) (kind-here is_maxreg g x at)
+
+-- the source is declared
+pub op-within : (op : plain.Op) (g : List Decl) (x : ℕ) → IsOpAt g x op → x < length g
+op-within (plain.Add v) g x at = kind-within is_orset g x at.0
+op-within (plain.Remove v) g x at = kind-within is_orset g x at.0
+op-within (plain.Insert v) g x at = kind-within is_gset g x at.0
+op-within (plain.Inc by) g x at = kind-within is_counter g x at
+op-within (plain.Max n) g x at = kind-within is_maxreg g x at
+op-within (plain.Join s) g x at = absurd at
+
+orset-source : (k : Kind) → IsTrue (is_orset k) → IsTrue (is_source k)
+orset-source OrSet is = refl
+orset-source GSet is = absurd (wrong is)
+orset-source Counter is = absurd (wrong is)
+orset-source MaxReg is = absurd (wrong is)
+orset-source (Union i j) is = absurd (wrong is)
+orset-source (Product i j) is = absurd (wrong is)
+orset-source (Intersection i j) is = absurd (wrong is)
+orset-source (Map i place ops) is = absurd (wrong is)
+orset-source (Filter i place ops) is = absurd (wrong is)
+orset-source (Fold i op place lift) is = absurd (wrong is)
+
+gset-source : (k : Kind) → IsTrue (is_gset k) → IsTrue (is_source k)
+gset-source OrSet is = refl
+gset-source GSet is = refl
+gset-source Counter is = refl
+gset-source MaxReg is = refl
+gset-source (Union i j) is = absurd (wrong is)
+gset-source (Product i j) is = absurd (wrong is)
+gset-source (Intersection i j) is = absurd (wrong is)
+gset-source (Map i place ops) is = absurd (wrong is)
+gset-source (Filter i place ops) is = absurd (wrong is)
+gset-source (Fold i op place lift) is = absurd (wrong is)
+
+counter-source : (k : Kind) → IsTrue (is_counter k) → IsTrue (is_source k)
+counter-source OrSet is = refl
+counter-source GSet is = refl
+counter-source Counter is = refl
+counter-source MaxReg is = refl
+counter-source (Union i j) is = absurd (wrong is)
+counter-source (Product i j) is = absurd (wrong is)
+counter-source (Intersection i j) is = absurd (wrong is)
+counter-source (Map i place ops) is = absurd (wrong is)
+counter-source (Filter i place ops) is = absurd (wrong is)
+counter-source (Fold i op place lift) is = absurd (wrong is)
+
+register-source : (k : Kind) → IsTrue (is_maxreg k) → IsTrue (is_source k)
+register-source OrSet is = refl
+register-source GSet is = refl
+register-source Counter is = refl
+register-source MaxReg is = refl
+register-source (Union i j) is = absurd (wrong is)
+register-source (Product i j) is = absurd (wrong is)
+register-source (Intersection i j) is = absurd (wrong is)
+register-source (Map i place ops) is = absurd (wrong is)
+register-source (Filter i place ops) is = absurd (wrong is)
+register-source (Fold i op place lift) is = absurd (wrong is)
+
+op-source : (op : plain.Op) (g : List Decl) (x : ℕ) → IsOpAt g x op → IsTrue (is_source (kind_at g x))
+op-source (plain.Add v) g x at = orset-source (kind_at g x) (kind-here is_orset g x at.0)
+op-source (plain.Remove v) g x at = orset-source (kind_at g x) (kind-here is_orset g x at.0)
+op-source (plain.Insert v) g x at = gset-source (kind_at g x) (kind-here is_gset g x at.0)
+op-source (plain.Inc by) g x at = counter-source (kind_at g x) (kind-here is_counter g x at)
+op-source (plain.Max n) g x at = register-source (kind_at g x) (kind-here is_maxreg g x at)
+op-source (plain.Join s) g x at = absurd at
+
+-- ---- widths
+
+no-row : (v : Val) (t : Tok) → HasRow [] v t → ⊥
+no-row v t row = omega (arith, row)
+
+-- a delta of an operation on sources of width 1 is of width 1
+pub delta-narrow : (op : plain.Op) (g : List Decl) (x : ℕ) (s : Content) (replica k : ℕ) → IsOpAt g x op → (IsTrue (is_source (kind_at g x)) → HasWidth 1 s) → HasWidth 1 (plain.delta op s replica k)
+delta-narrow (plain.Add v) g x s replica k at narrow = record {
+  values = λ u t row. subst (IsOfWidth 1) (sym ((add-row v s replica k u t).0 row).0) at.1;
+  tokens = λ u t row. subst (IsTokenOfWidth 1) (sym ((add-row v s replica k u t).0 row).1) (omega arith);
+}
+delta-narrow (plain.Remove v) g x s replica k at narrow = record {
+  values = λ u t row. subst (IsOfWidth 1) (sym ((remove-row v s replica k u t).0 row).0) at.1;
+  tokens = λ u t row. (narrow (orset-source (kind_at g x) (kind-here is_orset g x at.0))).tokens v t ((remove-row v s replica k u t).0 row).1;
+}
+delta-narrow (plain.Insert v) g x s replica k at narrow = record { values = λ u t row. absurd (no-row u t row); tokens = λ u t row. absurd (no-row u t row) }
+delta-narrow (plain.Inc by) g x s replica k at narrow = record { values = λ u t row. absurd (no-row u t row); tokens = λ u t row. absurd (no-row u t row) }
+delta-narrow (plain.Max n) g x s replica k at narrow = record { values = λ u t row. absurd (no-row u t row); tokens = λ u t row. absurd (no-row u t row) }
+delta-narrow (plain.Join d) g x s replica k at narrow = absurd at
+
+either-value : (s d : Content) (v : Val) (t : Tok) → HasWidth 1 s → HasWidth 1 d → HasRow s.rows v t ⊎ HasRow d.rows v t → IsOfWidth 1 v
+either-value s d v t hs hd (inl row) = hs.values v t row
+either-value s d v t hs hd (inr row) = hd.values v t row
+
+either-token : (s d : Content) (v : Val) (t : Tok) → HasWidth 1 s → HasWidth 1 d → HasRow s.rows v t ⊎ HasRow d.rows v t → IsTokenOfWidth 1 t
+either-token s d v t hs hd (inl row) = hs.tokens v t row
+either-token s d v t hs hd (inr row) = hd.tokens v t row
+
+join-narrow : (s d : Content) → HasWidth 1 s → HasWidth 1 d → HasWidth 1 (join_contents s d)
+join-narrow s d hs hd = record {
+  values = λ v t row. either-value s d v t hs hd ((union-has s.rows d.rows v t).0 row);
+  tokens = λ v t row. either-token s d v t hs hd ((union-has s.rows d.rows v t).0 row);
+}
+
+content-set : (contents : List Content) (x : ℕ) (s : Content) (y : ℕ) → HasWidth 1 s → HasWidth 1 (content_at contents y) → HasWidth 1 (content_at (slice_set contents x s) y)
+content-set [] x s y hs h = h
+content-set (c ∷ contents) zero s zero hs h = hs
+content-set (c ∷ contents) zero s (suc y) hs h = h
+content-set (c ∷ contents) (suc x) s zero hs h = h
+content-set (c ∷ contents) (suc x) s (suc y) hs h = content-set contents x s y hs h
+
+-- a source that got an update is as narrow as before
+pub narrow-updated : (op : plain.Op) (g : List Decl) (old new : List Held) (x replica k : ℕ) → IsOpAt g x op → AreNarrow g old
+    → IsJoined old x (plain.delta op (content_at (contents_of old) x) replica k) new → AreNarrow g new
+narrow-updated op g old new x replica k at narrow joined y within source =
+    let here : IsTrue (is_source (kind_at g x)) → HasWidth 1 (content_at (contents_of old) x) = narrow x (op-within op g x at) in
+    subst (λ (cs : List Content). HasWidth 1 (content_at cs y)) (sym joined.contents)
+    (content-set (contents_of old) x _ y (joined-narrow here) (narrow y within source)) where
+  joined-narrow : (IsTrue (is_source (kind_at g x)) → HasWidth 1 (content_at (contents_of old) x)) → HasWidth 1 (join_contents (content_at (contents_of old) x) (plain.delta op (content_at (contents_of old) x) replica k))
+  joined-narrow here = join-narrow _ _ (here (op-source op g x at)) (delta-narrow op g x (content_at (contents_of old) x) replica k at here)

@@ -2,9 +2,14 @@
 use Rattle.std.specs.Prelude.{◌≡◌, ℕ, ◌<◌, ◌≤◌, List, map, length, slice_get, Option, Some, None, Result, Ok, Err, string_bytes}
 use Rattle.std.specs.declared.vec.Vec.{Vec}
 use Rattle.model_states.specs.Content.{Content, size_of, row_limit}
+use Rattle.model_values.specs.Size.{IsOfWidth}
+use Rattle.model_states.specs.Counts.{count_at}
+use Rattle.model_states.specs.Update.{Op, Add, Remove, Insert, Inc, Max, Join}
 use Rattle.model_graph.specs.Graph.{Decl}
+use Rattle.model_readings.specs.Lawful.{IsKindAt}
+use Rattle.model_readings.specs.Script.{is_orset, is_gset, is_counter, is_maxreg}
 use Rattle.model_graph.specs.Evaluation.{content_at}
-use Rattle.model_world.specs.World.{Peer, Run, count_at, shown_at, ended}
+use Rattle.model_world.specs.World.{Peer, Run, shown_at, ended}
 use Rattle.model_world.specs.Report.{report_of}
 use Rattle.model_world.specs.Command.{Script}
 use Rattle.model_graph.specs.Chain.{◌>>=◌}
@@ -26,6 +31,15 @@ abbrev pub Settles : {A : Type 0} → Option ℕ → ℕ → Result A NodeStop �
 Settles large many (Ok done) = large ≡ None
 Settles large many (Err (node.TooLarge x)) = (large ≡ Some x) × (x < many)
 Settles large many (Err node.Memory) = Unit {0}
+
+-- an update that a source may get: its operation is one of the source's kind, and a value in it is of width 1
+abbrev pub IsOpAt : List Decl → ℕ → Op → Type 0
+IsOpAt g x (Add v) = IsKindAt is_orset g x × IsOfWidth 1 v
+IsOpAt g x (Remove v) = IsKindAt is_orset g x × IsOfWidth 1 v
+IsOpAt g x (Insert v) = IsKindAt is_gset g x × IsOfWidth 1 v
+IsOpAt g x (Inc by) = IsKindAt is_counter g x
+IsOpAt g x (Max n) = IsKindAt is_maxreg g x
+IsOpAt g x (Join s) = ⊥
 
 -- what is done is what the world does, or it stops where the world stops, or memory was wanting
 abbrev pub Does : {A B : Type 0} → Result B Stop → Result A Halt → B → Type 0

@@ -1,3 +1,4 @@
 pub mod Words
 pub mod Drive
 pub mod Driver
+pub mod Plain

@@ -5,16 +5,18 @@ ghost use Rattle.std.specs.Arc.{arc_value};
 ghost use Rattle.model_graph.specs.Graph.{Decl};
 ghost use Rattle.model_world.specs.World.{act, step, play, start, Update, Point, Show};
 ghost use Rattle.model_world.specs.Report.{report_of};
-ghost use Rattle.model_readings.specs.Lawful.{IsOrSetAt, IsLawful, IsScript};
+ghost use Rattle.model_readings.specs.Lawful.{FitsAll, IsLawful, IsScript};
+ghost use Rattle.lasp_graph.specs.Library.{library_of};
 ghost use Rattle.lasp_script.specs.Command.{command_of};
 ghost use Rattle.model_readings.specs.Script.{command_limit};
 ghost use Rattle.lasp_state.specs.State.{op_of};
-ghost use Rattle.lasp_run.specs.Drive.{Does, Reports, reported, NamesOneOf, AreReady, AreSettled};
+ghost use Rattle.lasp_run.specs.Drive.{IsOpAt, Does, Reports, reported, NamesOneOf, AreReady, AreSettled};
 ghost use Rattle.lasp_run.specs.Driver.{run_of};
 
 use super::halt::Halt;
 use super::node::{Node, NodeStop};
 use super::text::{print_line, push_known};
+use lasp_fns::Library;
 use lasp_graph::Graph;
 use lasp_script::{Command, Script};
 use lasp_state::Op;
@@ -69,7 +71,7 @@ impl<N: Node> Driver<N> {
     ) -> Result<(), Halt>
         requires ready { AreReady N.decls N.number N.peer graph.now (length self.old.nodes.items) c self.old.nodes.items }
         requires node { p < length self.old.nodes.items }
-        requires source { IsOrSetAt graph.now x }
+        requires source { IsOpAt graph.now x (op_of op.now) }
         requires number { c ≤ command_limit }
         ensures ready { OnOk result (AreReady N.decls N.number N.peer graph.now (length self.old.nodes.items) (c + 1) self.new.nodes.items) }
         ensures within { NamesOneOf (length graph.now) result }
@@ -83,16 +85,23 @@ impl<N: Node> Driver<N> {
     }
 
     /// Command number c settles every node, nodes ascending.
-    pub fn point(&mut self, alloc: Global, graph: &Graph, c: u32) -> Result<(), Halt>
+    pub fn point(
+        &mut self,
+        alloc: Global,
+        graph: &Graph,
+        lib: &Library,
+        c: u32,
+    ) -> Result<(), Halt>
         requires ready { AreReady N.decls N.number N.peer graph.now (length self.old.nodes.items) c self.old.nodes.items }
         requires few { length self.old.nodes.items ≤ 8 }
+        requires fits { FitsAll (library_of lib.now) graph.now }
         ensures ready { OnOk result (AreReady N.decls N.number N.peer graph.now (length self.old.nodes.items) c self.new.nodes.items) }
         ensures settled { OnOk result (AreSettled N.decls N.peer N.shown self.new.nodes.items) }
         ensures within { NamesOneOf (length graph.now) result }
         ensures done { Does (act c (run_of N.peer graph.now self.old) Point) result (run_of N.peer graph.now self.new) }
     {
         for p in 0..self.nodes.len() {
-            match self.nodes[p].settle(alloc) {
+            match self.nodes[p].settle(alloc, lib) {
                 Ok(()) => {}
                 Err(NodeStop::TooLarge(x)) => return Err(Halt::TooLarge(c, p as u8, x)),
                 Err(NodeStop::Memory) => return Err(Halt::Memory),
@@ -122,12 +131,14 @@ impl<N: Node> Driver<N> {
         &mut self,
         alloc: Global,
         graph: &Graph,
+        lib: &Library,
         c: u32,
         command: &Command,
     ) -> Result<(), Halt>
         requires ready { AreReady N.decls N.number N.peer graph.now (length self.old.nodes.items) c self.old.nodes.items }
         requires few { length self.old.nodes.items ≤ 8 }
         requires number { c ≤ command_limit }
+        requires fits { FitsAll (library_of lib.now) graph.now }
         requires lawful { IsLawful graph.now (length self.old.nodes.items) (command_of command.now) }
         ensures ready { OnOk result (AreReady N.decls N.number N.peer graph.now (length self.old.nodes.items) (c + 1) self.new.nodes.items) }
         ensures within { NamesOneOf (length graph.now) result }
@@ -142,8 +153,14 @@ impl<N: Node> Driver<N> {
                 let op = Op::Remove(value.try_clone(alloc)?);
                 self.update(alloc, graph, c, *p, *x, &op)
             }
+            Command::Insert(p, x, value) => {
+                let op = Op::Insert(value.try_clone(alloc)?);
+                self.update(alloc, graph, c, *p, *x, &op)
+            }
+            Command::Inc(p, x, by) => self.update(alloc, graph, c, *p, *x, &Op::Inc(*by)),
+            Command::Max(p, x, number) => self.update(alloc, graph, c, *p, *x, &Op::Max(*number)),
             Command::Print(p, x) => {
-                self.point(alloc, graph, c)?;
+                self.point(alloc, graph, lib, c)?;
                 self.show(graph, c, *p, *x)
             }
         }
@@ -151,21 +168,28 @@ impl<N: Node> Driver<N> {
 
     #[tactic(auto, unfolding(model_world::specs::World::play))]
     /// Does the commands of a script in order, and settles every node at the end.
-    pub fn play(&mut self, alloc: Global, graph: &Graph, script: &Script) -> Result<(), Halt>
+    pub fn play(
+        &mut self,
+        alloc: Global,
+        graph: &Graph,
+        lib: &Library,
+        script: &Script,
+    ) -> Result<(), Halt>
         requires ready { AreReady N.decls N.number N.peer graph.now (length self.old.nodes.items) 1 self.old.nodes.items }
         requires nodes { length self.old.nodes.items ≡ script.now.nodes }
         requires script { IsScript graph.now script.now }
+        requires fits { FitsAll (library_of lib.now) graph.now }
         ensures within { NamesOneOf (length graph.now) result }
         ensures done { Does (play 1 (run_of N.peer graph.now self.old) script.now.commands) result (run_of N.peer graph.now self.new) }
     {
         let mut c: u32 = 1;
         for i in 0..script.len() {
-            match self.do_command(alloc, graph, c, script.at(i)) {
+            match self.do_command(alloc, graph, lib, c, script.at(i)) {
                 Ok(()) => c += 1,
                 Err(halt) => return Err(halt),
             }
         }
-        self.point(alloc, graph, c)
+        self.point(alloc, graph, lib, c)
     }
 }
 
@@ -173,13 +197,15 @@ impl<N: Node> Driver<N> {
 pub fn drive_on<N: Node>(
     alloc: Global,
     graph: &Arc<Graph>,
+    lib: &Library,
     script: &Script,
 ) -> Result<Vec<u8>, Halt>
-    requires { IsScript (arc_value graph.now) script.now }
+    requires script { IsScript (arc_value graph.now) script.now }
+    requires fits { FitsAll (library_of lib.now) (arc_value graph.now) }
     ensures reports { Reports (reported (arc_value graph.now) script.now) result }
     ensures within { NamesOneOf (length (arc_value graph.now)) result }
 {
     let mut driver: Driver<N> = Driver::new(alloc, graph, script.nodes())?;
-    driver.play(alloc, graph, script)?;
+    driver.play(alloc, graph, lib, script)?;
     Ok(driver.report()?)
 }
