@@ -1,0 +1,5 @@
+pub mod JoinLaws
+pub mod TickLaws
+pub mod SwapLaws
+pub mod WidthLaws
+pub mod GrownLaws

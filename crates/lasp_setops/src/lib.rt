@@ -1,35 +1,28 @@
-//! The processes over sets: each makes a set of one or two others, by its equation.
+//! The processes over sets: each makes a set of one or two others, by its equation, and follows its inputs by what changed in them.
 #![tactic(auto)]
 
-ghost use Rattle.std.specs.Prelude.{◌≡◌};
-
+mod counted;
+mod filter;
+mod increments;
+mod intersection;
+mod laws;
+mod map;
+mod product;
+mod refused;
+mod row;
 mod union;
 
+pub use counted::{filter_counted, map_counted};
+pub use filter::filter_set;
+pub use increments::{
+    filter_increment, intersect_increment, map_increment, product_increment, union_increment,
+};
+pub use intersection::intersect_sets;
+pub use laws::{processes_follow_any_change, processes_keep_widths};
+pub use map::map_set;
+pub use product::product_sets;
+pub use refused::SetRefused;
 pub use union::union_sets;
 
 #[cfg(test)]
 mod tests;
-
-use std::alloc::AllocError;
-use thiserror::Error;
-
-/// Why a process answers no set.
-#[derive(Debug, Drop, Error)]
-pub enum SetRefused {
-    /// The result would have more than 65,536 rows.
-    #[error("the result would have more than 65,536 rows")]
-    TooManyRows,
-    /// No memory was found.
-    #[error("out of memory")]
-    Memory,
-}
-
-impl From<AllocError> for SetRefused {
-    ghost use Rattle.lasp_setops.specs.declared.SetRefused.TheVariants as refused;
-
-    ghost from_gives = { λ _ r. r ≡ refused.Memory };
-
-    fn from(_error: AllocError) -> SetRefused {
-        SetRefused::Memory
-    }
-}

@@ -4,12 +4,10 @@ ghost use Rattle.std.specs.Prelude.{◌≡◌, ◌<◌, ◌≤◌, IfOk, length}
 ghost use Rattle.model_sets.specs.Rows.{join};
 ghost use Rattle.model_states.specs.Content.{row_limit};
 
-use super::SetRefused;
+use crate::refused::SetRefused;
+use crate::row::check_rows;
 use lasp_orset::OrSet;
 use std::alloc::AllocError;
-
-/// The most rows that a set variable may have, dead ones counted.
-const MOST_ROWS: u64 = 65_536;
 
 /// The rows of either set, dead where dead in either. It costs a share of the larger set and a search for each row of the smaller one.
 pub fn union_sets(x: &OrSet, y: &OrSet) -> Result<OrSet, SetRefused>
@@ -18,9 +16,7 @@ pub fn union_sets(x: &OrSet, y: &OrSet) -> Result<OrSet, SetRefused>
     ensures too_many { result ≡ Err SetRefused.TooManyRows → row_limit < length (join x.now y.now) }
 {
     let all = joined(x, y)?;
-    if all.rows() > MOST_ROWS {
-        return Err(SetRefused::TooManyRows);
-    }
+    check_rows(&all)?;
     Ok(all)
 }
 

@@ -1,0 +1,141 @@
+-- How loops that join rows in go on.
+use Rattle.std.proofs.Common.{◌≡◌, ℕ, Bool, true, false, cond, if◌then◌else◌, ◌<◌, ◌≤◌, List, [], ◌∷◌, ◌++◌, map, flat_map, length, Result, Ok, Err, OnOk, IsErrAnd, append_assoc, refl, sym, ap, subst, ◌∙◌, arith}
+use Rattle.model_values.specs.Value.{Val}
+use Rattle.model_values.specs.Row.{Row}
+use Rattle.model_sets.specs.Rows.{IsAscending, put, join, of_rows, is_of}
+use Rattle.model_sets.specs.Equations.{met, moved, filter_set}
+use Rattle.model_sets.proofs.RowLaws.{ascending-put, ascending-join, ascending-of_rows, join-append, join-row, join-nothing, join-of_rows, of_rows-ascending}
+use Rattle.model_sets.proofs.LoopLaws.{length-join}
+use Rattle.lasp_orset.proofs.PieceLaws.{ascending-left}
+use Rattle.lasp_setops.specs.declared.refused.SetRefused.{SetRefused}
+use Rattle.lasp_setops.specs.Joined.{IsJoinedUpTo, meetings}
+
+pub joined-start : (s t : List Row) → IsAscending s → IsJoinedUpTo s t (join s t)
+joined-start s t up = record { ascends = up; all = λ i. join s t }
+
+-- one more row joined in
+pub joined-row : (s : List Row) (r : Row) (t w : List Row) → IsJoinedUpTo s (r ∷ t) w → IsJoinedUpTo (put r s) t w
+joined-row s r t w h = record {
+  ascends = ascending-put r s h.ascends;
+  all = ap (λ (u : List Row). join u t) (sym (join-row s r h.ascends)) ∙ sym (join-append s (r ∷ []) t) ∙ h.all;
+}
+
+-- many more rows joined in
+pub joined-rows : (s xs t w : List Row) → IsJoinedUpTo s (xs ++ t) w → IsJoinedUpTo (join s xs) t w
+joined-rows s xs t w h = record { ascends = ascending-join s xs; all = sym (join-append s xs t) ∙ h.all }
+
+-- none left
+pub joined-done : (s w : List Row) → IsJoinedUpTo s [] w → s ≡ w
+joined-done s w h = sym (join-nothing s h.ascends) ∙ h.all
+
+-- a join has at least the rows of the first state
+pub length-grows : (s t : List Row) → IsAscending s → length s ≤ length (join s t)
+length-grows s t up =
+    let same : length (join s t) ≡ length (join s (of_rows t)) = ap length (sym (join-of_rows s t)) in
+    omega (arith, same, length-join s (of_rows t) up (ascending-of_rows t))
+
+-- what is too long so far is too long in the end
+pub joined-long : (n : ℕ) (s t w : List Row) → IsJoinedUpTo s t w → n < length s → n < length w
+joined-long n s t w h long = let same : length (join s t) ≡ length w = ap length h.all in omega (arith, same, length-grows s t h.ascends, long)
+
+-- two rows met, where they have one value and where they haven't
+pub meet-one : (r q : Row) (s : List Row) → IsAscending s → is_of r.0.0 q ≡ true → put (met r q) s ≡ join s (meetings r q)
+meet-one r q s up same = sym (join-row s (met r q) up) ∙ (λ i. join s (if sym same i then met r q ∷ [] else []))
+
+pub meet-none : (r q : Row) (s : List Row) → IsAscending s → is_of r.0.0 q ≡ false → s ≡ join s (meetings r q)
+meet-none r q s up other = sym (join-nothing s up) ∙ (λ i. join s (if sym other i then met r q ∷ [] else []))
+
+-- ---- the same along a pass over rows
+
+pub first-rows : (t t' w s : List Row) → t' ≡ t → IsAscending s → w ≡ join s t → IsJoinedUpTo s t' w
+first-rows t t' w s same up whole = record { ascends = up; all = ap (join s) same ∙ sym whole }
+
+pub next-row : (f : Row → Row) (s t rows rest w : List Row) (r q : Row) → rows ≡ r ∷ rest → q ≡ f r → t ≡ put q s → IsJoinedUpTo s (map f rows) w → IsJoinedUpTo t (map f rest) w
+next-row f s t rows rest w r q at is new h =
+    subst (λ (u : List Row). IsJoinedUpTo u (map f rest) w) (sym (new ∙ ap (λ (p : Row). put p s) is)) (joined-row s (f r) (map f rest) w (subst (λ (u : List Row). IsJoinedUpTo s (map f u) w) at h))
+
+pub long-row : (n : ℕ) (f : Row → Row) (s rows rest w : List Row) (r q : Row) → rows ≡ r ∷ rest → q ≡ f r → IsJoinedUpTo s (map f rows) w → n < length (put q s) → n < length w
+long-row n f s rows rest w r q at is h long =
+    joined-long n (put q s) (map f rest) w (next-row f s (put q s) rows rest w r q at is (λ i. put q s) h) long
+
+pub next-rows : (g : Row → List Row) (s t rows rest w : List Row) (r : Row) → rows ≡ r ∷ rest → t ≡ join s (g r) → IsJoinedUpTo s (flat_map g rows) w → IsJoinedUpTo t (flat_map g rest) w
+next-rows g s t rows rest w r at new h =
+    subst (λ (u : List Row). IsJoinedUpTo u (flat_map g rest) w) (sym new) (joined-rows s (g r) (flat_map g rest) w (subst (λ (u : List Row). IsJoinedUpTo s (flat_map g u) w) at h))
+
+pub long-rows : (n : ℕ) (g : Row → List Row) (s rows rest w : List Row) (r : Row) → rows ≡ r ∷ rest → IsJoinedUpTo s (flat_map g rows) w → n < length (join s (g r)) → n < length w
+long-rows n g s rows rest w r at h long = joined-long n (join s (g r)) (flat_map g rest) w (next-rows g s (join s (g r)) rows rest w r at (λ i. join s (g r)) h) long
+
+pub last-row : (f : Row → Row) (s rows w : List Row) → rows ≡ [] → IsJoinedUpTo s (map f rows) w → s ≡ w
+last-row f s rows w none h = joined-done s w (subst (λ (u : List Row). IsJoinedUpTo s (map f u) w) none h)
+
+pub last-rows : (g : Row → List Row) (s rows w : List Row) → rows ≡ [] → IsJoinedUpTo s (flat_map g rows) w → s ≡ w
+last-rows g s rows w none h = joined-done s w (subst (λ (u : List Row). IsJoinedUpTo s (flat_map g u) w) none h)
+
+-- a refusal that is passed on
+pub passed-on : (r : Result (Unit {0}) SetRefused) (e t : SetRefused) → IsErrAnd r (λ x. x ≡ e) → r ≡ Err t → e ≡ t
+passed-on (Ok x) e t h k = cc
+passed-on (Err y) e t h k = cc
+
+pub passed-on-set : {A : Type 0} (r : Result A SetRefused) (e t : SetRefused) → IsErrAnd r (λ x. x ≡ e) → r ≡ Err t → e ≡ t
+passed-on-set (Ok x) e t h k = cc
+passed-on-set (Err y) e t h k = cc
+
+-- ---- rows that are kept as they are
+
+pub kept-ascends : (whole done left : List Row) (r : Row) → IsAscending whole → done ++ r ∷ left ≡ whole → IsAscending (done ++ r ∷ [])
+kept-ascends whole done left r up h = ascending-left (done ++ r ∷ []) left (subst IsAscending (sym h ∙ sym (append_assoc done (r ∷ []) left)) up)
+
+pub meet-new : (r q m : Row) (s t : List Row) (a : Result (Unit {0}) SetRefused) → IsAscending s → is_of r.0.0 q ≡ true → m ≡ met r q → OnOk a (t ≡ put m s) → OnOk a (t ≡ join s (meetings r q))
+meet-new r q m s t (Ok x) up same is h = h ∙ ap (λ (p : Row). put p s) is ∙ meet-one r q s up same
+meet-new r q m s t (Err e) up same is h = h
+
+pub meet-long : (n : ℕ) (r q m : Row) (s : List Row) → IsAscending s → is_of r.0.0 q ≡ true → m ≡ met r q → n < length (put m s) → n < length (join s (meetings r q))
+meet-long n r q m s up same is h = subst (λ (u : List Row). n < length u) (ap (λ (p : Row). put p s) is ∙ meet-one r q s up same) h
+
+pub moved-is : (f : Val → Val) (r : Row) (v w : Val) (q : Row) → v ≡ r.0.0 → w ≡ f v → q ≡ ((w, r.0.1), r.1) → q ≡ moved f r
+moved-is f r v w q is image new = new ∙ (λ i. (((image ∙ ap f is) i, r.0.1), r.1))
+
+pub first-kept : (p : Val → Bool) (s rows x : List Row) → s ≡ [] → rows ≡ x → s ++ filter_set p rows ≡ filter_set p x
+first-kept p s rows x none same = λ i. none i ++ filter_set p (same i)
+
+-- a row that passes goes behind those so far, and one that doesn't is left out
+pub next-kept : (p : Val → Bool) (s rows rest x : List Row) (r : Row) (v : Val) → rows ≡ r ∷ rest → v ≡ r.0.0 → p v ≡ true → s ++ filter_set p rows ≡ filter_set p x → s ++ r ∷ filter_set p rest ≡ filter_set p x
+next-kept p s rows rest x r v at is passed h = (λ i. s ++ cond (sym (ap p (sym is) ∙ passed) i) (r ∷ filter_set p rest) (filter_set p rest)) ∙ ap (λ (t : List Row). s ++ filter_set p t) (sym at) ∙ h
+
+pub next-left : (p : Val → Bool) (s rows rest x : List Row) (r : Row) (v : Val) → rows ≡ r ∷ rest → v ≡ r.0.0 → p v ≡ false → s ++ filter_set p rows ≡ filter_set p x → s ++ filter_set p rest ≡ filter_set p x
+next-left p s rows rest x r v at is failed h = (λ i. s ++ cond (sym (ap p (sym is) ∙ failed) i) (r ∷ filter_set p rest) (filter_set p rest)) ∙ ap (λ (t : List Row). s ++ filter_set p t) (sym at) ∙ h
+
+pub pushed-kept : (p : Val → Bool) (s t rest x : List Row) (r q : Row) → t ≡ s ++ q ∷ [] → q ≡ r → s ++ r ∷ filter_set p rest ≡ filter_set p x → t ++ filter_set p rest ≡ filter_set p x
+pushed-kept p s t rest x r q new is h = (λ i. (new ∙ ap (λ (z : Row). s ++ z ∷ []) is) i ++ filter_set p rest) ∙ append_assoc s (r ∷ []) (filter_set p rest) ∙ h
+
+behind-nothing : (s : List Row) → s ++ [] ≡ s
+behind-nothing [] = refl
+behind-nothing (r ∷ s) = ap (λ (t : List Row). r ∷ t) (behind-nothing s)
+
+pub last-kept : (p : Val → Bool) (s rows x : List Row) → rows ≡ [] → s ++ filter_set p rows ≡ filter_set p x → s ≡ filter_set p x
+last-kept p s rows x none h = sym (behind-nothing s) ∙ ap (λ (t : List Row). s ++ filter_set p t) (sym none) ∙ h
+
+-- ---- what is joined into a fresh set, and the length along two steps
+
+pub join-fresh : (s t : List Row) → s ≡ [] → IsAscending t → join s t ≡ t
+join-fresh s t none up = (λ i. join (none i) t) ∙ of_rows-ascending t up
+
+pub long-fresh : (n : ℕ) (s t : List Row) → s ≡ [] → IsAscending t → n < length (join s t) → n < length t
+long-fresh n s t none up h = subst (λ (u : List Row). n < length u) (join-fresh s t none up) h
+
+pub long-old : (n : ℕ) (old a b whole : List Row) → IsAscending old → join (join old a) b ≡ whole → n < length old → n < length whole
+long-old n old a b whole up is h =
+    let same : length (join (join old a) b) ≡ length whole = ap length is in
+    omega (arith, h, same, length-grows old a up, length-grows (join old a) b (ascending-join old a))
+
+pub long-first : (n : ℕ) (all old a b whole : List Row) → all ≡ old → join (join old a) b ≡ whole → n < length (join all a) → n < length whole
+long-first n all old a b whole copy is h =
+    let same : length (join (join old a) b) ≡ length whole = ap length is in
+    let first : length (join all a) ≡ length (join old a) = ap (λ (s : List Row). length (join s a)) copy in
+    omega (arith, h, same, first, length-grows (join old a) b (ascending-join old a))
+
+pub long-second : (n : ℕ) (s all old a b whole : List Row) → s ≡ join all a → all ≡ old → join (join old a) b ≡ whole → n < length (join s b) → n < length whole
+long-second n s all old a b whole first copy is h = subst (λ (u : List Row). n < length u) ((λ i. join ((first ∙ ap (λ (u : List Row). join u a) copy) i) b) ∙ is) h
+
+pub two-steps : (all s t old a b whole : List Row) → all ≡ old → s ≡ join all a → t ≡ join s b → join (join old a) b ≡ whole → t ≡ whole
+two-steps all s t old a b whole copy first second is = second ∙ (λ i. join ((first ∙ ap (λ (u : List Row). join u a) copy) i) b) ∙ is

@@ -1,0 +1,30 @@
+//! The filter of a set by a stored predicate.
+
+ghost use Rattle.std.specs.Prelude.{◌≡◌, IfOk};
+ghost use Rattle.model_functions.specs.Predicate.{passes};
+ghost use Rattle.model_sets.specs.Equations.{filter_set};
+ghost use Rattle.lasp_fns.specs.Stored.{conditions_of};
+ghost use Rattle.lasp_setops.specs.Width.{IsSetOfWidth};
+
+use lasp_fns::StoredPred;
+use lasp_orset::OrSet;
+use std::alloc::AllocError;
+
+/// The rows whose value passes, live and dead ones. It costs a call for each row; the rows are shared.
+pub fn filter_set(p: &StoredPred, x: &OrSet) -> Result<OrSet, AllocError>
+    requires width { IsSetOfWidth 16 x.now }
+    ensures { IfOk result (λ s. s ≡ filter_set (passes (conditions_of p.now)) x.now) }
+{
+    x.ascends();
+    let mut out = x.empty();
+    let mut rows = x.iter();
+    while let Some(row) = rows.next() {
+        let value = row.value();
+        value.recall_ints();
+        if p.call(value) {
+            let kept = row.try_clone()?;
+            out.append(kept)?;
+        }
+    }
+    Ok(out)
+}

@@ -1,0 +1,115 @@
+//! Each process after its inputs changed: from the result before, the changed rows, and for two inputs the sets as they are now. The cost is that of the changed rows and of the rows that they give, and a share for each 64 to 128 rows of the result.
+
+ghost use Rattle.std.specs.Prelude.{◌≡◌, ◌<◌, ◌≤◌, ◌+◌, Err, IfOk, List, length};
+ghost use Rattle.model_values.specs.Row.{Row};
+ghost use Rattle.model_functions.specs.Map.{mapped};
+ghost use Rattle.model_functions.specs.Predicate.{passes};
+ghost use Rattle.model_sets.specs.Equations.{map_set, filter_set, union_set, product_set, intersect_set};
+ghost use Rattle.model_states.specs.Content.{row_limit};
+ghost use Rattle.lasp_fns.specs.Library.{maps_of, predicates_of, map_ops_at, pred_ops_at};
+ghost use Rattle.lasp_fns.specs.Steps.{library_of, ticks_of};
+ghost use Rattle.lasp_setops.specs.Width.{IsSetOfWidth};
+ghost use Rattle.lasp_setops.specs.Grown.{IsGrown};
+
+use crate::counted::{filter_counted, map_counted};
+use crate::refused::SetRefused;
+use crate::row::check_rows;
+use crate::{intersection, product};
+use lasp_fns::StepLib;
+use lasp_orset::OrSet;
+use std::alloc::{AllocError, Global};
+
+/// The map by the function at a place after a change, from the map before. It calls the function at most once for each changed row.
+pub fn map_increment(
+    alloc: Global,
+    lib: &mut StepLib,
+    f: u32,
+    old: &OrSet,
+    change: &OrSet,
+) -> Result<OrSet, AllocError>
+    requires place { f < length (maps_of (library_of lib.old)) }
+    requires width { IsSetOfWidth 16 change.now }
+    ensures ok { IfOk result (λ s. (before after : List Row) → IsGrown before change.now after → old.now ≡ map_set (mapped (map_ops_at (library_of lib.old) f)) before → s ≡ map_set (mapped (map_ops_at (library_of lib.old) f)) after) }
+    ensures library { library_of lib.new ≡ library_of lib.old }
+    ensures ticks { ticks_of lib.new ≤ ticks_of lib.old + length change.now }
+{
+    let more = map_counted(alloc, lib, f, change)?;
+    let mut all = old.try_clone()?;
+    all.join_in(&more)?;
+    Ok(all)
+}
+
+/// The filter by the predicate at a place after a change, from the filter before. It calls the predicate once for each changed row.
+pub fn filter_increment(
+    lib: &mut StepLib,
+    p: u32,
+    old: &OrSet,
+    change: &OrSet,
+) -> Result<OrSet, AllocError>
+    requires place { p < length (predicates_of (library_of lib.old)) }
+    requires width { IsSetOfWidth 16 change.now }
+    ensures ok { IfOk result (λ s. (before after : List Row) → IsGrown before change.now after → old.now ≡ filter_set (passes (pred_ops_at (library_of lib.old) p)) before → s ≡ filter_set (passes (pred_ops_at (library_of lib.old) p)) after) }
+    ensures library { library_of lib.new ≡ library_of lib.old }
+    ensures ticks { ticks_of lib.new ≤ ticks_of lib.old + length change.now }
+{
+    let more = filter_counted(lib, p, change)?;
+    let mut all = old.try_clone()?;
+    change.ascends();
+    all.join_in(&more)?;
+    Ok(all)
+}
+
+/// The union after changes of its inputs, from the union before.
+pub fn union_increment(old: &OrSet, x_change: &OrSet, y_change: &OrSet) -> Result<OrSet, SetRefused>
+    ensures ok { IfOk result (λ s. (x x_after y y_after : List Row) → IsGrown x x_change.now x_after → IsGrown y y_change.now y_after → old.now ≡ union_set x y → s ≡ union_set x_after y_after) }
+    ensures small { IfOk result (λ s. length s ≤ row_limit) }
+    ensures too_many { result ≡ Err SetRefused.TooManyRows → (x x_after y y_after : List Row) → IsGrown x x_change.now x_after → IsGrown y y_change.now y_after → old.now ≡ union_set x y → row_limit < length (union_set x_after y_after) }
+{
+    let mut all = old.try_clone()?;
+    all.join_in(x_change)?;
+    all.join_in(y_change)?;
+    check_rows(&all)?;
+    Ok(all)
+}
+
+/// The product after changes of its inputs, from the product before. The sets are those after the changes.
+pub fn product_increment(
+    alloc: Global,
+    old: &OrSet,
+    x: &OrSet,
+    x_change: &OrSet,
+    y: &OrSet,
+    y_change: &OrSet,
+) -> Result<OrSet, SetRefused>
+    ensures ok { IfOk result (λ s. (x_before y_before : List Row) → IsGrown x_before x_change.now x.now → IsGrown y_before y_change.now y.now → old.now ≡ product_set x_before y_before → s ≡ product_set x.now y.now) }
+    ensures small { IfOk result (λ s. length s ≤ row_limit) }
+    ensures too_many { result ≡ Err SetRefused.TooManyRows → (x_before y_before : List Row) → IsGrown x_before x_change.now x.now → IsGrown y_before y_change.now y.now → old.now ≡ product_set x_before y_before → row_limit < length (product_set x.now y.now) }
+{
+    old.ascends();
+    check_rows(old)?;
+    let mut all = old.try_clone()?;
+    product::add_first(alloc, &mut all, x_change, y)?;
+    product::add_second(alloc, &mut all, x, y_change)?;
+    Ok(all)
+}
+
+/// The intersection after changes of its inputs, from the intersection before. The sets are those after the changes.
+pub fn intersect_increment(
+    alloc: Global,
+    old: &OrSet,
+    x: &OrSet,
+    x_change: &OrSet,
+    y: &OrSet,
+    y_change: &OrSet,
+) -> Result<OrSet, SetRefused>
+    ensures ok { IfOk result (λ s. (x_before y_before : List Row) → IsGrown x_before x_change.now x.now → IsGrown y_before y_change.now y.now → old.now ≡ intersect_set x_before y_before → s ≡ intersect_set x.now y.now) }
+    ensures small { IfOk result (λ s. length s ≤ row_limit) }
+    ensures too_many { result ≡ Err SetRefused.TooManyRows → (x_before y_before : List Row) → IsGrown x_before x_change.now x.now → IsGrown y_before y_change.now y.now → old.now ≡ intersect_set x_before y_before → row_limit < length (intersect_set x.now y.now) }
+{
+    old.ascends();
+    check_rows(old)?;
+    let mut all = old.try_clone()?;
+    intersection::add_first(alloc, &mut all, x_change, y)?;
+    intersection::add_second(alloc, &mut all, x, y_change)?;
+    Ok(all)
+}
