@@ -42,17 +42,17 @@ intersect-grown = grown-by intersect_set intersect-join_left intersect-join_righ
 
 -- ---- along the steps of an increment
 
-pub union-after : (x c x' y d y' old s t : List Row) → s ≡ join old c → t ≡ join s d → IsGrown x c x' → IsGrown y d y' → old ≡ union_set x y → t ≡ union_set x' y'
-union-after x c x' y d y' old s t first second h k is = second ∙ (λ i. join ((first ∙ ap (λ (u : List Row). join u c) is) i) d) ∙ union-grown x c x' y d y' h k
+pub union-steps : (x c x' y d y' old : List Row) → IsGrown x c x' → IsGrown y d y' → old ≡ union_set x y → join (join old c) d ≡ union_set x' y'
+union-steps x c x' y d y' old h k is = (λ i. join (join (is i) c) d) ∙ union-grown x c x' y d y' h k
 
-pub map-after : (f : Val → Val) (x c x' old more t : List Row) → more ≡ map_set f c → t ≡ join old more → IsGrown x c x' → old ≡ map_set f x → t ≡ map_set f x'
-map-after f x c x' old more t first second h is = second ∙ (λ i. join (is i) (first i)) ∙ map-grown f x c x' h
+pub product-steps : (x c x' y d y' old : List Row) → IsGrown x c x' → IsGrown y d y' → old ≡ product_set x y → join (join old (product_set c y')) (product_set x' d) ≡ product_set x' y'
+product-steps x c x' y d y' old h k is = (λ i. join (join (is i) (product_set c y')) (product_set x' d)) ∙ product-grown x c x' y d y' h k
 
-pub filter-after : (p : Val → Bool) (x c x' old more t : List Row) → IsAscending c → more ≡ filter_set p c → t ≡ join old more → IsGrown x c x' → old ≡ filter_set p x → t ≡ filter_set p x'
-filter-after p x c x' old more t up first second h is = second ∙ (λ i. join (is i) (first i)) ∙ filter-grown p x c x' up h
+pub intersect-steps : (x c x' y d y' old : List Row) → IsGrown x c x' → IsGrown y d y' → old ≡ intersect_set x y → join (join old (intersect_set c y')) (intersect_set x' d) ≡ intersect_set x' y'
+intersect-steps x c x' y d y' old h k is = (λ i. join (join (is i) (intersect_set c y')) (intersect_set x' d)) ∙ intersect-grown x c x' y d y' h k
 
-pub product-after : (x c x' y d y' old s t : List Row) → s ≡ join old (product_set c y') → t ≡ join s (product_set x' d) → IsGrown x c x' → IsGrown y d y' → old ≡ product_set x y → t ≡ product_set x' y'
-product-after x c x' y d y' old s t first second h k is = second ∙ (λ i. join ((first ∙ ap (λ (u : List Row). join u (product_set c y')) is) i) (product_set x' d)) ∙ product-grown x c x' y d y' h k
+pub map-after : (f : Val → Val) (x c x' old all more t : List Row) → all ≡ old → more ≡ map_set f c → t ≡ join all more → IsGrown x c x' → old ≡ map_set f x → t ≡ map_set f x'
+map-after f x c x' old all more t copy first second h is = second ∙ (λ i. join ((copy ∙ is) i) (first i)) ∙ map-grown f x c x' h
 
-pub intersect-after : (x c x' y d y' old s t : List Row) → s ≡ join old (intersect_set c y') → t ≡ join s (intersect_set x' d) → IsGrown x c x' → IsGrown y d y' → old ≡ intersect_set x y → t ≡ intersect_set x' y'
-intersect-after x c x' y d y' old s t first second h k is = second ∙ (λ i. join ((first ∙ ap (λ (u : List Row). join u (intersect_set c y')) is) i) (intersect_set x' d)) ∙ intersect-grown x c x' y d y' h k
+pub filter-after : (p : Val → Bool) (x c x' old all more t : List Row) → IsAscending c → all ≡ old → more ≡ filter_set p c → t ≡ join all more → IsGrown x c x' → old ≡ filter_set p x → t ≡ filter_set p x'
+filter-after p x c x' old all more t up copy first second h is = second ∙ (λ i. join ((copy ∙ is) i) (first i)) ∙ filter-grown p x c x' up h

@@ -4,7 +4,7 @@ use Rattle.model_values.specs.Value.{Val}
 use Rattle.model_values.specs.Row.{Row}
 use Rattle.model_sets.specs.Rows.{IsAscending, put, join, of_rows, is_of}
 use Rattle.model_sets.specs.Equations.{met, moved, filter_set}
-use Rattle.model_sets.proofs.RowLaws.{ascending-put, ascending-join, ascending-of_rows, join-append, join-row, join-nothing, join-of_rows}
+use Rattle.model_sets.proofs.RowLaws.{ascending-put, ascending-join, ascending-of_rows, join-append, join-row, join-nothing, join-of_rows, of_rows-ascending}
 use Rattle.model_sets.proofs.LoopLaws.{length-join}
 use Rattle.lasp_orset.proofs.PieceLaws.{ascending-left}
 use Rattle.lasp_setops.specs.declared.refused.SetRefused.{SetRefused}
@@ -76,6 +76,10 @@ pub passed-on : (r : Result (Unit {0}) SetRefused) (e t : SetRefused) → IsErrA
 passed-on (Ok x) e t h k = cc
 passed-on (Err y) e t h k = cc
 
+pub passed-on-set : {A : Type 0} (r : Result A SetRefused) (e t : SetRefused) → IsErrAnd r (λ x. x ≡ e) → r ≡ Err t → e ≡ t
+passed-on-set (Ok x) e t h k = cc
+passed-on-set (Err y) e t h k = cc
+
 -- ---- rows that are kept as they are
 
 pub kept-ascends : (whole done left : List Row) (r : Row) → IsAscending whole → done ++ r ∷ left ≡ whole → IsAscending (done ++ r ∷ [])
@@ -96,10 +100,13 @@ first-kept p s rows x none same = λ i. none i ++ filter_set p (same i)
 
 -- a row that passes goes behind those so far, and one that doesn't is left out
 pub next-kept : (p : Val → Bool) (s rows rest x : List Row) (r : Row) (v : Val) → rows ≡ r ∷ rest → v ≡ r.0.0 → p v ≡ true → s ++ filter_set p rows ≡ filter_set p x → s ++ r ∷ filter_set p rest ≡ filter_set p x
-next-kept p s rows rest x r v at is yes h = (λ i. s ++ cond (sym (ap p (sym is) ∙ yes) i) (r ∷ filter_set p rest) (filter_set p rest)) ∙ ap (λ (t : List Row). s ++ filter_set p t) (sym at) ∙ h
+next-kept p s rows rest x r v at is passed h = (λ i. s ++ cond (sym (ap p (sym is) ∙ passed) i) (r ∷ filter_set p rest) (filter_set p rest)) ∙ ap (λ (t : List Row). s ++ filter_set p t) (sym at) ∙ h
 
 pub next-left : (p : Val → Bool) (s rows rest x : List Row) (r : Row) (v : Val) → rows ≡ r ∷ rest → v ≡ r.0.0 → p v ≡ false → s ++ filter_set p rows ≡ filter_set p x → s ++ filter_set p rest ≡ filter_set p x
-next-left p s rows rest x r v at is no_it h = (λ i. s ++ cond (sym (ap p (sym is) ∙ no_it) i) (r ∷ filter_set p rest) (filter_set p rest)) ∙ ap (λ (t : List Row). s ++ filter_set p t) (sym at) ∙ h
+next-left p s rows rest x r v at is failed h = (λ i. s ++ cond (sym (ap p (sym is) ∙ failed) i) (r ∷ filter_set p rest) (filter_set p rest)) ∙ ap (λ (t : List Row). s ++ filter_set p t) (sym at) ∙ h
+
+pub pushed-kept : (p : Val → Bool) (s t rest x : List Row) (r q : Row) → t ≡ s ++ q ∷ [] → q ≡ r → s ++ r ∷ filter_set p rest ≡ filter_set p x → t ++ filter_set p rest ≡ filter_set p x
+pushed-kept p s t rest x r q new is h = (λ i. (new ∙ ap (λ (z : Row). s ++ z ∷ []) is) i ++ filter_set p rest) ∙ append_assoc s (r ∷ []) (filter_set p rest) ∙ h
 
 behind-nothing : (s : List Row) → s ++ [] ≡ s
 behind-nothing [] = refl
@@ -107,3 +114,28 @@ behind-nothing (r ∷ s) = ap (λ (t : List Row). r ∷ t) (behind-nothing s)
 
 pub last-kept : (p : Val → Bool) (s rows x : List Row) → rows ≡ [] → s ++ filter_set p rows ≡ filter_set p x → s ≡ filter_set p x
 last-kept p s rows x none h = sym (behind-nothing s) ∙ ap (λ (t : List Row). s ++ filter_set p t) (sym none) ∙ h
+
+-- ---- what is joined into a fresh set, and the length along two steps
+
+pub join-fresh : (s t : List Row) → s ≡ [] → IsAscending t → join s t ≡ t
+join-fresh s t none up = (λ i. join (none i) t) ∙ of_rows-ascending t up
+
+pub long-fresh : (n : ℕ) (s t : List Row) → s ≡ [] → IsAscending t → n < length (join s t) → n < length t
+long-fresh n s t none up h = subst (λ (u : List Row). n < length u) (join-fresh s t none up) h
+
+pub long-old : (n : ℕ) (old a b whole : List Row) → IsAscending old → join (join old a) b ≡ whole → n < length old → n < length whole
+long-old n old a b whole up is h =
+    let same : length (join (join old a) b) ≡ length whole = ap length is in
+    omega (arith, h, same, length-grows old a up, length-grows (join old a) b (ascending-join old a))
+
+pub long-first : (n : ℕ) (all old a b whole : List Row) → all ≡ old → join (join old a) b ≡ whole → n < length (join all a) → n < length whole
+long-first n all old a b whole copy is h =
+    let same : length (join (join old a) b) ≡ length whole = ap length is in
+    let first : length (join all a) ≡ length (join old a) = ap (λ (s : List Row). length (join s a)) copy in
+    omega (arith, h, same, first, length-grows (join old a) b (ascending-join old a))
+
+pub long-second : (n : ℕ) (s all old a b whole : List Row) → s ≡ join all a → all ≡ old → join (join old a) b ≡ whole → n < length (join s b) → n < length whole
+long-second n s all old a b whole first copy is h = subst (λ (u : List Row). n < length u) ((λ i. join ((first ∙ ap (λ (u : List Row). join u a) copy) i) b) ∙ is) h
+
+pub two-steps : (all s t old a b whole : List Row) → all ≡ old → s ≡ join all a → t ≡ join s b → join (join old a) b ≡ whole → t ≡ whole
+two-steps all s t old a b whole copy first second is = second ∙ (λ i. join ((first ∙ ap (λ (u : List Row). join u a) copy) i) b) ∙ is

@@ -40,27 +40,27 @@ width-union w u x y h k = record { values = λ v t has. value v t ((union-has x 
 pub width-product : (w u : ℕ) (x y : List Row) → IsSetOfWidth w x → IsSetOfWidth u y → IsSetOfWidth (w + u) (product_set x y)
 width-product w u x y h k = record {
   values = λ v t has.
-    let o = product-only x y v t has in
-    let b = (product-has x y o.0 o.1 o.2 o.3).0 (subst (λ (z : Val). HasRow (product_set x y) z (both o.2 o.3)) o.4 (subst (λ (z : Tok). HasRow (product_set x y) v z) o.5 has)) in
-    let a = h.values o.0 o.2 b.0 in
-    let c = k.values o.1 o.3 b.1 in
-    subst (λ (z : Val). IsOfWidth (w + u) z) (sym o.4) (record { leaves = omega (arith, a.leaves, c.leaves); bytes = omega (arith, a.bytes, c.bytes) });
+      let o = product-only x y v t has in
+      let b = (product-has x y o.0 o.1 o.2 o.3).0 (subst (λ (z : Val). HasRow (product_set x y) z (both o.2 o.3)) o.4 (subst (λ (z : Tok). HasRow (product_set x y) v z) o.5 has)) in
+      let a = h.values o.0 o.2 b.0 in
+      let c = k.values o.1 o.3 b.1 in
+      subst (λ (z : Val). IsOfWidth (w + u) z) (sym o.4) (record { leaves = omega (arith, a.leaves, c.leaves); bytes = omega (arith, a.bytes, c.bytes) });
   tokens = λ v t has.
-    let o = product-only x y v t has in
-    let b = (product-has x y o.0 o.1 o.2 o.3).0 (subst (λ (z : Val). HasRow (product_set x y) z (both o.2 o.3)) o.4 (subst (λ (z : Tok). HasRow (product_set x y) v z) o.5 has)) in
-    subst (λ (z : Tok). IsTokenOfWidth (w + u) z) (sym o.5) (omega (arith, h.tokens o.0 o.2 b.0, k.tokens o.1 o.3 b.1));
+      let o = product-only x y v t has in
+      let b = (product-has x y o.0 o.1 o.2 o.3).0 (subst (λ (z : Val). HasRow (product_set x y) z (both o.2 o.3)) o.4 (subst (λ (z : Tok). HasRow (product_set x y) v z) o.5 has)) in
+      subst (λ (z : Tok). IsTokenOfWidth (w + u) z) (sym o.5) (omega (arith, h.tokens o.0 o.2 b.0, k.tokens o.1 o.3 b.1));
 }
 
 pub width-intersection : (w u : ℕ) (x y : List Row) → IsSetOfWidth w x → IsSetOfWidth u y → IsSetOfWidth (w + u) (intersect_set x y)
 width-intersection w u x y h k = record {
   values = λ v t has.
-    let o = intersect-only x y v t has in
-    let b = (intersect-has x y v o.0 o.1).0 (subst (λ (z : Tok). HasRow (intersect_set x y) v z) o.2 has) in
-    wider w (w + u) v (omega arith) (h.values v o.0 b.0);
+      let o = intersect-only x y v t has in
+      let b = (intersect-has x y v o.0 o.1).0 (subst (λ (z : Tok). HasRow (intersect_set x y) v z) o.2 has) in
+      wider w (w + u) v (omega arith) (h.values v o.0 b.0);
   tokens = λ v t has.
-    let o = intersect-only x y v t has in
-    let b = (intersect-has x y v o.0 o.1).0 (subst (λ (z : Tok). HasRow (intersect_set x y) v z) o.2 has) in
-    subst (λ (z : Tok). IsTokenOfWidth (w + u) z) (sym o.2) (omega (arith, h.tokens v o.0 b.0, k.tokens v o.1 b.1));
+      let o = intersect-only x y v t has in
+      let b = (intersect-has x y v o.0 o.1).0 (subst (λ (z : Tok). HasRow (intersect_set x y) v z) o.2 has) in
+      subst (λ (z : Tok). IsTokenOfWidth (w + u) z) (sym o.2) (omega (arith, h.tokens v o.0 b.0, k.tokens v o.1 b.1));
 }
 
 -- ---- along a pass over rows

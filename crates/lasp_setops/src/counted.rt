@@ -14,12 +14,7 @@ use lasp_orset::OrSet;
 use std::alloc::{AllocError, Global};
 
 /// The map by the function at a place, with at most one call for each row.
-pub fn map_counted(
-    alloc: Global,
-    lib: &mut StepLib,
-    f: u32,
-    x: &OrSet,
-) -> Result<OrSet, AllocError>
+pub fn map_counted(alloc: Global, lib: &mut StepLib, f: u32, x: &OrSet) -> Result<OrSet, AllocError>
     requires place { f < length (maps_of (library_of lib.old)) }
     requires width { IsSetOfWidth 16 x.now }
     ensures ok { IfOk result (λ s. s ≡ map_set (mapped (map_ops_at (library_of lib.old) f)) x.now) }

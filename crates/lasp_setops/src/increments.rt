@@ -12,10 +12,9 @@ ghost use Rattle.lasp_setops.specs.Width.{IsSetOfWidth};
 ghost use Rattle.lasp_setops.specs.Grown.{IsGrown};
 
 use crate::counted::{filter_counted, map_counted};
-use crate::intersection;
-use crate::product;
 use crate::refused::SetRefused;
-use crate::row::MOST_ROWS;
+use crate::row::check_rows;
+use crate::{intersection, product};
 use lasp_fns::StepLib;
 use lasp_orset::OrSet;
 use std::alloc::{AllocError, Global};
@@ -61,11 +60,7 @@ pub fn filter_increment(
 }
 
 /// The union after changes of its inputs, from the union before.
-pub fn union_increment(
-    old: &OrSet,
-    x_change: &OrSet,
-    y_change: &OrSet,
-) -> Result<OrSet, SetRefused>
+pub fn union_increment(old: &OrSet, x_change: &OrSet, y_change: &OrSet) -> Result<OrSet, SetRefused>
     ensures ok { IfOk result (λ s. (x x_after y y_after : List Row) → IsGrown x x_change.now x_after → IsGrown y y_change.now y_after → old.now ≡ union_set x y → s ≡ union_set x_after y_after) }
     ensures small { IfOk result (λ s. length s ≤ row_limit) }
     ensures too_many { result ≡ Err SetRefused.TooManyRows → (x x_after y y_after : List Row) → IsGrown x x_change.now x_after → IsGrown y y_change.now y_after → old.now ≡ union_set x y → row_limit < length (union_set x_after y_after) }
@@ -73,9 +68,7 @@ pub fn union_increment(
     let mut all = old.try_clone()?;
     all.join_in(x_change)?;
     all.join_in(y_change)?;
-    if all.rows() > MOST_ROWS {
-        return Err(SetRefused::TooManyRows);
-    }
+    check_rows(&all)?;
     Ok(all)
 }
 
@@ -92,9 +85,8 @@ pub fn product_increment(
     ensures small { IfOk result (λ s. length s ≤ row_limit) }
     ensures too_many { result ≡ Err SetRefused.TooManyRows → (x_before y_before : List Row) → IsGrown x_before x_change.now x.now → IsGrown y_before y_change.now y.now → old.now ≡ product_set x_before y_before → row_limit < length (product_set x.now y.now) }
 {
-    if old.rows() > MOST_ROWS {
-        return Err(SetRefused::TooManyRows);
-    }
+    old.ascends();
+    check_rows(old)?;
     let mut all = old.try_clone()?;
     product::add_first(alloc, &mut all, x_change, y)?;
     product::add_second(alloc, &mut all, x, y_change)?;
@@ -114,9 +106,8 @@ pub fn intersect_increment(
     ensures small { IfOk result (λ s. length s ≤ row_limit) }
     ensures too_many { result ≡ Err SetRefused.TooManyRows → (x_before y_before : List Row) → IsGrown x_before x_change.now x.now → IsGrown y_before y_change.now y.now → old.now ≡ intersect_set x_before y_before → row_limit < length (intersect_set x.now y.now) }
 {
-    if old.rows() > MOST_ROWS {
-        return Err(SetRefused::TooManyRows);
-    }
+    old.ascends();
+    check_rows(old)?;
     let mut all = old.try_clone()?;
     intersection::add_first(alloc, &mut all, x_change, y)?;
     intersection::add_second(alloc, &mut all, x, y_change)?;

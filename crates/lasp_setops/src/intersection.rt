@@ -94,12 +94,7 @@ fn meet_each(alloc: Global, out: &mut OrSet, x: &OrSet, row: &Entry) -> Result<(
 }
 
 /// Joins in two rows as one, where they have one value.
-fn meet(
-    alloc: Global,
-    out: &mut OrSet,
-    row: &Entry,
-    other: &Entry,
-) -> Result<(), SetRefused>
+fn meet(alloc: Global, out: &mut OrSet, row: &Entry, other: &Entry) -> Result<(), SetRefused>
     requires { length out.old ≤ row_limit }
     ensures ok { OnOk result (out.new ≡ join out.old (meetings row.now other.now)) }
     ensures small { OnOk result (length out.new ≤ row_limit) }

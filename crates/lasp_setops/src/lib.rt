@@ -24,3 +24,5 @@ pub use product::product_sets;
 pub use refused::SetRefused;
 pub use union::union_sets;
 
+#[cfg(test)]
+mod tests;

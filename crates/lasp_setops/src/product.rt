@@ -73,7 +73,7 @@ fn pair_with(alloc: Global, out: &mut OrSet, row: &Entry, y: &OrSet) -> Result<(
     let mut others = y.iter();
     while let Some(other) = others.next() {
         let pair = paired(alloc, row, other)?;
-            add_within(out, pair)?;
+        add_within(out, pair)?;
     }
     Ok(())
 }
@@ -89,7 +89,7 @@ fn pair_each(alloc: Global, out: &mut OrSet, x: &OrSet, row: &Entry) -> Result<(
     let mut others = x.iter();
     while let Some(other) = others.next() {
         let pair = paired(alloc, other, row)?;
-            add_within(out, pair)?;
+        add_within(out, pair)?;
     }
     Ok(())
 }

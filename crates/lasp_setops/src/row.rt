@@ -14,7 +14,7 @@ use lasp_value::{Token, Value};
 use std::alloc::{AllocError, Global};
 
 /// The most rows that a set variable may have, dead ones counted.
-pub(crate) const MOST_ROWS: u64 = 65_536;
+const MOST_ROWS: u64 = 65_536;
 
 /// The row with another value.
 pub(crate) fn with_value(alloc: Global, row: &Entry, value: Value) -> Result<Entry, AllocError>
@@ -59,7 +59,15 @@ pub(crate) fn add_within(out: &mut OrSet, entry: Entry) -> Result<(), SetRefused
     ensures too_many { result ≡ Err SetRefused.TooManyRows → row_limit < length (put entry out.old) }
 {
     out.add(entry)?;
-    if out.rows() > MOST_ROWS {
+    check_rows(out)
+}
+
+/// Refuses a set of too many rows.
+pub(crate) fn check_rows(set: &OrSet) -> Result<(), SetRefused>
+    ensures ok { OnOk result (length set.now ≤ row_limit) }
+    ensures too_many { result ≡ Err SetRefused.TooManyRows → row_limit < length set.now }
+{
+    if set.rows() > MOST_ROWS {
         return Err(SetRefused::TooManyRows);
     }
     Ok(())

@@ -5,7 +5,7 @@ ghost use Rattle.model_sets.specs.Rows.{join};
 ghost use Rattle.model_states.specs.Content.{row_limit};
 
 use crate::refused::SetRefused;
-use crate::row::MOST_ROWS;
+use crate::row::check_rows;
 use lasp_orset::OrSet;
 use std::alloc::AllocError;
 
@@ -16,9 +16,7 @@ pub fn union_sets(x: &OrSet, y: &OrSet) -> Result<OrSet, SetRefused>
     ensures too_many { result ≡ Err SetRefused.TooManyRows → row_limit < length (join x.now y.now) }
 {
     let all = joined(x, y)?;
-    if all.rows() > MOST_ROWS {
-        return Err(SetRefused::TooManyRows);
-    }
+    check_rows(&all)?;
     Ok(all)
 }
 

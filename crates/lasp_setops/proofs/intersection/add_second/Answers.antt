@@ -24,4 +24,3 @@ returns-in_err-meet_each-clause-too_many c =
 pub returns-clause-ok : goal.returns-clause-ok
 returns-clause-ok c =
     last-rows (λ q. flat_map (λ r. meetings r q) c.args.x.now) c.loop-row.out c.loop-row.rows (join c.args.out.now (intersect_set c.args.x.now c.args.y.now)) c.in_default.ensures.none c.loop-row.invariant.0
-

@@ -19,4 +19,3 @@ returns-clause-ok c =
 pub returns-clause-too_many : goal.returns-clause-too_many
 returns-clause-too_many c =
     λ h. meet-long row_limit c.args.row.now c.args.other.now c.in_ok-meeting.meeting c.args.out.now c.ascends.ensures (ap (λ (v : Val). is_of v c.args.other.now) (sym c.value.ensures) ∙ sym c.is_of.ensures ∙ c.if-not-is_of.false) c.in_ok-meeting.ensures (c.add_within.ensures.too_many h)
-

@@ -9,9 +9,11 @@ use Rattle.lasp_setops.proofs.SwapLaws.{meetings-near}
 use Rattle.lasp_setops.proofs.intersection.meet_with.Goals as goal
 
 pub loop-other-init : goal.loop-other-init
-loop-other-init c =
-    (first-rows (flat_map (meetings c.args.row.now) c.args.y.now) (flat_map (meetings c.args.row.now) c.rows_near-others.result) (join c.args.out.now (flat_map (meetings c.args.row.now) c.args.y.now)) c.args.out.now
-    (meetings-near c.args.row.now c.rows_near-others.result c.args.y.now (subst (λ (v : Val). filter (is_of v) c.rows_near-others.result ≡ filter (is_of v) c.args.y.now) c.value.ensures c.rows_near-others.ensures)) c.ascends.ensures refl, c.requires)
+loop-other-init c = (
+  first-rows (flat_map (meetings c.args.row.now) c.args.y.now) (flat_map (meetings c.args.row.now) c.rows_near-others.result) (join c.args.out.now (flat_map (meetings c.args.row.now) c.args.y.now)) c.args.out.now
+      (meetings-near c.args.row.now c.rows_near-others.result c.args.y.now (subst (λ (v : Val). filter (is_of v) c.rows_near-others.result ≡ filter (is_of v) c.args.y.now) c.value.ensures c.rows_near-others.ensures)) c.ascends.ensures refl,
+  c.requires,
+)
 
 pub loop-other-preserved : goal.loop-other-preserved
 loop-other-preserved c =
@@ -25,4 +27,3 @@ returns-in_err-meet-clause-too_many c =
 pub returns-clause-ok : goal.returns-clause-ok
 returns-clause-ok c =
     last-rows (meetings c.args.row.now) c.loop-other.out c.loop-other.others (join c.args.out.now (flat_map (meetings c.args.row.now) c.args.y.now)) c.in_default.ensures.none c.loop-other.invariant.0
-

@@ -25,4 +25,3 @@ loop-row-preserved g c =
 pub returns : goal.returns
 returns g c =
     last-row (moved (mapped (ops_of c.args.f.now))) c.loop-row.out c.loop-row.rows (map_set (mapped (ops_of c.args.f.now)) c.args.x.now) c.in_default.ensures.none c.loop-row.invariant.0
-

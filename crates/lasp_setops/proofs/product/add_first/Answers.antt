@@ -23,4 +23,3 @@ returns-in_err-pair_with-clause-too_many c =
 pub returns-clause-ok : goal.returns-clause-ok
 returns-clause-ok c =
     last-rows (λ r. map (paired r) c.args.y.now) c.loop-row.out c.loop-row.rows (join c.args.out.now (product_set c.args.x.now c.args.y.now)) c.in_default.ensures.none c.loop-row.invariant.0
-

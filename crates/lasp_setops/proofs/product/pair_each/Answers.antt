@@ -18,4 +18,3 @@ returns-in_err-add_within-clause-too_many c =
 pub returns-clause-ok : goal.returns-clause-ok
 returns-clause-ok c =
     last-row (λ r. paired r c.args.row.now) c.loop-other.out c.loop-other.others (join c.args.out.now (map (λ r. paired r c.args.row.now) c.args.x.now)) c.in_default.ensures.none c.loop-other.invariant.0
-
