@@ -3,22 +3,24 @@ use Rattle.std.proofs.Common.{◌≡◌, refl, ℕ, ◌+◌, Result, Ok, Err, If
 use Rattle.serde_json.specs.Data.{Data}
 use Rattle.model_graph.specs.Graph.{Decl}
 use Rattle.model_world.specs.Command.{Command, Script}
-use Rattle.model_readings.specs.declared.script_why.ScriptWhy.{ScriptWhy}
 use Rattle.model_readings.specs.Script.{next_read, commands_read, script_of}
 use Rattle.model_readings.specs.Lawful.{IsScript}
 use Rattle.model_readings.proofs.Scripts.{script-script_of}
 use Rattle.lasp_script.specs.declared.refused.ScriptRefused.{ScriptRefused}
-use Rattle.lasp_script.specs.Answers.{Gives}
+use Rattle.lasp_script.specs.declared.refused.CommandRefused.{CommandRefused}
+use Rattle.lasp_script.specs.declared.refused.CommandRefused.TheVariants.{Because, Memory}
+use Rattle.lasp_script.specs.Answers.{Causes, Fails, Gives, refused_at}
 
 pub commands_read-next : (g : List Decl) (nodes : ℕ) (before : List Command) (d : Data) (ds : List Data) (number : ℕ) (k : Command)
     → number ≡ length before + 1 → next_read g nodes number d ≡ Ok k → commands_read g nodes before (d ∷ ds) ≡ commands_read g nodes (before ++ k ∷ []) ds
 unfolding commands_read
 commands_read-next g nodes before d ds number k n e = rw (← n, e) refl
 
-pub commands_read-stop : (g : List Decl) (nodes : ℕ) (before : List Command) (d : Data) (ds : List Data) (number : ℕ) (why : ScriptWhy)
-    → number ≡ length before + 1 → next_read g nodes number d ≡ Err why → commands_read g nodes before (d ∷ ds) ≡ Err (number, why)
+pub commands_read-stop : (g : List Decl) (nodes : ℕ) (before : List Command) (d : Data) (ds : List Data) (number : ℕ) (e : CommandRefused)
+    → number ≡ length before + 1 → Causes e (next_read g nodes number d) → Fails (refused_at number e) (commands_read g nodes before (d ∷ ds))
 unfolding commands_read
-commands_read-stop g nodes before d ds number why n e = rw (← n, e) refl
+commands_read-stop g nodes before d ds number (Because why) n is = rw (← n, is) refl
+commands_read-stop g nodes before d ds number Memory n is = tt
 
 pub commands_read-end : (g : List Decl) (nodes : ℕ) (before : List Command) → commands_read g nodes before [] ≡ Ok before
 unfolding commands_read

@@ -1,4 +1,6 @@
 pub mod Command
+pub mod Coded
 pub mod Kept
+pub mod Source
 pub mod Word
 pub mod Answers

@@ -4,10 +4,13 @@
 #![tactic(auto)]
 
 mod command;
+mod payload;
+mod place;
 mod read;
 mod refused;
 mod script;
-mod value;
+mod source;
+mod update;
 mod word;
 
 pub use command::Command;

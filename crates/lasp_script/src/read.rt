@@ -1,23 +1,23 @@
 //! Reading a script: the tree of its bytes, the number of nodes, then command after command against the graph.
 
-ghost use Rattle.std.specs.Prelude.{◌≡◌, ◌<◌, [], ◌∷◌, length, map, IfOk, OnOk};
-ghost use Rattle.serde_json.specs.View.{view, number_view};
-ghost use Rattle.lasp_value.specs.Value.{val_of};
-ghost use Rattle.model_readings.specs.Script.{command_limit, node_of, place_read, orset_checked, change_read, word_read, command_read, next_read, commands_read, parts_read, tree_read, script_of};
+ghost use Rattle.std.specs.Prelude.{◌≡◌, ◌<◌, [], ◌∷◌, map, IfOk, OnOk};
+ghost use Rattle.serde_json.specs.View.{view};
+ghost use Rattle.model_readings.specs.Script.{command_limit, word_read, command_read, next_read, commands_read, parts_read, tree_read, script_of};
 ghost use Rattle.model_readings.specs.Lawful.{IsScript};
 ghost use Rattle.lasp_script.specs.Command.{command_of, commands_of};
-ghost use Rattle.lasp_script.specs.Word.{target_view, word_view};
-ghost use Rattle.lasp_script.specs.Answers.{Shows, Gives};
+ghost use Rattle.lasp_script.specs.Word.{word_view};
+ghost use Rattle.lasp_script.specs.Answers.{Answers, Gives};
 
 use super::command::Command;
-use super::refused::ScriptRefused;
+use super::place::read_place;
+use super::refused::{CommandRefused, ScriptRefused};
 use super::script::Script;
-use super::value::value_of;
-use super::word::{Target, Word, nodes_of, word_of};
-use lasp_graph::{Graph, Kind};
-use lasp_value::Value;
+use super::source::Source;
+use super::update::{read_change, read_raise, read_step};
+use super::word::{Word, nodes_of, word_of};
+use lasp_graph::Graph;
 use model_readings::ScriptWhy;
-use serde_json::{Number, Value as Json};
+use serde_json::Value as Json;
 use std::alloc::Global;
 
 /// How many commands a script may have, with the one that tells the nodes.
@@ -102,105 +102,70 @@ fn read_commands(
     let mut commands = Vec::new(alloc);
     for j in items {
         let number = commands.len() as u32 + 1;
-        match read_next(j, g, nodes, number) {
+        match read_next(alloc, j, g, nodes, number) {
             Ok(command) => commands.push(command)?,
-            Err(why) => return Err(ScriptRefused::At { number, why }),
+            Err(refused) => return Err(refused.at(number)),
         }
     }
     Ok(commands)
 }
 
 #[tactic(auto, unfolding(model_readings::specs::Script::next_read))]
-fn read_next(j: &Json, g: &Graph, nodes: u8, number: u32) -> Result<Command, ScriptWhy>
-    ensures exact { Shows command_of result (next_read g.now nodes number (view j.now)) }
+fn read_next(
+    alloc: Global,
+    j: &Json,
+    g: &Graph,
+    nodes: u8,
+    number: u32,
+) -> Result<Command, CommandRefused>
+    ensures exact { Answers command_of result (next_read g.now nodes number (view j.now)) }
     ensures room { OnOk result (number < command_limit) }
 {
-    let command = read_command(j, g, nodes)?;
+    let command = read_command(alloc, j, g, nodes)?;
     if number < COMMAND_LIMIT {
         Ok(command)
     } else {
-        Err(ScriptWhy::TooMany)
+        Err(CommandRefused::Because(ScriptWhy::TooMany))
     }
 }
 
 #[tactic(auto, unfolding(model_readings::specs::Script::command_read))]
-fn read_command(j: &Json, g: &Graph, nodes: u8) -> Result<Command, ScriptWhy>
-    ensures { Shows command_of result (command_read g.now nodes (view j.now)) }
+fn read_command(alloc: Global, j: &Json, g: &Graph, nodes: u8) -> Result<Command, CommandRefused>
+    ensures { Answers command_of result (command_read g.now nodes (view j.now)) }
 {
     match word_of(j) {
-        Some(word) => read_word(&word, g, nodes),
-        None => Err(ScriptWhy::Shape),
+        Some(word) => read_word(alloc, &word, g, nodes),
+        None => Err(CommandRefused::Because(ScriptWhy::Shape)),
     }
 }
 
-fn read_word(word: &Word, g: &Graph, nodes: u8) -> Result<Command, ScriptWhy>
-    ensures { Shows command_of result (word_read g.now nodes (word_view word.now)) }
+fn read_word(alloc: Global, word: &Word, g: &Graph, nodes: u8) -> Result<Command, CommandRefused>
+    ensures { Answers command_of result (word_read g.now nodes (word_view word.now)) }
 {
     match word {
         Word::Add(target, value) => {
-            let (node, var, value) = read_change(target, value, g, nodes)?;
+            let (node, var, value) = read_change(alloc, Source::OrSet, target, value, g, nodes)?;
             Ok(Command::Add(node, var, value))
         }
         Word::Remove(target, value) => {
-            let (node, var, value) = read_change(target, value, g, nodes)?;
+            let (node, var, value) = read_change(alloc, Source::OrSet, target, value, g, nodes)?;
             Ok(Command::Remove(node, var, value))
+        }
+        Word::Insert(target, value) => {
+            let (node, var, value) = read_change(alloc, Source::GSet, target, value, g, nodes)?;
+            Ok(Command::Insert(node, var, value))
+        }
+        Word::Inc(target, count) => {
+            let (node, var, count) = read_step(target, count, g, nodes)?;
+            Ok(Command::Inc(node, var, count))
+        }
+        Word::Max(target, top) => {
+            let (node, var, top) = read_raise(target, top, g, nodes)?;
+            Ok(Command::Max(node, var, top))
         }
         Word::Print(target) => {
             let (node, var) = read_place(target, g, nodes)?;
             Ok(Command::Print(node, var))
         }
-    }
-}
-
-#[tactic(auto, unfolding(model_readings::specs::Script::change_read))]
-fn read_change(
-    target: &Target,
-    value: &Json,
-    g: &Graph,
-    nodes: u8,
-) -> Result<(u8, u8, Value), ScriptWhy>
-    ensures { Shows (λ c. (c.0, c.1, val_of c.2)) result (change_read g.now nodes (target_view target.now) (view value.now)) }
-{
-    let (node, var) = read_place(target, g, nodes)?;
-    check_orset(g, var)?;
-    match value_of(value) {
-        Some(value) => Ok((node, var, value)),
-        None => Err(ScriptWhy::ValueRefused),
-    }
-}
-
-#[tactic(auto, unfolding(model_readings::specs::Script::place_read))]
-fn read_place(target: &Target, g: &Graph, nodes: u8) -> Result<(u8, u8), ScriptWhy>
-    ensures exact { result ≡ place_read g.now nodes (target_view target.now) }
-    ensures within { IfOk result (λ place. place.1 < length g.now) }
-{
-    let Some(node) = node_of(target.node, nodes) else {
-        return Err(ScriptWhy::NoSuchNode);
-    };
-    match g.find(target.var) {
-        Some(var) => Ok((node, var)),
-        None => Err(ScriptWhy::UnknownVar),
-    }
-}
-
-#[tactic(auto, unfolding(model_readings::specs::Script::node_of))]
-fn node_of(n: &Number, nodes: u8) -> Option<u8>
-    ensures { result ≡ node_of nodes (number_view n.now) }
-{
-    let node = n.as_u64()?;
-    if node < nodes as u64 {
-        Some(node as u8)
-    } else {
-        None
-    }
-}
-
-fn check_orset(g: &Graph, var: u8) -> Result<(), ScriptWhy>
-    requires { var < length g.now }
-    ensures { result ≡ orset_checked g.now var }
-{
-    match g.at(var as u64).kind {
-        Kind::OrSet => Ok(()),
-        Kind::Union(_, _) => Err(ScriptWhy::WrongOp),
     }
 }

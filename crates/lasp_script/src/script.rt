@@ -16,7 +16,8 @@ pub struct Script {
 
 impl Model for Script {
     ghost use Rattle.model_world.specs.Command.{Script};
-    ghost use Rattle.lasp_script.specs.Kept.{coded_script, script_of_parts};
+    ghost use Rattle.lasp_script.specs.Coded.{coded_script};
+    ghost use Rattle.lasp_script.specs.Kept.{script_of_parts};
 
     ghost Value = { Script };
 

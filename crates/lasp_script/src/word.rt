@@ -1,11 +1,9 @@
 //! The forms of a command: what stands where, before any name is looked up.
 
 ghost use Rattle.std.specs.Prelude.{◌≡◌, option_map};
-ghost use Rattle.serde_json.specs.View.{view};
-ghost use Rattle.serde_json.specs.Find.{at};
-ghost use Rattle.model_readings.specs.Tree.{two};
-ghost use Rattle.model_readings.specs.Script.{add, remove, target_of, word_of, nodes_of};
-ghost use Rattle.lasp_script.specs.Word.{target_view, word_view};
+ghost use Rattle.serde_json.specs.View.{view, number_view};
+ghost use Rattle.model_readings.specs.Script.{target_of, word_of, nodes_of};
+ghost use Rattle.lasp_script.specs.Word.{target_view, word_view, value_parts, number_parts};
 
 use lasp_graph::{has_items, is_word_at, number_at, text_at};
 use serde_json::{Number, Value as Json};
@@ -25,6 +23,9 @@ pub struct Target<'a> {
 pub enum Word<'a> {
     Add(Target<'a>, &'a Json),
     Remove(Target<'a>, &'a Json),
+    Insert(Target<'a>, &'a Json),
+    Inc(Target<'a>, &'a Number),
+    Max(Target<'a>, &'a Number),
     Print(Target<'a>),
 }
 
@@ -45,41 +46,59 @@ pub fn nodes_of(j: &Json) -> Option<u8>
 }
 
 /// The command that a tree is the form of.
-#[tactic(auto, unfolding(model_readings::specs::Script::word_of))]
+#[tactic(auto, using(crate::proofs::Forms::forms), unfolding(model_readings::specs::Script::word_of, model_readings::specs::Script::place_form))]
 pub fn word_of(j: &Json) -> Option<Word<'_>>
     ensures { option_map word_view result ≡ word_of (view j.now) }
 {
     if is_word_at(j, 0, "add") {
-        if has_items(j, 4) { add_of(j) } else { None }
+        let (target, value) = value_parts(j)?;
+        Some(Word::Add(target, value))
     } else if is_word_at(j, 0, "remove") {
-        if has_items(j, 4) { remove_of(j) } else { None }
-    } else if is_word_at(j, 0, "print") {
-        if has_items(j, 3) {
-            target_of(j).map(Word::Print)
-        } else {
-            None
-        }
+        let (target, value) = value_parts(j)?;
+        Some(Word::Remove(target, value))
+    } else if is_word_at(j, 0, "insert") {
+        let (target, value) = value_parts(j)?;
+        Some(Word::Insert(target, value))
+    } else if is_word_at(j, 0, "inc") {
+        let (target, count) = number_parts(j)?;
+        Some(Word::Inc(target, count))
+    } else if is_word_at(j, 0, "max") {
+        let (target, top) = number_parts(j)?;
+        Some(Word::Max(target, top))
+    } else if is_word_at(j, 0, "print") && has_items(j, 3) {
+        target_of(j).map(Word::Print)
     } else {
         None
     }
 }
 
-fn add_of(j: &Json) -> Option<Word<'_>>
-    ensures { option_map word_view result ≡ two add (target_of (view j.now)) (at 3 (view j.now)) }
+/// What stands behind a word that brings a value.
+#[tactic(auto, unfolding(crate::specs::Word::value_parts))]
+fn value_parts(j: &Json) -> Option<(Target<'_>, &Json)>
+    ensures { option_map (λ p. (target_view p.0, view p.1.now)) result ≡ value_parts (view j.now) }
 {
+    if !has_items(j, 4) {
+        return None;
+    }
     let target = target_of(j)?;
     let value = j.get(3usize)?;
-    Some(Word::Add(target, value))
+    Some((target, value))
 }
 
-fn remove_of(j: &Json) -> Option<Word<'_>>
-    ensures { option_map word_view result ≡ two remove (target_of (view j.now)) (at 3 (view j.now)) }
+/// What stands behind a word that brings a number.
+#[tactic(auto, unfolding(crate::specs::Word::number_parts))]
+fn number_parts(j: &Json) -> Option<(Target<'_>, &Number)>
+    ensures { option_map (λ p. (target_view p.0, number_view p.1.now)) result ≡ number_parts (view j.now) }
 {
+    if !has_items(j, 4) {
+        return None;
+    }
     let target = target_of(j)?;
-    let value = j.get(3usize)?;
-    Some(Word::Remove(target, value))
+    let number = number_at(j, 3)?;
+    Some((target, number))
 }
 
+/// The node and the variable, which stand behind the word.
 fn target_of(j: &Json) -> Option<Target<'_>>
     ensures { option_map target_view result ≡ target_of (view j.now) }
 {

@@ -11,10 +11,10 @@ pub returns-in-Err : goal.returns-in-Err
 returns-in-Err c =
     let long : length (commands_of c.loop-j.commands.items) ≡ length c.loop-j.commands.items = length-map c.loop-j.commands.items command_of in
     let number : c.len.result + 1 ≡ length (commands_of c.loop-j.commands.items) + 1 = omega arith in
-    sym c.loop-j.invariant.read
-    ∙ ap (commands_read c.args.g.now c.args.nodes (commands_of c.loop-j.commands.items)) (next_item c.args.items.now c.loop-j.j-index c.j-item.result c.loop-j-test.true c.j-item.is)
-    ∙ commands_read-stop c.args.g.now c.args.nodes (commands_of c.loop-j.commands.items) (view c.j-item.result) (map view (drop (c.loop-j.j-index + 1) c.args.items.now))
-    (c.len.result + 1) c.in-Err.why number c.in-Err.ensures.exact
+    let whole = ap (commands_read c.args.g.now c.args.nodes (commands_of c.loop-j.commands.items)) (sym (next_item c.args.items.now c.loop-j.j-index c.j-item.result c.loop-j-test.true c.j-item.is)) ∙ c.loop-j.invariant.read in
+    rw (c.at.ensures, ← whole)
+    (commands_read-stop c.args.g.now c.args.nodes (commands_of c.loop-j.commands.items) (view c.j-item.result) (map view (drop (c.loop-j.j-index + 1) c.args.items.now))
+    (c.len.result + 1) c.in-Err.refused number c.in-Err.ensures.exact)
 
 pub loop-j-preserved : goal.loop-j-preserved
 loop-j-preserved c =
