@@ -16,7 +16,7 @@ eval_var-requires-clause-shapes g c = c.loop-var.invariant.shapes
 
 pub eval_var-requires-clause-width : goal.eval_var-requires-clause-width
 eval_var-requires-clause-width g c =
-    done-width c.args.g.now (drop c.loop-var.var c.args.g.now) c.args.sources.now c.loop-var.states c.loop-var.var c.len.ensures.graph c.requires.narrow c.loop-var.invariant.whole c.loop-var.invariant.long (omega arith)
+    done-width c.args.g.now (drop c.loop-var.var c.args.g.now) c.args.sources.now c.loop-var.states c.loop-var.var c.len-var-end.ensures.graph c.requires.narrow c.loop-var.invariant.whole c.loop-var.invariant.long (omega arith)
 
 pub eval_var-requires-clause-small : goal.eval_var-requires-clause-small
 eval_var-requires-clause-small g c = c.loop-var.invariant.small
