@@ -3,3 +3,4 @@ pub mod StepLaws
 pub mod RunLaws
 pub mod BindLaws
 pub mod CallLaws
+pub mod FedLaws

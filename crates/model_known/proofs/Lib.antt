@@ -9,3 +9,4 @@ pub mod DirectLaws
 pub mod KnownLaws
 pub mod AlikeLaws
 pub mod ReportLaws
+pub mod ExampleLaws
