@@ -18,9 +18,10 @@ use Rattle.model_known.specs.Owner.{delta_at}
 use Rattle.model_known.specs.Follow.{Followed, begin, follow_step, follow, pointed}
 use Rattle.model_known.specs.Holds.{Holds, Carries, Keeps, IsPlaceOf}
 use Rattle.model_known.proofs.MeasureLaws.{same_from_measures, measure-all, one, total-larger, first-has, first-low}
-use Rattle.model_known.proofs.HoldLaws.{known-ordered}
+use Rattle.model_known.proofs.VariableLaws.{known-ordered}
 use Rattle.model_known.proofs.SoundLaws.{first-none}
-use Rattle.model_known.proofs.PlayLaws.{bound, follow-play, place-sound}
+use Rattle.model_known.proofs.FollowLaws.{bound, follow-play}
+use Rattle.model_known.proofs.PlayLaws.{place-sound}
 use Rattle.model_known.proofs.PlaceLaws.{known_contents-at, holds-contents}
 
 pub known-larger : (g : List Decl) (nodes : ℕ) (all : List (List Delta)) (cs ds : List ℕ) (x : ℕ) → known g nodes all (larger cs ds) x ≡ join_contents (known g nodes all cs x) (known g nodes all ds x)

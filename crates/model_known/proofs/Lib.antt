@@ -1,8 +1,12 @@
 pub mod MeasureLaws
 pub mod EffectLaws
+pub mod VariableLaws
+pub mod UpdateLaws
 pub mod HoldLaws
 pub mod TokenLaws
 pub mod SoundLaws
+pub mod FollowLaws
+pub mod RoundLaws
 pub mod PlayLaws
 pub mod PlaceLaws
 pub mod DirectLaws

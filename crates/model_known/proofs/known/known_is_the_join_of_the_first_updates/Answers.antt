@@ -1,4 +1,4 @@
-use Rattle.model_known.proofs.HoldLaws.{known-ordered}
+use Rattle.model_known.proofs.VariableLaws.{known-ordered}
 use Rattle.model_known.proofs.KnownLaws.{first-place}
 use Rattle.model_known.proofs.known.known_is_the_join_of_the_first_updates.Goals as goal
 
