@@ -1,12 +1,10 @@
--- The data of the programs, as plain data.
-
+-- The code of contents, by which a type of the program has them as its plain data.
+use Rattle.std.specs.Prelude.{refl, List, ℕ, ℤ, Option}
 use Rattle.std.specs.Coded.{Coded, code_by, coded×, coded_list, coded_option, coded_ℕ, coded_ℤ}
 use Rattle.model_values.specs.Value.{Val, coded_val}
 use Rattle.model_values.specs.Row.{Row, coded_rows}
 use Rattle.model_states.specs.Content.{Content}
-use Rattle.std.specs.Prelude.{refl, List, ℕ, ℤ, Option}
 
--- the code of contents
 abbrev pub coded_content : Coded Content
 coded_content =
     code_by (List Row × (List Val × (List ℕ × Option ℤ))) (coded× coded_rows (coded× (coded_list coded_val) (coded× (coded_list coded_ℕ) (coded_option coded_ℤ)))) (λ s. (s.rows, (s.values, (s.counts, s.top))))
