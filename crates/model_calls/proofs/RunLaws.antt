@@ -78,9 +78,6 @@ record CommandFits (nodes : ℕ) (f : Followed) (many : List world.Act) : Type 0
   all : AllFit nodes f many
   one : all_updates many ≤ 1
 
-not-joined : (f : Followed) (x : ℕ) (op : Op) → ((s : Content) → op ≡ Join s → ⊥) → (s : Content) → op ≡ Join s → AreOwned f.deltas x s.rows
-not-joined f x op n s e = absurd (n s e)
-
 update-fits : (nodes : ℕ) (f : Followed) (p x : ℕ) (op : Op) → FitsLawfully nodes f (world.Update p x op) → CommandFits nodes f (world.Update p x op ∷ [])
 update-fits nodes f p x op h = record { all = (h, tt); one = omega arith }
 

@@ -4,7 +4,7 @@ use Rattle.model_values.specs.Value.{Val, pair}
 use Rattle.model_values.specs.Token.{Tok, both}
 use Rattle.model_values.specs.Size.{IsOfWidth, IsTokenOfWidth}
 use Rattle.model_functions.specs.Map.{mapped}
-use Rattle.model_functions.proofs.MapLaws.{mapped-width}
+pub use Rattle.model_functions.proofs.MapLaws.{mapped-width}
 use Rattle.model_functions.specs.Predicate.{passes}
 use Rattle.model_sets.specs.Rows.{HasRow}
 use Rattle.model_sets.proofs.WordLaws.{map-has, filter-has, union-has, product-has, product-only, intersect-has, intersect-only}

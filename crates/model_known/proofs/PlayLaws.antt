@@ -48,9 +48,6 @@ calm-afters nodes f (Extend d ∷ rest) h s = absurd h.0
 
 -- ---- the commands
 
-plain-op : (f : Followed) (x : ℕ) (op : Op) → ((t : Content) → op ≡ Join t → ⊥) → (t : Content) → op ≡ Join t → AreOwned f.deltas x t.rows
-plain-op f x op n t e = absurd (n t e)
-
 pub source-of : (g : List Decl) (x : ℕ) (k : Kind) → IsTrue (is_source k) → kind_at g x ≡ k → IsTrue (is_source (kind_at g x))
 source-of g x k source e = subst (λ (c : Kind). IsTrue (is_source c)) (sym e) source
 
