@@ -10,17 +10,18 @@ use Rattle.model_world.specs.World.{Run, peer_at, start, acts, step, ended}
 use Rattle.model_world.specs.declared.stop.Stop.{Stop}
 use Rattle.model_known.specs.Follow.{Followed, follow_step, follow, begin}
 use Rattle.model_known.specs.Holds.{Holds, IsPlaceOf}
-use Rattle.model_known.proofs.HoldLaws.{known-derived}
+use Rattle.model_known.proofs.VariableLaws.{known-derived}
 use Rattle.model_known.proofs.KnownLaws.{end-place}
-use Rattle.model_known.proofs.PlayLaws.{bound, place-sound}
+use Rattle.model_known.proofs.FollowLaws.{bound}
+use Rattle.model_known.proofs.PlayLaws.{place-sound}
 use Rattle.model_journal.specs.Entry.{Entry}
 use Rattle.model_journal.specs.Journal.{graph, vals, val, counts, sources_from, sources}
 use Rattle.model_journal.specs.Legal.{IsLegal}
 use Rattle.model_journal.proofs.GainLaws.{least_of-derived}
 use Rattle.model_journal.proofs.JournalLaws.{journal-good}
 use Rattle.model_calls.specs.Calls.{frame_of, calls_of_acts, when_done, calls, unbound}
-use Rattle.model_calls.proofs.TiedLaws.{append-again}
-use Rattle.model_calls.proofs.StepLaws.{Ties}
+use Rattle.model_calls.proofs.MatchLaws.{append-again}
+use Rattle.model_calls.proofs.TieLaws.{Ties}
 use Rattle.model_calls.proofs.RunLaws.{done-is, place-ties}
 use Rattle.model_calls.proofs.BindLaws.{unbound-graph, unbound-counts, unbound-val}
 

@@ -1,5 +1,8 @@
-pub mod TiedLaws
+pub mod MatchLaws
+pub mod TieLaws
 pub mod StepLaws
+pub mod RoundLaws
 pub mod RunLaws
 pub mod BindLaws
 pub mod CallLaws
+pub mod FedLaws

@@ -1,13 +1,12 @@
 -- Each lawful command that is done keeps every node tied to the journal of its calls, and so does a whole run.
-use Rattle.std.proofs.Common.{◌≡◌, ℕ, zero, suc, ◌+◌, ◌≤◌, ◌<◌, Bool, true, false, cond, not, ◌==◌, IsTrue, List, [], ◌∷◌, ◌++◌, length, map, filter, flat_map, Result, Ok, Err, refl, sym, ap, subst, ◌∙◌, arith}
-use Rattle.std.specs.List.{range_with_len}
+use Rattle.std.proofs.Common.{◌≡◌, ℕ, suc, ◌+◌, ◌≤◌, ◌<◌, IsTrue, List, [], ◌∷◌, ◌++◌, length, Result, Ok, Err, refl, sym, ap, subst, ◌∙◌, arith}
 use Rattle.model_states.specs.Content.{Content}
 use Rattle.model_states.specs.Update.{Op, Add, Remove, Insert, Inc, Max, Join}
 use Rattle.model_graph.specs.Chain.{◌>>=◌}
 use Rattle.model_graph.specs.Graph.{Kind, Decl, is_source, kind_at}
 use Rattle.model_graph.specs.Graph as graph
 use Rattle.model_graph.specs.Lawful.{IsGraph}
-use Rattle.model_graph.proofs.PlaceLaws.{length-push, at-replicate}
+use Rattle.model_graph.proofs.PlaceLaws.{at-replicate}
 use Rattle.model_world.specs.Command as command
 use Rattle.model_world.specs.Command.{Command}
 use Rattle.model_world.specs.Lawful.{Stage, opening_stage, stage_after, MayBeDone, AreLawful}
@@ -19,12 +18,15 @@ use Rattle.model_known.specs.Holds.{IsPlaceOf}
 use Rattle.model_known.specs.Owner.{AreOwned}
 use Rattle.model_known.proofs.EffectLaws.{followed, follow-effect}
 use Rattle.model_known.proofs.SoundLaws.{sound-begin, no-deltas}
-use Rattle.model_known.proofs.PlayLaws.{bound, each-run, stage_of, mark-owned, source-of, step-sound}
+use Rattle.model_known.proofs.FollowLaws.{bound, each-run}
+use Rattle.model_known.proofs.PlayLaws.{stage_of, mark-owned, source-of, step-sound}
 use Rattle.model_journal.specs.Entry.{Entry}
 use Rattle.model_journal.specs.Legal.{count_limit, IsValid}
 use Rattle.model_calls.specs.Calls.{frame_of, call_of, when_done, calls_of_acts, calls}
-use Rattle.model_calls.proofs.TiedLaws.{append-again}
-use Rattle.model_calls.proofs.StepLaws.{Ties, Tied, FitsLawfully, updates, nothing-new, tied-update, tied-take, tied-keep, tied-post, tied-extend}
+use Rattle.model_calls.proofs.MatchLaws.{append-again}
+use Rattle.model_calls.proofs.TieLaws.{Ties, Tied}
+use Rattle.model_calls.proofs.StepLaws.{FitsLawfully, updates, nothing-new, tied-update, tied-take, tied-keep, tied-post, tied-extend}
+use Rattle.model_calls.proofs.RoundLaws.{AllFit, IsRound, all_updates, round-fits, round-updates, sync-round}
 
 -- ---- one act
 
@@ -51,14 +53,6 @@ tied-effect opening nodes done c h f (world.Extend d) next t may e limit =
 
 -- ---- acts one after the other
 
-abbrev AllFit : ℕ → Followed → List world.Act → Type 0
-AllFit nodes f [] = Unit {0}
-AllFit nodes f (a ∷ rest) = FitsLawfully nodes f a × AllFit nodes (followed f a) rest
-
-abbrev all_updates : List world.Act → ℕ
-all_updates [] = 0
-all_updates (a ∷ rest) = updates a + all_updates rest
-
 tied-each : (opening : List Decl) (nodes done c : ℕ) (h : ℕ → List Entry) (f last : Followed) (many : List world.Act) → Tied opening nodes done h f → AllFit nodes f many → follow_each c f many ≡ Ok last → done + all_updates many ≤ count_limit
     → Tied opening nodes (done + all_updates many) (λ q. h q ++ calls_of_acts c f.run q many) last
 tied-each opening nodes done c h f last [] t may e limit =
@@ -78,90 +72,11 @@ tied-each opening nodes done c h f last (a ∷ rest) t may e limit =
     let count : (done + updates a) + all_updates rest ≡ done + (updates a + all_updates rest) = omega arith in
     subst (λ (k : ℕ → List Entry). Tied opening nodes (done + (updates a + all_updates rest)) k last) (λ i q. whole q i) (subst (λ (n : ℕ). Tied opening nodes n (λ q. (h q ++ call_of f.run q a) ++ calls_of_acts c mid.run q rest) last) count later)
 
--- ---- a round of sends and deliveries
-
--- sends of nodes, and deliveries of messages that were sent, where so many were sent before
-abbrev IsRound : ℕ → ℕ → List world.Act → Type 0
-IsRound nodes sent [] = Unit {0}
-IsRound nodes sent (world.Post p ∷ rest) = (p < nodes) × IsRound nodes (sent + 1) rest
-IsRound nodes sent (world.Take p i ∷ rest) = (i < sent) × IsRound nodes sent rest
-IsRound nodes sent (a ∷ rest) = ⊥
-
-round-fits : (nodes : ℕ) (f : Followed) (many : List world.Act) → IsRound nodes (length f.run.sent) many → AllFit nodes f many
-round-fits nodes f [] r = tt
-round-fits nodes f (world.Post p ∷ rest) r =
-    (r.0, round-fits nodes (followed f (world.Post p)) rest (subst (λ (n : ℕ). IsRound nodes n rest) (sym (length-push f.run.sent (message_at f.run.graph (peer_at f.run.peers p)))) r.1))
-round-fits nodes f (world.Take p i ∷ rest) r = (r.0, round-fits nodes (followed f (world.Take p i)) rest r.1)
-round-fits nodes f (world.Update p x op ∷ rest) r = absurd r
-round-fits nodes f (world.Keep p x ∷ rest) r = absurd r
-round-fits nodes f (world.Point ∷ rest) r = absurd r
-round-fits nodes f (world.Show p x ∷ rest) r = absurd r
-round-fits nodes f (world.Open p x until ∷ rest) r = absurd r
-round-fits nodes f (world.Reach p x until ∷ rest) r = absurd r
-round-fits nodes f (world.Extend d ∷ rest) r = absurd r
-
-round-updates : (nodes sent : ℕ) (many : List world.Act) → IsRound nodes sent many → all_updates many ≡ 0
-round-updates nodes sent [] r = refl
-round-updates nodes sent (world.Post p ∷ rest) r = omega (arith, round-updates nodes (sent + 1) rest r.1)
-round-updates nodes sent (world.Take p i ∷ rest) r = omega (arith, round-updates nodes sent rest r.1)
-round-updates nodes sent (world.Update p x op ∷ rest) r = absurd r
-round-updates nodes sent (world.Keep p x ∷ rest) r = absurd r
-round-updates nodes sent (world.Point ∷ rest) r = absurd r
-round-updates nodes sent (world.Show p x ∷ rest) r = absurd r
-round-updates nodes sent (world.Open p x until ∷ rest) r = absurd r
-round-updates nodes sent (world.Reach p x until ∷ rest) r = absurd r
-round-updates nodes sent (world.Extend d ∷ rest) r = absurd r
-
--- each number is below n
-abbrev AreBelow : ℕ → List ℕ → Type 0
-AreBelow n [] = Unit {0}
-AreBelow n (x ∷ xs) = (x < n) × AreBelow n xs
-
-below-range : (a n : ℕ) → AreBelow (a + n) (range_with_len a n)
-below-range a zero = tt
-below-range a (suc n) = (omega arith, subst (λ (m : ℕ). AreBelow m (range_with_len (a + 1) n)) (let there : (a + 1) + n ≡ a + suc n = omega arith in there) (below-range (a + 1) n))
-
-below-nodes : (n : ℕ) → AreBelow n (range_with_len 0 n)
-below-nodes n = subst (λ (m : ℕ). AreBelow m (range_with_len 0 n)) (let here : 0 + n ≡ n = omega arith in here) (below-range 0 n)
-
-below-filter : (test : ℕ → Bool) (n : ℕ) (xs : List ℕ) → AreBelow n xs → AreBelow n (filter test xs)
-below-filter test n [] h = tt
-below-filter test n (x ∷ xs) h = choose (test x) (below-filter test n xs h.1) where
-  choose : (b : Bool) → AreBelow n (filter test xs) → AreBelow n (cond b (x ∷ filter test xs) (filter test xs))
-  choose true rest = (h.0, rest)
-  choose false rest = rest
-
-posts-round : (nodes sent : ℕ) (ps : List ℕ) (rest : List world.Act) → AreBelow nodes ps → IsRound nodes (sent + length ps) rest → IsRound nodes sent (map world.Post ps ++ rest)
-posts-round nodes sent [] rest h r = subst (λ (n : ℕ). IsRound nodes n rest) (let none : sent + 0 ≡ sent = omega arith in none) r
-posts-round nodes sent (p ∷ ps) rest h r =
-    (h.0, posts-round nodes (sent + 1) ps rest h.1 (subst (λ (n : ℕ). IsRound nodes n rest) (let more : sent + suc (length ps) ≡ (sent + 1) + length ps = omega arith in more) r))
-
-takes-round : (nodes sent p i : ℕ) (qs : List ℕ) (rest : List world.Act) → AreBelow nodes qs → i + nodes ≤ sent → IsRound nodes sent rest → IsRound nodes sent (map (λ q. world.Take p (i + q)) qs ++ rest)
-takes-round nodes sent p i [] rest h low r = r
-takes-round nodes sent p i (q ∷ qs) rest h low r = (omega (arith, h.0, low), takes-round nodes sent p i qs rest h.1 low r)
-
-all-round : (nodes sent i : ℕ) (ps : List ℕ) → i + nodes ≤ sent → IsRound nodes sent (flat_map (takes nodes i) ps)
-all-round nodes sent i [] low = tt
-all-round nodes sent i (p ∷ ps) low =
-    takes-round nodes sent p i (filter (λ q. not (q == p)) (range_with_len 0 nodes)) (flat_map (takes nodes i) ps) (below-filter (λ q. not (q == p)) nodes (range_with_len 0 nodes) (below-nodes nodes)) low (all-round nodes sent i ps low)
-
-range-length : (a n : ℕ) → length (range_with_len a n) ≡ n
-range-length a zero = refl
-range-length a (suc n) = omega (arith, range-length (a + 1) n)
-
-sync-round : (nodes sent : ℕ) → IsRound nodes sent (sync_acts nodes sent)
-sync-round nodes sent =
-    posts-round nodes sent (range_with_len 0 nodes) (flat_map (takes nodes sent) (range_with_len 0 nodes)) (below-nodes nodes)
-    (all-round nodes (sent + length (range_with_len 0 nodes)) sent (range_with_len 0 nodes) (omega (arith, range-length 0 nodes)))
-
 -- ---- the commands
 
 record CommandFits (nodes : ℕ) (f : Followed) (many : List world.Act) : Type 0 where
   all : AllFit nodes f many
   one : all_updates many ≤ 1
-
-not-joined : (f : Followed) (x : ℕ) (op : Op) → ((s : Content) → op ≡ Join s → ⊥) → (s : Content) → op ≡ Join s → AreOwned f.deltas x s.rows
-not-joined f x op n s e = absurd (n s e)
 
 update-fits : (nodes : ℕ) (f : Followed) (p x : ℕ) (op : Op) → FitsLawfully nodes f (world.Update p x op) → CommandFits nodes f (world.Update p x op ∷ [])
 update-fits nodes f p x op h = record { all = (h, tt); one = omega arith }

@@ -8,9 +8,17 @@ ghost use Rattle.model_world.specs.Lawful.{IsLawful};
 ghost use Rattle.model_world.specs.World.{Run, peer_at, start, ended};
 ghost use Rattle.model_known.specs.Follow.{Followed};
 ghost use Rattle.model_known.specs.Holds.{IsPlaceOf};
+ghost use Rattle.model_journal.specs.Callers.{made_by};
 ghost use Rattle.model_journal.specs.Journal.{graph, vals, counts};
 ghost use Rattle.model_journal.specs.Legal.{IsLegal};
-ghost use Rattle.model_calls.specs.Calls.{frame_of, calls};
+ghost use Rattle.model_calls.specs.Calls.{frame_of, calls, unbound};
+
+/// Every call is caller 0's, and none is a bind.
+#[tactic(auto, using(crate::proofs::FedLaws::feeds))]
+pub fn calls_feed_a_replica()
+    ensures by { (c : ℕ) (run : Run) (p : ℕ) (commands : List Command) → made_by 0 (calls c run p commands) ≡ calls c run p commands }
+    ensures unbound { (c : ℕ) (run : Run) (p : ℕ) (commands : List Command) → unbound (calls c run p commands) ≡ calls c run p commands }
+{}
 
 /// After lawful commands that were done, at most 100,000, the journal of a node's calls is legal and has the graph, the contents and the counts that the node has in the run. The calls of more commands begin with those of the first.
 #[tactic(auto, using(crate::proofs::CallLaws::calls_laws))]

@@ -4,5 +4,5 @@
 mod calls;
 mod journals;
 
-pub use calls::the_journal_of_the_calls_has_what_the_node_has;
+pub use calls::{calls_feed_a_replica, the_journal_of_the_calls_has_what_the_node_has};
 pub use journals::{binds_leave_the_sources, journals_with_the_calls_have_the_sources};

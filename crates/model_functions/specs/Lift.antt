@@ -1,5 +1,5 @@
 -- The operation of a stored lift: the number that a value brings to a fold.
-use Rattle.std.specs.Prelude.{ℤ, pos, List, length}
+use Rattle.std.specs.Prelude.{ℤ, pos, length}
 use Rattle.model_values.specs.Value.{Val, int, text, pair}
 
 pub data LiftOp : Type 0 where

@@ -88,10 +88,6 @@ eval_from-given (d ∷ g) done ss (suc j) h source =
 pub eval-given : (g : List Decl) (ss : List Content) (x : ℕ) → x < length g → IsTrue (is_source (kind_at g x)) → content_at (eval g ss) x ≡ content_at ss x
 eval-given g ss x low source = subst (λ (n : ℕ). content_at (eval g ss) n ≡ content_at ss n) (sym (from-nothing x)) (eval_from-given g [] ss x low source)
 
--- the same of a graph
-pub eval-source : (g : List Decl) (ss : List Content) → IsGraph g → (x : ℕ) → x < length g → IsTrue (is_source (kind_at g x)) → content_at (eval g ss) x ≡ content_at ss x
-eval-source g ss ok x low source = eval-given g ss x low source
-
 pub eval-derived : (g : List Decl) (ss : List Content) → IsGraph g → (x : ℕ) → IsDerived g x → content_at (eval g ss) x ≡ equation (kind_at g x) (eval g ss)
 eval-derived g ss ok x d = eval-at g ss (graph-earlier g ok) x d.declared ∙ ap (λ (b : Bool). if b then content_at ss x else equation (kind_at g x) (eval g ss)) d.process
 

@@ -1,10 +1,10 @@
 -- Each variable's rows are of its width where the sources' rows are of width 1.
 use Rattle.std.proofs.Common.{◌≡◌, ℕ, suc, ◌+◌, ◌≤◌, ◌<◌, ◌⊎◌, inl, inr, Bool, true, false, if◌then◌else◌, IsTrue, List, [], ◌∷◌, ◌++◌, length, refl, sym, subst, arith}
-use Rattle.std.specs.Char.{to_ascii_lowercase}
-use Rattle.model_values.specs.Value.{Val, int, text, pair}
+use Rattle.model_values.specs.Value.{Val, pair}
 use Rattle.model_values.specs.Token.{Tok, both}
-use Rattle.model_values.specs.Size.{leaves, text_bytes, IsOfWidth, IsTokenOfWidth}
-use Rattle.model_functions.specs.Map.{MapOp, Add, Times, Neg, Abs, First, Second, Swap, Length, Lower, mapped, mapped_once}
+use Rattle.model_values.specs.Size.{IsOfWidth, IsTokenOfWidth}
+use Rattle.model_functions.specs.Map.{mapped}
+pub use Rattle.model_functions.proofs.MapLaws.{mapped-width}
 use Rattle.model_functions.specs.Predicate.{passes}
 use Rattle.model_sets.specs.Rows.{HasRow}
 use Rattle.model_sets.proofs.WordLaws.{map-has, filter-has, union-has, product-has, product-only, intersect-has, intersect-only}
@@ -13,86 +13,7 @@ use Rattle.model_graph.specs.Graph.{Kind, OrSet, GSet, Counter, MaxReg, Union, P
 use Rattle.model_graph.specs.Evaluation.{content_at, rows_at, equation, evaluated, eval_from, eval}
 use Rattle.model_graph.specs.Lawful.{width_at, width_of, widths_from, widths}
 use Rattle.model_graph.specs.Width.{HasWidth}
-use Rattle.model_graph.proofs.PlaceLaws.{length-append, pairs-push, map-length, from-nothing}
-
--- ---- mapped values are no larger
-
-some-leaf : (v : Val) → 1 ≤ leaves v
-some-leaf (int n) = omega arith
-some-leaf (text t) = omega arith
-some-leaf (pair a b) = omega (arith, some-leaf a)
-
-mapped_once-leaves : (op : MapOp) (v : Val) → leaves (mapped_once op v) ≤ leaves v
-mapped_once-leaves (Add k) (int n) = omega arith
-mapped_once-leaves (Times k) (int n) = omega arith
-mapped_once-leaves Neg (int n) = omega arith
-mapped_once-leaves Abs (int n) = omega arith
-mapped_once-leaves First (int n) = omega arith
-mapped_once-leaves Second (int n) = omega arith
-mapped_once-leaves Swap (int n) = omega arith
-mapped_once-leaves Length (int n) = omega arith
-mapped_once-leaves Lower (int n) = omega arith
-mapped_once-leaves (Add k) (text t) = omega arith
-mapped_once-leaves (Times k) (text t) = omega arith
-mapped_once-leaves Neg (text t) = omega arith
-mapped_once-leaves Abs (text t) = omega arith
-mapped_once-leaves First (text t) = omega arith
-mapped_once-leaves Second (text t) = omega arith
-mapped_once-leaves Swap (text t) = omega arith
-mapped_once-leaves Length (text t) = omega arith
-mapped_once-leaves Lower (text t) = omega arith
-mapped_once-leaves (Add k) (pair a b) = omega arith
-mapped_once-leaves (Times k) (pair a b) = omega arith
-mapped_once-leaves Neg (pair a b) = omega arith
-mapped_once-leaves Abs (pair a b) = omega arith
-mapped_once-leaves First (pair a b) = omega arith
-mapped_once-leaves Second (pair a b) = omega arith
-mapped_once-leaves Swap (pair a b) = omega arith
-mapped_once-leaves Length (pair a b) = omega arith
-mapped_once-leaves Lower (pair a b) = omega arith
-
-mapped_once-bytes : (op : MapOp) (v : Val) → text_bytes (mapped_once op v) ≤ text_bytes v
-mapped_once-bytes (Add k) (int n) = omega arith
-mapped_once-bytes (Times k) (int n) = omega arith
-mapped_once-bytes Neg (int n) = omega arith
-mapped_once-bytes Abs (int n) = omega arith
-mapped_once-bytes First (int n) = omega arith
-mapped_once-bytes Second (int n) = omega arith
-mapped_once-bytes Swap (int n) = omega arith
-mapped_once-bytes Length (int n) = omega arith
-mapped_once-bytes Lower (int n) = omega arith
-mapped_once-bytes (Add k) (text t) = omega arith
-mapped_once-bytes (Times k) (text t) = omega arith
-mapped_once-bytes Neg (text t) = omega arith
-mapped_once-bytes Abs (text t) = omega arith
-mapped_once-bytes First (text t) = omega arith
-mapped_once-bytes Second (text t) = omega arith
-mapped_once-bytes Swap (text t) = omega arith
-mapped_once-bytes Length (text t) = omega arith
-mapped_once-bytes Lower (text t) = omega (arith, map-length to_ascii_lowercase t)
-mapped_once-bytes (Add k) (pair a b) = omega arith
-mapped_once-bytes (Times k) (pair a b) = omega arith
-mapped_once-bytes Neg (pair a b) = omega arith
-mapped_once-bytes Abs (pair a b) = omega arith
-mapped_once-bytes First (pair a b) = omega arith
-mapped_once-bytes Second (pair a b) = omega arith
-mapped_once-bytes Swap (pair a b) = omega arith
-mapped_once-bytes Length (pair a b) = omega arith
-mapped_once-bytes Lower (pair a b) = omega arith
-
-mapped-leaves : (ops : List MapOp) (v : Val) → leaves (mapped ops v) ≤ leaves v
-unfolding mapped
-mapped-leaves [] v = omega arith
-mapped-leaves (op ∷ ops) v = omega (arith, mapped-leaves ops (mapped_once op v), mapped_once-leaves op v)
-
-mapped-bytes : (ops : List MapOp) (v : Val) → text_bytes (mapped ops v) ≤ text_bytes v
-unfolding mapped
-mapped-bytes [] v = omega arith
-mapped-bytes (op ∷ ops) v = omega (arith, mapped-bytes ops (mapped_once op v), mapped_once-bytes op v)
-
--- a map makes no value wider
-pub mapped-width : (w : ℕ) (ops : List MapOp) (v : Val) → IsOfWidth w v → IsOfWidth w (mapped ops v)
-mapped-width w ops v h = record { leaves = omega (arith, mapped-leaves ops v, h.leaves); bytes = omega (arith, mapped-bytes ops v, h.bytes) }
+use Rattle.model_graph.proofs.PlaceLaws.{length-append, pairs-push, from-nothing}
 
 -- ---- wider
 

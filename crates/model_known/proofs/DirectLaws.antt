@@ -21,10 +21,12 @@ use Rattle.model_known.specs.Direct.{shown_directly, direct_line, known_at, dire
 use Rattle.model_known.specs.Follow.{Followed, follow_step, follow, begin}
 use Rattle.model_known.specs.Owner.{AreOwned, is_dead_in}
 use Rattle.model_known.proofs.EffectLaws.{followed}
-use Rattle.model_known.proofs.HoldLaws.{known-ordered}
+use Rattle.model_known.proofs.VariableLaws.{known-ordered}
 use Rattle.model_known.proofs.TokenLaws.{known-owned, marked-sources}
 use Rattle.model_known.proofs.SoundLaws.{IsSound, sound-begin}
-use Rattle.model_known.proofs.PlayLaws.{afters, AreCalm, calm-sync, IsAt, stage_of, bound, step-effect, step-sound, follow-play}
+use Rattle.model_known.proofs.FollowLaws.{afters, bound, step-effect, follow-play}
+use Rattle.model_known.proofs.RoundLaws.{AreCalm, calm-sync}
+use Rattle.model_known.proofs.PlayLaws.{IsAt, stage_of, step-sound}
 use Rattle.model_known.proofs.PlaceLaws.{holds-contents}
 
 -- ---- the sources of a node are marked by one test

@@ -1,23 +1,27 @@
 -- The laws of what is known, and of who holds it.
-use Rattle.std.proofs.Common.{◌≡◌, ℕ, ◌+◌, ◌<◌, List, [], ◌∷◌, ◌++◌, length, slice_index_or, Result, Ok, Err, refl, sym, ap, ◌∙◌, arith}
+use Rattle.std.proofs.Common.{◌≡◌, ℕ, ◌+◌, ◌<◌, List, [], ◌∷◌, ◌++◌, length, slice_index_or, Result, Ok, Err, refl, sym, ap, ◌∙◌, arith, ◌≤◌, Bool, true, false, if◌then◌else◌, ◌==◌}
+use Rattle.std.proofs.lemmas.Bool.Decides.{nat_tests}
 use Rattle.model_states.specs.Counts.{count_at, larger}
-use Rattle.model_states.specs.Content.{join_contents}
-use Rattle.model_states.proofs.ContentLaws.{ordered-join}
+use Rattle.model_states.specs.Content.{Content, join_contents, content_mark, IsContentAtMost}
+use Rattle.model_states.proofs.ContentLaws.{content_mark-join, ordered-join}
 use Rattle.model_graph.specs.Graph.{Decl, kind_at}
 use Rattle.model_graph.specs.Evaluation.{least_of}
 use Rattle.model_graph.specs.Chain.{◌>>=◌}
+use Rattle.model_graph.proofs.PlaceLaws.{equal-numbers}
 use Rattle.model_world.specs.Command.{Command, Script}
 use Rattle.model_world.specs.Lawful.{Stage, opening_stage, stage_after, AreLawful, IsLawful}
 use Rattle.model_world.specs.declared.stop.Stop.{Stop}
 use Rattle.model_world.proofs.StopLaws.{point-same}
 use Rattle.model_world.specs.World.{Run, Point, peer_at, sent_number, mark_at, act, play, ended}
 use Rattle.model_known.specs.Delta.{Delta, deltas_at, first_deltas, brought_to, join_all, known, known_contents}
+use Rattle.model_known.specs.Owner.{delta_at}
 use Rattle.model_known.specs.Follow.{Followed, begin, follow_step, follow, pointed}
 use Rattle.model_known.specs.Holds.{Holds, Carries, Keeps, IsPlaceOf}
-use Rattle.model_known.proofs.MeasureLaws.{same_from_measures, measure-all, total-larger}
-use Rattle.model_known.proofs.HoldLaws.{known-ordered}
+use Rattle.model_known.proofs.MeasureLaws.{same_from_measures, measure-all, one, total-larger, first-has, first-low}
+use Rattle.model_known.proofs.VariableLaws.{known-ordered}
 use Rattle.model_known.proofs.SoundLaws.{first-none}
-use Rattle.model_known.proofs.PlayLaws.{bound, follow-play, place-sound}
+use Rattle.model_known.proofs.FollowLaws.{bound, follow-play}
+use Rattle.model_known.proofs.PlayLaws.{place-sound}
 use Rattle.model_known.proofs.PlaceLaws.{known_contents-at, holds-contents}
 
 pub known-larger : (g : List Decl) (nodes : ℕ) (all : List (List Delta)) (cs ds : List ℕ) (x : ℕ) → known g nodes all (larger cs ds) x ≡ join_contents (known g nodes all cs x) (known g nodes all ds x)
@@ -34,6 +38,34 @@ known-larger g nodes all cs ds x =
 
 pub known-nothing : (g : List Decl) (nodes : ℕ) (all : List (List Delta)) (x : ℕ) → known g nodes all [] x ≡ least_of nodes (kind_at g x)
 known-nothing g nodes all x = ap (λ (ds : List Delta). join_all (least_of nodes (kind_at g x)) (brought_to x ds)) (first-none all)
+
+-- what one of the first deltas of a replica brought to the variable is known
+pub known-above : (g : List Decl) (nodes : ℕ) (all : List (List Delta)) (cs : List ℕ) (x q j : ℕ) → j < count_at cs q → j < length (deltas_at all q) → (delta_at all q j).var ≡ x → IsContentAtMost (delta_at all q j).content (known g nodes all cs x)
+known-above g nodes all cs x q j counted made e k =
+    let is : one (λ (c : Content). content_mark c k) (λ s t. content_mark-join s t k) x (delta_at all q j) ≡ content_mark (delta_at all q j).content k =
+    ap (λ (b : Bool). if b then content_mark (delta_at all q j).content k else 0) (let same : ((delta_at all q j).var == x) ≡ true = grind (arith, nat_tests, e) in same) in
+    omega (
+      arith,
+      is,
+      first-has (λ (c : Content). content_mark c k) (λ s t. content_mark-join s t k) x q j all cs counted made,
+      measure-all (λ (c : Content). content_mark c k) (λ s t. content_mark-join s t k) (least_of nodes (kind_at g x)) (brought_to x (first_deltas all cs)),
+    )
+
+-- and nothing else is
+pub known-least : (g : List Decl) (nodes : ℕ) (all : List (List Delta)) (cs : List ℕ) (x : ℕ) (s : Content) → IsContentAtMost (least_of nodes (kind_at g x)) s
+    → ((q j : ℕ) → j < count_at cs q → j < length (deltas_at all q) → (delta_at all q j).var ≡ x → IsContentAtMost (delta_at all q j).content s) → IsContentAtMost (known g nodes all cs x) s
+known-least g nodes all cs x s bottom each k =
+    omega (
+      arith,
+      measure-all (λ (c : Content). content_mark c k) (λ s t. content_mark-join s t k) (least_of nodes (kind_at g x)) (brought_to x (first_deltas all cs)),
+      bottom k,
+      first-low (λ (c : Content). content_mark c k) (λ s t. content_mark-join s t k) x (content_mark s k) all cs low,
+    ) where
+      low : (q j : ℕ) → j < count_at cs q → j < length (deltas_at all q) → one (λ (c : Content). content_mark c k) (λ s t. content_mark-join s t k) x (delta_at all q j) ≤ content_mark s k
+      low q j counted made = choose ((delta_at all q j).var == x) refl where
+        choose : (b : Bool) → ((delta_at all q j).var == x) ≡ b → (if b then content_mark (delta_at all q j).content k else 0) ≤ content_mark s k
+        choose true e = each q j counted made (equal-numbers (delta_at all q j).var x e) k
+        choose false e = omega arith
 
 pub replica-holds : (g : List Decl) (nodes : ℕ) (commands : List Command) (f : Followed) → IsPlaceOf g nodes commands f → (p : ℕ) → p < nodes → Holds f.run.graph nodes f.deltas (peer_at f.run.peers p).contents (peer_at f.run.peers p).counts
 replica-holds g nodes commands f place p member = (place-sound g nodes commands f place).holds p member
@@ -79,6 +111,6 @@ first-place g nodes commands more last place =
     let reached = first-reached 1 (begin g nodes) last commands more place.reached in
     (reached.0, record { lawful = first-lawful nodes (opening_stage g) commands more place.lawful; reached = reached.1 })
 
-pub ruleset known_laws = (known-larger, known-nothing, known_contents-at, pointed-play, end-place)
+pub ruleset known_laws = (known-above, known-least, known-larger, known-nothing, known_contents-at, pointed-play, end-place)
 
 pub ruleset holders = (replica-contents, replica-own)

@@ -1,11 +1,16 @@
 pub mod MeasureLaws
 pub mod EffectLaws
+pub mod VariableLaws
+pub mod UpdateLaws
 pub mod HoldLaws
 pub mod TokenLaws
 pub mod SoundLaws
+pub mod FollowLaws
+pub mod RoundLaws
 pub mod PlayLaws
 pub mod PlaceLaws
 pub mod DirectLaws
 pub mod KnownLaws
 pub mod AlikeLaws
 pub mod ReportLaws
+pub mod ExampleLaws

@@ -1,11 +1,12 @@
 -- Contents by their measures: numbers that a join sends to the maximum. Each key's number is one, and how many counts there are is one; ordered contents that agree in every measure are the same.
-use Rattle.std.proofs.Common.{◌≡◌, ℕ, zero, suc, ◌+◌, ◌≤◌, ◌<◌, max, ◌⊎◌, inl, inr, Bool, true, false, cond, if◌then◌else◌, ◌==◌, List, [], ◌∷◌, ◌++◌, length, map, filter, take, slice_set, refl, ap, ◌∙◌, arith}
+use Rattle.std.proofs.Common.{◌≡◌, ℕ, zero, suc, ◌+◌, ◌≤◌, ◌<◌, max, ◌⊎◌, inl, inr, Bool, true, false, cond, if◌then◌else◌, ◌==◌, List, [], ◌∷◌, ◌++◌, length, map, filter, take, slice_index_or, slice_set, refl, ap, ◌∙◌, arith}
 use Rattle.std.proofs.lemmas.List.{take-append-le}
 use Rattle.std.proofs.Math.Seq.{take-length, take-append-add}
 use Rattle.model_states.specs.Counts.{count_at, larger}
 use Rattle.model_states.specs.Content.{Content, join_contents, content_mark, IsOrdered}
 use Rattle.model_states.proofs.ContentLaws.{content_mark-join, same_from_content_mark, counts-join, ordered-join}
 use Rattle.model_graph.proofs.PlaceLaws.{below-or-not}
+use Rattle.model_known.specs.Owner.{no_delta, delta_at}
 use Rattle.model_known.specs.Delta.{Delta, deltas_at, first_deltas, brought_to, join_all}
 
 -- a number that a join sends to the maximum
@@ -149,3 +150,32 @@ each-weaker P Q f (deltas ∷ all) h = (within deltas h.0, each-weaker P Q f all
 pub nothing-brought : (x : ℕ) (ds : List Delta) → EachOf (λ d. (d.var == x) ≡ false) ds → brought_to x ds ≡ []
 nothing-brought x [] h = refl
 nothing-brought x (d ∷ ds) h = ap (λ (b : Bool). map (λ d. d.content) (cond b (d ∷ filter (λ d. d.var == x) ds) (filter (λ d. d.var == x) ds))) h.0 ∙ nothing-brought x ds h.1
+
+-- ---- the first deltas one by one
+
+module _ (μ : Content → ℕ) (measure : IsMeasure μ) where
+  take-has : (x c j : ℕ) (ds : List Delta) → j < c → j < length ds → one μ measure x (slice_index_or ds j no_delta) ≤ total μ measure x (take c ds)
+  take-has x zero j ds h g = absurd (omega (arith, h))
+  take-has x (suc c) j [] h g = absurd (omega (arith, g))
+  take-has x (suc c) zero (d ∷ ds) h g = omega (arith, total-more μ measure x d (take c ds))
+  take-has x (suc c) (suc j) (d ∷ ds) h g = omega (arith, total-more μ measure x d (take c ds), take-has x c j ds (omega (arith, h)) (omega (arith, g)))
+
+  -- each of the first deltas is in the total
+  pub first-has : (x q j : ℕ) (all : List (List Delta)) (cs : List ℕ) → j < count_at cs q → j < length (deltas_at all q) → one μ measure x (delta_at all q j) ≤ total μ measure x (first_deltas all cs)
+  first-has x q j [] cs h g = absurd (omega (arith, g))
+  first-has x q j (deltas ∷ all) [] h g = absurd (omega (arith, h))
+  first-has x zero j (deltas ∷ all) (c ∷ cs) h g = omega (arith, total-append μ measure x (take c deltas) (first_deltas all cs), take-has x c j deltas h g)
+  first-has x (suc q) j (deltas ∷ all) (c ∷ cs) h g = omega (arith, total-append μ measure x (take c deltas) (first_deltas all cs), first-has x q j all cs h g)
+
+  take-low : (x c n : ℕ) (ds : List Delta) → ((j : ℕ) → j < c → j < length ds → one μ measure x (slice_index_or ds j no_delta) ≤ n) → total μ measure x (take c ds) ≤ n
+  take-low x zero n ds h = omega arith
+  take-low x (suc c) n [] h = omega arith
+  take-low x (suc c) n (d ∷ ds) h =
+      omega (arith, total-more μ measure x d (take c ds), h 0 (omega arith) (omega arith), take-low x c n ds (λ j a b. h (suc j) (omega (arith, a)) (omega (arith, b))))
+
+  -- and the total is no more than they are
+  pub first-low : (x n : ℕ) (all : List (List Delta)) (cs : List ℕ) → ((q j : ℕ) → j < count_at cs q → j < length (deltas_at all q) → one μ measure x (delta_at all q j) ≤ n) → total μ measure x (first_deltas all cs) ≤ n
+  first-low x n [] cs h = omega arith
+  first-low x n (deltas ∷ all) [] h = omega arith
+  first-low x n (deltas ∷ all) (c ∷ cs) h =
+      omega (arith, total-append μ measure x (take c deltas) (first_deltas all cs), take-low x c n deltas (h 0), first-low x n all cs (λ q j a b. h (suc q) j a b))

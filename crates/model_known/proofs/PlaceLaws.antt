@@ -14,9 +14,12 @@ use Rattle.model_known.specs.Delta.{Delta, known, known_contents}
 use Rattle.model_known.specs.Follow.{Followed, delta_of, follow_step, follow, begin}
 use Rattle.model_known.specs.Holds.{AreMade, Holds, IsPlaceOf}
 use Rattle.model_known.proofs.EffectLaws.{followed}
-use Rattle.model_known.proofs.HoldLaws.{made-more, known-kept, known-append, takes-known}
+use Rattle.model_known.proofs.UpdateLaws.{made-more, known-kept}
+use Rattle.model_known.proofs.VariableLaws.{known-append}
+use Rattle.model_known.proofs.HoldLaws.{takes-known}
 use Rattle.model_known.proofs.SoundLaws.{IsSound}
-use Rattle.model_known.proofs.PlayLaws.{afters, bound, step-effect, place-sound}
+use Rattle.model_known.proofs.FollowLaws.{afters, bound, step-effect}
+use Rattle.model_known.proofs.PlayLaws.{place-sound}
 
 -- ---- what a replica holds, as a list
 

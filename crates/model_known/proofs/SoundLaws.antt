@@ -16,7 +16,9 @@ use Rattle.model_known.specs.Holds.{Holds, Carries, Keeps}
 use Rattle.model_known.specs.Owner.{AreOwned}
 use Rattle.model_known.proofs.MeasureLaws.{Each, each-push, each-weaker}
 use Rattle.model_known.proofs.EffectLaws.{followed}
-use Rattle.model_known.proofs.HoldLaws.{least-ordered, IsOfSource, holds-kept, carries-kept, keeps-kept, own-holds, own-all, sends-known, takes-known, extends-known, carries-longer, keeps-longer, sources-longer}
+use Rattle.model_known.proofs.VariableLaws.{least-ordered, IsOfSource}
+use Rattle.model_known.proofs.UpdateLaws.{holds-kept, carries-kept, keeps-kept, own-holds, own-all}
+use Rattle.model_known.proofs.HoldLaws.{sends-known, takes-known, extends-known, carries-longer, keeps-longer, sources-longer}
 use Rattle.model_known.proofs.TokenLaws.{AreAllOwned, owned-kept, delta-owned, known-owned}
 
 pub record Sound (nodes : ℕ) (g : List Decl) (peers : List Peer) (sent : List Message) (marks : List Marked) (all : List (List Delta)) (marked : List ℕ) : Type 0 where

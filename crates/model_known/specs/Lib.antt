@@ -3,3 +3,4 @@ pub mod Follow
 pub mod Holds
 pub mod Owner
 pub mod Direct
+pub mod Example

@@ -2,19 +2,24 @@
 
 ghost use Rattle.std.specs.Prelude.{◌≡◌, ℕ, ◌+◌, ◌<◌, List, [], ◌++◌, length, Ok, slice_index_or};
 ghost use Rattle.model_states.specs.Counts.{count_at, larger};
-ghost use Rattle.model_states.specs.Content.{join_contents};
+ghost use Rattle.model_states.specs.Content.{Content, join_contents, IsContentAtMost, IsOrdered};
 ghost use Rattle.model_graph.specs.Graph.{Decl, kind_at};
 ghost use Rattle.model_graph.specs.Evaluation.{content_at, least_of};
 ghost use Rattle.model_world.specs.Command.{Command, Script};
 ghost use Rattle.model_world.specs.Lawful.{IsLawful};
 ghost use Rattle.model_world.specs.World.{Run, peer_at, sent_number, mark_at, play, ended};
 ghost use Rattle.model_known.specs.Delta.{Delta, deltas_at, known, known_contents};
+ghost use Rattle.model_known.specs.Owner.{delta_at};
 ghost use Rattle.model_known.specs.Follow.{Followed, follow, pointed};
 ghost use Rattle.model_known.specs.Holds.{Holds, Carries, Keeps, IsPlaceOf};
 
-/// What is known of a variable by counts: of the larger counts it is the join, and of no updates it is least. A followed run is the run; a lawful script that comes to its end has a place there, and one after each of its first commands.
+/// What is known of a variable by counts is the least content above what the first so many updates of each replica brought to it; of the larger counts it is the join, and of no updates it is least. A followed run is the run; a lawful script that comes to its end has a place there, and one after each of its first commands.
 #[tactic(auto, using(crate::proofs::KnownLaws::known_laws))]
 pub fn known_is_the_join_of_the_first_updates()
+    ensures above { (g : List Decl) (nodes : ℕ) (all : List (List Delta)) (cs : List ℕ) (x q j : ℕ) → j < count_at cs q → j < length (deltas_at all q) → (delta_at all q j).var ≡ x → IsContentAtMost (delta_at all q j).content (known g nodes all cs x) }
+    ensures least { (g : List Decl) (nodes : ℕ) (all : List (List Delta)) (cs : List ℕ) (x : ℕ) (s : Content) → IsContentAtMost (least_of nodes (kind_at g x)) s
+        → ((q j : ℕ) → j < count_at cs q → j < length (deltas_at all q) → (delta_at all q j).var ≡ x → IsContentAtMost (delta_at all q j).content s) → IsContentAtMost (known g nodes all cs x) s }
+    ensures ordered { (g : List Decl) (nodes : ℕ) (all : List (List Delta)) (cs : List ℕ) (x : ℕ) → IsOrdered (known g nodes all cs x) }
     ensures larger { (g : List Decl) (nodes : ℕ) (all : List (List Delta)) (cs ds : List ℕ) (x : ℕ) → known g nodes all (larger cs ds) x ≡ join_contents (known g nodes all cs x) (known g nodes all ds x) }
     ensures nothing { (g : List Decl) (nodes : ℕ) (all : List (List Delta)) (x : ℕ) → known g nodes all [] x ≡ least_of nodes (kind_at g x) }
     ensures each { (g : List Decl) (nodes : ℕ) (all : List (List Delta)) (cs : List ℕ) (x : ℕ) → x < length g → content_at (known_contents g nodes all cs) x ≡ known g nodes all cs x }

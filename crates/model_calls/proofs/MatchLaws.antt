@@ -1,4 +1,4 @@
--- A node of a run and the journal of its calls have the same graph, contents and counts, and the journal is legal: one record, kept by each act that is done.
+-- A journal and a replica of the world that have the same graph, contents and counts, and what each step of both leaves of this.
 use Rattle.std.proofs.Common.{◌≡◌, ℕ, ◌+◌, ◌<◌, true, IsTrue, List, [], ◌∷◌, ◌++◌, length, map, slice_set, refl, sym, ap, subst, ◌∙◌, arith}
 use Rattle.model_states.specs.Counts.{count_at, larger}
 use Rattle.model_states.specs.Content.{Content, join_contents}
