@@ -4,7 +4,7 @@ use mathlib.Core.List.{IsPrefix}
 use Rattle.std.proofs.lemmas.Bool.{cond_both, or_from, or_parts}
 use Rattle.std.proofs.lemmas.List.{get_or_append_left}
 use Rattle.std.proofs.lemmas.List.Elements.{filter-append, All-nil, All-cons, All-head, All-tail}
-use Rattle.lasp_histlock.specs.History.{entries_of, among, longer}
+use Rattle.lasp_histlock.specs.History.{entries_of, added, among, longer}
 
 module _ {A : Type 0} where
   pub prefix_self : (xs : List A) → IsPrefix xs xs
@@ -36,6 +36,12 @@ module _ {A : Type 0} where
 
   pub prefix-length : (xs ys : List A) → IsPrefix xs ys → length xs ≤ length ys
   prefix-length xs ys p = omega (arith, sym (ap length p.1) ∙ length-append xs p.0)
+
+  -- a beginning and what was added to it
+  pub prefix_added : (xs ys : List A) → IsPrefix xs ys → xs ++ added xs ys ≡ ys
+  prefix_added [] ys p = refl
+  prefix_added (x ∷ xs) [] p = absurd (cc (p.1))
+  prefix_added (x ∷ xs) (y ∷ ys) p = let rest = prefix_added xs ys (p.0, cc (p.1)) in cc (p.1, rest)
 
   -- the longer of two beginnings of one list
   module _ (xs ys whole : List A) (p : IsPrefix xs whole) (q : IsPrefix ys whole) where

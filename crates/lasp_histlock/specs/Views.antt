@@ -6,9 +6,11 @@ use Rattle.lasp_histlock.specs.declared.view.View.{View}
 use Rattle.lasp_histlock.specs.Names.{name_of}
 use Rattle.lasp_histlock.specs.History.{longer}
 
--- of no table
+abbrev pub no_table : TableId
+no_table = record { words = 0; slots = 0; views_name = 0; atom = 0; block = 0; offset = 0; slot_names = [] }
+
 abbrev pub no_name : TableName
-no_name = record { words = 0; slots = 0; views_name = 0; atom = 0; block = 0; offset = 0; slot_names = [] }
+no_name = name_of no_table
 
 module _ {E F : Type 0} where
   -- a view that was joined into another one
