@@ -16,3 +16,6 @@ pub use held::Held;
 pub use kept::Kept;
 pub use lock::HistLock;
 pub use pass::Pass;
+
+#[cfg(test)]
+mod tests;
