@@ -6,3 +6,5 @@ pub mod Looking
 pub mod Carrying
 pub mod Landing
 pub mod Parting
+pub mod Returning
+pub mod Orderly

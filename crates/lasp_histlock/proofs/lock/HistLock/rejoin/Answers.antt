@@ -1,5 +1,5 @@
 use Rattle.std.proofs.Common.{sym, ap, ◌∙◌, arith}
-use Rattle.lasp_histlock.proofs.Parting.{joins_pass}
+use Rattle.lasp_histlock.proofs.Returning.{joins_pass}
 use Rattle.lasp_histlock.proofs.lock.HistLock.rejoin.Goals as goal
 
 pub join_seat-requires : goal.join_seat-requires
