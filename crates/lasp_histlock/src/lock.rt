@@ -36,7 +36,7 @@ impl<T: Kept + Drop> Model for HistLock<T> {
 }
 
 impl<T: Kept + Drop> HistLock<T> {
-    /// A lock with the value in it, and its first pass, which has number 0. Where there is no memory, the value is dropped.
+    /// A lock with the value in it, and its first pass, which has number 0. Where memory is wanting, the value is dropped.
     pub fn new(alloc: Global, value: T) -> Result<(HistLock<T>, Pass<T>), AllocError>
         requires empty { T.list value ≡ [] }
         ensures { IfOk result (λ made. made.1 ≡ first_pass made.0 (T.frame value)) }
@@ -54,7 +54,7 @@ impl<T: Kept + Drop> HistLock<T> {
         Ok((HistLock { table }, pass))
     }
 
-    /// Tries to take the value, by one exchange.
+    /// Tries to take the value. It never waits: it makes one exchange, and answers `None` exactly where that saw the lock taken.
     pub fn try_take(&self, p: &mut Pass<T>) -> Option<Held<T>>
         requires lock { p.old.lock ≡ self.now }
         requires idle { p.old.turn ≡ false }
@@ -77,7 +77,7 @@ impl<T: Kept + Drop> HistLock<T> {
         Some(Held { value, taken })
     }
 
-    /// Takes the value; it may wait for another thread.
+    /// Takes the value. It tries until it has it, so it may wait for another thread, and lets others run between two tries.
     pub fn take<R: Wait>(&self, rt: &R, p: &mut Pass<T>) -> Held<T>
         requires lock { p.old.lock ≡ self.now }
         requires idle { p.old.turn ≡ false }
@@ -97,7 +97,8 @@ impl<T: Kept + Drop> HistLock<T> {
         unreachable!()
     }
 
-    /// Gives the value back, with entries added to it that the pass may make.
+    /// Gives the value back, with entries added to it that the pass may make, and ends the turn. The value need not be the one
+    /// that was taken, but it has its list and frame.
     pub fn give(&self, p: &mut Pass<T>, held: Held<T>)
         requires lock { p.old.lock ≡ self.now }
         requires turn { p.old.turn ≡ true }
@@ -113,7 +114,7 @@ impl<T: Kept + Drop> HistLock<T> {
         p.turn = false;
     }
 
-    /// How many entries the history has, at this call's one load. It doesn't wait.
+    /// How many entries the history has, at this call's one load. It never waits.
     pub fn length(&self, p: &mut Pass<T>) -> u64
         requires lock { p.old.lock ≡ self.now }
         ensures pass { p.new ≡ after_look result p.old }
@@ -123,7 +124,8 @@ impl<T: Kept + Drop> HistLock<T> {
         steps::look(&self.table.shared, &mut p.seat)
     }
 
-    /// A new pass, with the next number, which has seen what the first pass has.
+    /// A new pass, with the next number, which has seen what the first pass has. It costs two loads and takes no memory, so it
+    /// always answers `Ok`.
     pub fn split(&self, p: &mut Pass<T>) -> Result<Pass<T>, AllocError>
         requires lock { p.old.lock ≡ self.now }
         requires first { p.old.number ≡ 0 }
@@ -145,7 +147,8 @@ impl<T: Kept + Drop> HistLock<T> {
         })
     }
 
-    /// Takes another pass back into the first one, which then has seen what either has.
+    /// Takes another pass back into the first one, which then has seen what either has. It costs two loads. A pass that comes back
+    /// in its turn doesn't count as back: its value is lost, and the lock stays taken.
     pub fn rejoin(&self, p: &mut Pass<T>, other: Pass<T>)
         requires lock { (p.old.lock ≡ self.now) × (other.lock ≡ self.now) }
         requires first { p.old.number ≡ 0 }
@@ -160,7 +163,8 @@ impl<T: Kept + Drop> HistLock<T> {
         p.entries = p.entries.max(entries);
     }
 
-    /// Ends the lock and answers its value, unless a pass is out.
+    /// Ends the lock and answers its value, unless a pass is out. It never waits: it makes at most one exchange. Where it answers
+    /// `None`, the lock is dropped, and its value with it if nobody has that.
     pub fn close(self, p: Pass<T>) -> Option<T>
         requires lock { p.lock ≡ self }
         requires first { p.number ≡ 0 }

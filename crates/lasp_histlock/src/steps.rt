@@ -1,5 +1,5 @@
 //! The steps on the table, one function each. A seat and a board that come together are of one table.
-ghost use Rattle.std.specs.Prelude.{◌≡◌, ◌≢◌, ◌+◌, ◌<◌, ◌≤◌, ◌^◌, List, true, false, [], ◌∷◌, None, Some, MatchBool, length};
+ghost use Rattle.std.specs.Prelude.{◌≡◌, ◌+◌, ◌<◌, ◌≤◌, ◌^◌, true, false, [], None, Some, MatchBool, length};
 ghost use Rattle.lasp_histlock.specs.Names.{name_of};
 ghost use Rattle.lasp_histlock.specs.History.{Made};
 ghost use Rattle.lasp_histlock.specs.Views.{founder, landed, turned_to, missed, placed, looked, recalled, grown};
