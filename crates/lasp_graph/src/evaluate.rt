@@ -15,8 +15,8 @@ ghost use Rattle.lasp_graph.specs.States.{held_of, held_at, contents_of};
 ghost use Rattle.lasp_graph.specs.Evaluated.{process, AreSmall, Becomes, Evaluates, seen, AreSets, AreNarrow, shape_after, KeepShapes, second_of};
 
 use super::graph::Graph;
-use super::kind::Kind;
 use super::inputs::{EvalAll, EvalRefused, Inputs};
+use super::kind::Kind;
 use super::process::eval_process;
 use super::states::States;
 use lasp_fns::Library;

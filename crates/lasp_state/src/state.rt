@@ -112,7 +112,9 @@ impl State {
         match (self, op) {
             (State::Set(_), Op::Add(value)) => Ok(State::Set(add_delta(alloc, value, replica, k)?)),
             (State::Set(set), Op::Remove(value)) => Ok(State::Set(set.remove_delta(value)?)),
-            (State::Grow(_), Op::Insert(value)) => Ok(State::Grow(GSet::insert_delta(alloc, value)?)),
+            (State::Grow(_), Op::Insert(value)) => Ok(State::Grow(GSet::insert_delta(
+                alloc, value,
+            )?)),
             (State::Count(counts), Op::Inc(by)) => Ok(State::Count(counts.inc_delta(
                 replica, *by,
             )?)),

@@ -25,11 +25,11 @@ pub eval_derived-requires-clause-sets : goal.eval_derived-requires-clause-sets
 eval_derived-requires-clause-sets g c =
     let earlier = inputs_before c.args.g.now c.args.var (decl_of c.at.result.now) (c.in-Some.x, c.in-Some.y) c.recall.ensures c.at.ensures.decl (sym c.inputs.ensures ∙ c.in-Some.is) in (
       ap shape_of c.deref.ensures
-      ∙ sym (shape-held c.args.done.now c.in-Some.x (held_of (arc_value c.at-first.result.now)) c.at-first.ensures)
-      ∙ earlier-shape c.args.g.now c.args.var c.in-Some.x c.args.sources.now c.args.done.now c.requires.declared c.requires.sets c.requires.shapes earlier.0,
+          ∙ sym (shape-held c.args.done.now c.in-Some.x (held_of (arc_value c.at-first.result.now)) c.at-first.ensures)
+          ∙ earlier-shape c.args.g.now c.args.var c.in-Some.x c.args.sources.now c.args.done.now c.requires.declared c.requires.sets c.requires.shapes earlier.0,
       ap shape_of c.deref-in-Some.ensures
-      ∙ sym (shape-held c.args.done.now c.in-Some.y (held_of (arc_value c.at-second.result.now)) c.at-second.ensures)
-      ∙ earlier-shape c.args.g.now c.args.var c.in-Some.y c.args.sources.now c.args.done.now c.requires.declared c.requires.sets c.requires.shapes earlier.1,
+          ∙ sym (shape-held c.args.done.now c.in-Some.y (held_of (arc_value c.at-second.result.now)) c.at-second.ensures)
+          ∙ earlier-shape c.args.g.now c.args.var c.in-Some.y c.args.sources.now c.args.done.now c.requires.declared c.requires.sets c.requires.shapes earlier.1,
     )
 
 pub eval_derived-requires-clause-width : goal.eval_derived-requires-clause-width
@@ -62,8 +62,8 @@ returns-in-Some-clause-content g c =
     let second : content_of (arc_value c.at-second.result.now) ≡ content_of c.deref-in-Some.result.now = sym (ap content_of c.deref-in-Some.ensures) in
     subst (λ (s : Content). Becomes (seen (λ s. content_of (arc_value s)) c.eval_derived.result) s)
     (sym (
-      evaluated-process (kind_at c.args.g.now c.args.var) c.args.done.now (contents_of c.args.sources.now) (c.in-Some.x, c.in-Some.y)
-          (held_of (arc_value c.at-first.result.now)) (held_of (arc_value c.at-second.result.now)) some c.at-first.ensures c.at-second.ensures
-      ∙ (λ n. process (c.at.ensures.kind n) (first n) (second n))
+    evaluated-process (kind_at c.args.g.now c.args.var) c.args.done.now (contents_of c.args.sources.now) (c.in-Some.x, c.in-Some.y)
+    (held_of (arc_value c.at-first.result.now)) (held_of (arc_value c.at-second.result.now)) some c.at-first.ensures c.at-second.ensures
+    ∙ (λ n. process (c.at.ensures.kind n) (first n) (second n))
     ))
     c.eval_derived.ensures.content

@@ -26,7 +26,7 @@ returns-clause-ok c = elim c.match-self.branch [
   | in-Grow-Grow w ↦
       on-ok w.unite.result c.match-self.result _ _ w.result-is
       (λ joined. joined-as _ _ _ (of_grow w.unite.new.self) (of_grow w.in-Grow-Grow.values) (of_grow w.in-Grow-Grow.others)
-          (ap content_of w.self-is) (ap content_of w.in-Grow-Grow.is-0) (ap content_of w.in-Grow-Grow.is-1) (ap of_grow joined)) w.unite.ensures.ok
+      (ap content_of w.self-is) (ap content_of w.in-Grow-Grow.is-0) (ap content_of w.in-Grow-Grow.is-1) (ap of_grow joined)) w.unite.ensures.ok
   | in-Count-Count w ↦
       let counts = w.in-Count-Count.counts in
       let others = w.in-Count-Count.others in
@@ -51,7 +51,7 @@ returns-clause-grew c = elim c.match-self.branch [
   | in-Grow-Grow w ↦
       subst (λ (r : Result Bool _). IfOk r (λ grew. IsTrue grew ↔ (content_of c.match-self.self ≢ content_of c.args.self.now))) (sym w.result-is)
       (grew-result w.unite.result (w.unite.new.self ≢ w.in-Grow-Grow.values) _ _ (of_grow w.unite.new.self) (of_grow w.in-Grow-Grow.values)
-          (ap content_of w.self-is) (ap content_of w.in-Grow-Grow.is-0) (differ-grow w.unite.new.self w.in-Grow-Grow.values) w.unite.ensures.grew)
+      (ap content_of w.self-is) (ap content_of w.in-Grow-Grow.is-0) (differ-grow w.unite.new.self w.in-Grow-Grow.values) w.unite.ensures.grew)
   | in-Count-Count w ↦
       subst (λ (r : Result Bool _). IfOk r (λ grew. IsTrue grew ↔ (content_of c.match-self.self ≢ content_of c.args.self.now))) (sym w.result-is)
       (grew-as w.raise.result (w.raise.new.self ≢ w.in-Count-Count.counts) _ _ (of_counts w.raise.new.self) (of_counts w.in-Count-Count.counts)
