@@ -1,8 +1,8 @@
 -- What the plain engine's nodes rest on.
 use Rattle.std.proofs.Common.{zero, suc, refl, sym, ap, subst, ◌∙◌, arith}
-use Rattle.std.specs.Prelude.{◌≡◌, ℕ, ◌+◌, ◌<◌, ◌⊎◌, List, [], ◌∷◌, ◌++◌, length, map, replicate, slice_set, Option, Some, None, Result, Ok, Err, OnOk, Bool, IsTrue, true, false, if◌then◌else◌, nat_lt}
+use Rattle.std.specs.Prelude.{◌≡◌, ℕ, ◌+◌, ◌<◌, ◌⊎◌, List, [], ◌∷◌, ◌++◌, length, map, take, replicate, slice_get, slice_set, Option, Some, None, Result, Ok, Err, OnOk, Bool, IsTrue, true, false, if◌then◌else◌, nat_lt}
 use mathlib.Core.Logic.{inl, inr}
-use Rattle.std.proofs.lemmas.List.{map-set, length-set}
+use Rattle.std.proofs.lemmas.List.{map-set, map-append, length-set}
 use Rattle.std.proofs.lemmas.Option.{slice_get_within, get_or_from_slice_get}
 use Rattle.model_values.specs.Value.{Val}
 use Rattle.model_values.specs.Token.{Tok}
@@ -13,20 +13,27 @@ use Rattle.model_states.specs.Content.{Content, join_contents, size_of, row_limi
 use Rattle.model_states.specs.Threshold.{Shape, set as Set, grow as Grow, counter as Count, register as Register}
 use Rattle.model_states.specs.Update as plain
 use Rattle.model_states.proofs.DeltaLaws.{add-row, remove-row}
-use Rattle.model_graph.specs.Graph.{Kind, OrSet, GSet, Counter, MaxReg, Union, Product, Intersection, Map, Filter, Fold, Decl, no_decl, kind_at, is_source, is_set}
-use Rattle.model_graph.specs.Evaluation.{content_at, eval_from, eval, evaluated, first_large}
+use Rattle.model_graph.specs.Graph.{Kind, OrSet, GSet, Counter, MaxReg, Union, Product, Intersection, Map, Filter, Fold, Decl, no_decl, decl_at, kind_at, is_source, is_set}
+use Rattle.model_graph.specs.Evaluation.{content_at, least_of, eval_from, eval, evaluated, first_large}
 use Rattle.model_graph.specs.Lawful.{shape_of}
 use Rattle.model_graph.specs.Width.{HasWidth}
 use Rattle.model_readings.specs.Script.{is_orset, is_gset, is_counter, is_maxreg}
 use Rattle.model_readings.specs.Lawful.{IsKindAt}
 use Rattle.lasp_state.specs.State.{op_of, IsOpOf}
+use Rattle.lasp_state.specs.State as state
+use Rattle.lasp_state.specs.declared.state.State.{State}
+use Rattle.lasp_state.specs.declared.state.State.TheVariants as states
+use Rattle.model_world.specs.Line.{shown_content}
+use Rattle.lasp_graph.specs.Kind.{kind_of}
+use Rattle.lasp_graph.specs.declared.kind.Kind as graphs
+use Rattle.lasp_graph.specs.declared.kind.Kind.TheVariants as kinds
 use Rattle.lasp_state.specs.declared.op.Op.{Op}
 use Rattle.lasp_state.specs.declared.op.Op.TheVariants as rust
-use Rattle.lasp_graph.specs.States.{Held, held_at, grown, contents_of}
-use Rattle.lasp_graph.specs.Evaluated.{AreSmall, Evaluates, AreSets, AreNarrow}
+use Rattle.lasp_graph.specs.States.{Held, held_of, held_at, grown, contents_of}
+use Rattle.lasp_graph.specs.Evaluated.{AreSmall, Evaluates, AreSets, AreNarrow, shape_after, KeepShapes}
 use Rattle.lasp_graph.specs.declared.inputs.EvalAll.{EvalAll}
 use Rattle.lasp_graph.specs.declared.inputs.EvalAll.TheVariants as all
-use Rattle.lasp_run.specs.Plain.{AreShaped, IsJoined}
+use Rattle.lasp_run.specs.Plain.{fresh_state, AreShaped, IsJoined, IsBuilt}
 use Rattle.lasp_run.specs.Drive.{IsOpAt}
 
 length-eval_from : (g : List Decl) (done sources : List Content) → length (eval_from g done sources) ≡ length done + length g
@@ -112,6 +119,9 @@ joined-result (Err e) old new x d s same h = tt
 pub shaped-joined : (nodes : ℕ) (g : List Decl) (old new : List Held) (x : ℕ) (s : Content) → AreShaped nodes g old → IsJoined old x s new → AreShaped nodes g new
 shaped-joined nodes g old new x s shaped joined y within = joined.shapes y ∙ shaped y within
 
+wrong : IsTrue false → ⊥
+wrong e = cc
+
 -- the sets among the sources are sets
 pub sets-shaped : (nodes : ℕ) (g : List Decl) (sources : List Held) → AreShaped nodes g sources → AreSets g sources
 sets-shaped nodes g sources shaped x within source set = shaped x within ∙ set-shape (kind_at g x) source set where
@@ -127,13 +137,7 @@ sets-shaped nodes g sources shaped x within source set = shaped x within ∙ set
   set-shape (Filter i place ops) source is = refl
   set-shape (Fold i op place lift) source is = absurd (wrong is)
 
-  wrong : IsTrue false → ⊥
-  wrong e = cc
-
 -- ---- what an update asks of its source
-
-wrong : IsTrue false → ⊥
-wrong e = cc
 
 orset-shape : (nodes : ℕ) (k : Kind) → IsTrue (is_orset k) → shape_of nodes k ≡ Set
 orset-shape nodes OrSet is = refl
@@ -312,3 +316,126 @@ narrow-updated op g old new x replica k at narrow joined y within source =
     (content-set (contents_of old) x _ y (joined-narrow here) (narrow y within source)) where
   joined-narrow : (IsTrue (is_source (kind_at g x)) → HasWidth 1 (content_at (contents_of old) x)) → HasWidth 1 (join_contents (content_at (contents_of old) x) (plain.delta op (content_at (contents_of old) x) replica k))
   joined-narrow here = join-narrow _ _ (here (op-source op g x at)) (delta-narrow op g x (content_at (contents_of old) x) replica k at here)
+
+-- ---- the states before anything happened
+
+pub fresh-next : (nodes : ℕ) (g : List Decl) (x : ℕ) (states : List Held) (h : Held) → x < length g → states ≡ map (fresh_state nodes) (take x g) → h ≡ fresh_state nodes (decl_at g x)
+    → states ++ h ∷ [] ≡ map (fresh_state nodes) (take (x + 1) g)
+fresh-next nodes g x states h within so_far is =
+    let next : take (x + 1) g ≡ take x g ++ decl_at g x ∷ [] = ap (λ (n : ℕ). take n g) (let e : x + 1 ≡ suc x = omega arith in e) ∙ front g x within in
+    ap (λ (hs : List Held). hs ++ h ∷ []) so_far ∙ ap (λ (k : Held). map (fresh_state nodes) (take x g) ++ k ∷ []) is
+    ∙ sym (map-append (fresh_state nodes) (take x g) (decl_at g x ∷ [])) ∙ ap (map (fresh_state nodes)) (sym next)
+  where
+    front : (g : List Decl) (x : ℕ) → x < length g → take (suc x) g ≡ take x g ++ decl_at g x ∷ []
+    front [] x within = absurd (omega (arith, within))
+    front (d ∷ g) zero within = refl
+    front (d ∷ g) (suc x) within = ap (λ (ds : List Decl). d ∷ ds) (front g x (omega (arith, within)))
+
+fresh-shape : (nodes : ℕ) (g : List Decl) (x : ℕ) → x < length g → (held_at (map (fresh_state nodes) g) x).shape ≡ shape_of nodes (kind_at g x)
+fresh-shape nodes [] x within = absurd (omega (arith, within))
+fresh-shape nodes (d ∷ g) zero within = refl
+fresh-shape nodes (d ∷ g) (suc x) within = fresh-shape nodes g x (omega (arith, within))
+
+pub fresh-shaped : (nodes : ℕ) (g : List Decl) → AreShaped nodes g (map (fresh_state nodes) g)
+fresh-shaped nodes g x within = fresh-shape nodes g x within
+
+least-narrow : (nodes : ℕ) (k : Kind) → HasWidth 1 (least_of nodes k)
+least-narrow nodes OrSet = record { values = λ u t row. absurd (no-row u t row); tokens = λ u t row. absurd (no-row u t row) }
+least-narrow nodes GSet = record { values = λ u t row. absurd (no-row u t row); tokens = λ u t row. absurd (no-row u t row) }
+least-narrow nodes Counter = record { values = λ u t row. absurd (no-row u t row); tokens = λ u t row. absurd (no-row u t row) }
+least-narrow nodes MaxReg = record { values = λ u t row. absurd (no-row u t row); tokens = λ u t row. absurd (no-row u t row) }
+least-narrow nodes (Union i j) = record { values = λ u t row. absurd (no-row u t row); tokens = λ u t row. absurd (no-row u t row) }
+least-narrow nodes (Product i j) = record { values = λ u t row. absurd (no-row u t row); tokens = λ u t row. absurd (no-row u t row) }
+least-narrow nodes (Intersection i j) = record { values = λ u t row. absurd (no-row u t row); tokens = λ u t row. absurd (no-row u t row) }
+least-narrow nodes (Map i place ops) = record { values = λ u t row. absurd (no-row u t row); tokens = λ u t row. absurd (no-row u t row) }
+least-narrow nodes (Filter i place ops) = record { values = λ u t row. absurd (no-row u t row); tokens = λ u t row. absurd (no-row u t row) }
+least-narrow nodes (Fold i op place lift) = record { values = λ u t row. absurd (no-row u t row); tokens = λ u t row. absurd (no-row u t row) }
+
+fresh-width : (nodes : ℕ) (g : List Decl) (x : ℕ) → HasWidth 1 (content_at (contents_of (map (fresh_state nodes) g)) x)
+fresh-width nodes [] x = least-narrow 0 OrSet
+fresh-width nodes (d ∷ g) zero = least-narrow nodes d.kind
+fresh-width nodes (d ∷ g) (suc x) = fresh-width nodes g x
+
+pub fresh-narrow : (nodes : ℕ) (g : List Decl) → AreNarrow g (map (fresh_state nodes) g)
+fresh-narrow nodes g x within source = fresh-width nodes g x
+
+pub fresh-contents : (nodes : ℕ) (g : List Decl) → contents_of (map (fresh_state nodes) g) ≡ map (λ (d : Decl). least_of nodes d.kind) g
+fresh-contents nodes [] = refl
+fresh-contents nodes (d ∷ g) = ap (λ (cs : List Content). least_of nodes d.kind ∷ cs) (fresh-contents nodes g)
+
+-- ---- what is printed
+
+-- a state of a kind's shape prints as the kind does
+pub shown-kind : (nodes : ℕ) (k : Kind) (s : State) → IsBuilt k → state.shape_of s ≡ shape_of nodes k → state.shown_state s ≡ shown_content k (state.content_of s)
+shown-kind nodes OrSet (states.Set rows) built e = refl
+shown-kind nodes OrSet (states.Grow values) built e = absurd cc
+shown-kind nodes OrSet (states.Count counts) built e = absurd cc
+shown-kind nodes OrSet (states.Max m) built e = absurd cc
+shown-kind nodes GSet (states.Set rows) built e = absurd cc
+shown-kind nodes GSet (states.Grow values) built e = refl
+shown-kind nodes GSet (states.Count counts) built e = absurd cc
+shown-kind nodes GSet (states.Max m) built e = absurd cc
+shown-kind nodes Counter (states.Set rows) built e = absurd cc
+shown-kind nodes Counter (states.Grow values) built e = absurd cc
+shown-kind nodes Counter (states.Count counts) built e = refl
+shown-kind nodes Counter (states.Max m) built e = absurd cc
+shown-kind nodes MaxReg (states.Set rows) built e = absurd cc
+shown-kind nodes MaxReg (states.Grow values) built e = absurd cc
+shown-kind nodes MaxReg (states.Count counts) built e = absurd cc
+shown-kind nodes MaxReg (states.Max m) built e = refl
+shown-kind nodes (Union i j) (states.Set rows) built e = refl
+shown-kind nodes (Union i j) (states.Grow values) built e = absurd cc
+shown-kind nodes (Union i j) (states.Count counts) built e = absurd cc
+shown-kind nodes (Union i j) (states.Max m) built e = absurd cc
+shown-kind nodes (Product i j) (states.Set rows) built e = refl
+shown-kind nodes (Product i j) (states.Grow values) built e = absurd cc
+shown-kind nodes (Product i j) (states.Count counts) built e = absurd cc
+shown-kind nodes (Product i j) (states.Max m) built e = absurd cc
+shown-kind nodes (Intersection i j) (states.Set rows) built e = refl
+shown-kind nodes (Intersection i j) (states.Grow values) built e = absurd cc
+shown-kind nodes (Intersection i j) (states.Count counts) built e = absurd cc
+shown-kind nodes (Intersection i j) (states.Max m) built e = absurd cc
+shown-kind nodes (Map i place ops) (states.Set rows) built e = refl
+shown-kind nodes (Map i place ops) (states.Grow values) built e = absurd cc
+shown-kind nodes (Map i place ops) (states.Count counts) built e = absurd cc
+shown-kind nodes (Map i place ops) (states.Max m) built e = absurd cc
+shown-kind nodes (Filter i place ops) (states.Set rows) built e = refl
+shown-kind nodes (Filter i place ops) (states.Grow values) built e = absurd cc
+shown-kind nodes (Filter i place ops) (states.Count counts) built e = absurd cc
+shown-kind nodes (Filter i place ops) (states.Max m) built e = absurd cc
+shown-kind nodes (Fold i op place lift) s built e = absurd built
+
+-- the code has no other kinds
+pub kind-built : (k : graphs.Kind) → IsBuilt (kind_of k)
+kind-built kinds.OrSet = tt
+kind-built kinds.GSet = tt
+kind-built kinds.Counter = tt
+kind-built kinds.MaxReg = tt
+kind-built (kinds.Union i j) = tt
+kind-built (kinds.Product i j) = tt
+kind-built (kinds.Intersection i j) = tt
+kind-built (kinds.Map i f) = tt
+kind-built (kinds.Filter i p) = tt
+
+-- a variable of such a kind was evaluated to the shape of its kind
+pub shape-kept : (nodes : ℕ) (k : Kind) → IsBuilt k → shape_after k (shape_of nodes k) ≡ shape_of nodes k
+shape-kept nodes OrSet built = refl
+shape-kept nodes GSet built = refl
+shape-kept nodes Counter built = refl
+shape-kept nodes MaxReg built = refl
+shape-kept nodes (Union i j) built = refl
+shape-kept nodes (Product i j) built = refl
+shape-kept nodes (Intersection i j) built = refl
+shape-kept nodes (Map i place ops) built = refl
+shape-kept nodes (Filter i place ops) built = refl
+shape-kept nodes (Fold i op place lift) built = absurd built
+
+-- what a settled node shows of a variable prints as its kind
+pub printed : (nodes : ℕ) (g : List Decl) (sources shown : List Held) (x : ℕ) (k : Kind) (s : State) → kind_at g x ≡ k → IsBuilt k → x < length g → AreShaped nodes g sources → KeepShapes (length g) g sources shown
+    → slice_get shown x ≡ Some (held_of s) → state.shown_state s ≡ shown_content (kind_at g x) (content_at (contents_of shown) x)
+printed nodes g sources shown x k s is built within shaped keep at =
+    let here : IsBuilt (kind_at g x) = subst IsBuilt (sym is) built in
+    let held : held_at shown x ≡ held_of s = get_or_from_slice_get shown x (held_of s) _ at in
+    let shape : state.shape_of s ≡ shape_of nodes (kind_at g x) =
+    sym (ap (λ (h : Held). h.shape) held) ∙ keep x within ∙ ap (shape_after (kind_at g x)) (shaped x within) ∙ shape-kept nodes (kind_at g x) here in
+    shown-kind nodes (kind_at g x) s here shape ∙ ap (shown_content (kind_at g x)) (sym (ap (λ (h : Held). h.content) held) ∙ sym (content-held shown x))

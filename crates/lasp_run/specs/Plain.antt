@@ -1,10 +1,11 @@
 -- What the states of a plain node are.
 use Rattle.std.specs.Prelude.{◌≡◌, ℕ, ◌<◌, List, length, slice_set}
+use Rattle.std.specs.Coded.{Coded, coded_list}
 use Rattle.model_states.specs.Content.{Content, join_contents}
-use Rattle.model_graph.specs.Graph.{Decl, kind_at}
+use Rattle.model_graph.specs.Graph.{Kind, Fold, Decl, kind_at}
 use Rattle.model_graph.specs.Evaluation.{content_at, least_of}
 use Rattle.model_graph.specs.Lawful.{shape_of}
-use Rattle.lasp_graph.specs.States.{Held, held_at, contents_of}
+use Rattle.lasp_graph.specs.States.{Held, held_at, contents_of, coded_content}
 
 -- a variable before anything happened, among so many nodes
 abbrev pub fresh_state : ℕ → Decl → Held
@@ -19,3 +20,11 @@ pub record IsJoined (old : List Held) (x : ℕ) (s : Content) (new : List Held) 
   pub contents : contents_of new ≡ slice_set (contents_of old) x (join_contents (content_at (contents_of old) x) s)
   pub shapes : (y : ℕ) → (held_at new y).shape ≡ (held_at old y).shape
   pub long : length new ≡ length old
+
+abbrev pub coded_contents : Coded (List Content)
+coded_contents = coded_list coded_content
+
+-- the kinds that a program may have today: all but folds
+abbrev pub IsBuilt : Kind → Type 0
+IsBuilt (Fold x op place lift) = ⊥
+IsBuilt _ = Unit {0}

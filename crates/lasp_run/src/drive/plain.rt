@@ -2,12 +2,13 @@
 
 ghost use Rattle.std.specs.Prelude.{◌≡◌, ◌<◌, ◌≤◌, ℕ, List, IfOk, OnOk, OnErr, length, map, replicate, IsTrue, None};
 ghost use Rattle.std.specs.Arc.{arc_value};
+ghost use Rattle.std.specs.Coded.{Coded-set, →_prop};
 ghost use Rattle.model_states.specs.Update.{delta};
 ghost use Rattle.model_graph.specs.Evaluation.{content_at, eval, first_large};
 ghost use Rattle.lasp_state.specs.State.{op_of, IsOpOf};
 ghost use Rattle.lasp_graph.specs.States.{held_at, contents_of};
 ghost use Rattle.lasp_graph.specs.Evaluated.{AreNarrow, KeepShapes};
-ghost use Rattle.lasp_run.specs.Plain.{fresh_state, AreShaped, IsJoined};
+ghost use Rattle.lasp_run.specs.Plain.{fresh_state, coded_contents, AreShaped, IsJoined};
 
 use super::node::{Node, NodeStop};
 use lasp_fns::Library;
@@ -32,7 +33,9 @@ pub struct PlainNode {
     ghost replica_within: { replica < length counts.items },
     ghost shaped: { AreShaped (length counts.items) (arc_value graph) sources },
     ghost narrow: { AreNarrow (arc_value graph) sources },
-    ghost settled: { IsTrue is_settled → (contents_of shown ≡ eval (arc_value graph) (contents_of sources)) × (first_large 0 (contents_of shown) ≡ None) × KeepShapes (length (arc_value graph)) (arc_value graph) sources shown },
+    ghost settled: { IsTrue is_settled → contents_of shown ≡ eval (arc_value graph) (contents_of sources) } by { →_prop (Coded-set coded_contents (contents_of shown) (eval (arc_value graph) (contents_of sources))) },
+    ghost small: { IsTrue is_settled → first_large 0 (contents_of shown) ≡ None },
+    ghost shapes: { IsTrue is_settled → KeepShapes (length (arc_value graph)) (arc_value graph) sources shown },
 }
 
 /// The states of all variables before anything happened.
@@ -131,6 +134,8 @@ impl Node for PlainNode {
     }
 
     fn state(&self, x: u8) -> &State {
+        // recalls, at no cost, what kinds a graph has
+        let _decl = self.graph.at(x as u64);
         self.shown.at(x as u64)
     }
 

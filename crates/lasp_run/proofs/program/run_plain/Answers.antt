@@ -5,6 +5,7 @@ use Rattle.model_world.specs.Report.{report_of}
 use Rattle.model_program.specs.Follows.{View, view, IsPartOf}
 use Rattle.model_program.specs.Program.{running_script}
 use Rattle.model_program.proofs.PlanLaws.{follows-wider}
+use Rattle.lasp_graph.specs.Library.{library_of}
 use Rattle.lasp_run.specs.Words.{words_of, answered}
 use Rattle.lasp_run.proofs.program.run_plain.Goals as goal
 

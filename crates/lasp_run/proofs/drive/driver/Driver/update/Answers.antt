@@ -1,8 +1,8 @@
 use Rattle.std.specs.Prelude.{string_bytes}
-use Rattle.std.proofs.lemmas.Option.{slice_get_within}
 use Rattle.model_world.specs.World.{updated}
 use Rattle.lasp_state.specs.State.{op_of}
 use Rattle.lasp_run.proofs.DriveLaws.{ready-update, update-done, update-stops, stopped-large}
+use Rattle.lasp_run.proofs.PlainLaws.{op-within}
 use Rattle.lasp_run.proofs.drive.driver.Driver.update.Goals as goal
 
 pub returns-in-Ok-clause-ready : goal.returns-in-Ok-clause-ready
@@ -16,7 +16,7 @@ returns-in-Ok-clause-done g c =
     c.requires.ready c.requires.node c.index_mut.ensures.value c.in-Ok.ensures.done.0 c.in-Ok.ensures.done.1
 
 pub returns-in-Err-TooLarge-clause-within : goal.returns-in-Err-TooLarge-clause-within
-returns-in-Err-TooLarge-clause-within g c = slice_get_within c.args.graph.now c.args.x c.requires.source.decl c.requires.source.declared
+returns-in-Err-TooLarge-clause-within g c = op-within (op_of c.args.op.now) c.args.graph.now c.args.x c.requires.source
 
 pub returns-in-Err-TooLarge-clause-done : goal.returns-in-Err-TooLarge-clause-done
 returns-in-Err-TooLarge-clause-done g c =
