@@ -3,3 +3,4 @@ pub mod DriveLaws
 pub mod PlainLaws
 pub mod PlayLaws
 pub mod PartLaws
+pub mod CheckLaws

@@ -4,16 +4,19 @@ ghost use Rattle.std.specs.Prelude.{◌≡◌, ◌<◌, ◌≤◌, ℕ, List, le
 ghost use Rattle.model_graph.specs.Chain.{refusing};
 ghost use Rattle.model_readings.specs.Graph.{graph_of};
 ghost use Rattle.model_readings.specs.Script.{script_of};
-ghost use Rattle.model_readings.specs.Lawful.{IsScript};
+ghost use Rattle.model_readings.specs.Lawful.{IsScript, FitsAll};
 ghost use Rattle.model_program.specs.Plan.{reading, word_at};
 ghost use Rattle.model_program.specs.Follows.{view, Gives, Performs};
 ghost use Rattle.model_program.specs.Program.{graph_refused, script_refused, opening, scripting};
+ghost use Rattle.lasp_graph.specs.Library.{library_of};
 ghost use Rattle.lasp_run.specs.Words.{words_of};
 
 use lasp_edge::{Fetch, Files};
+use lasp_fns::Library;
 use lasp_graph::{Graph, GraphRefused, read_graph};
 use lasp_script::{Script, ScriptRefused, read_script};
 use model_program::{Failure, Refusal};
+use model_readings::accepted_graphs_are_lawful;
 use std::alloc::Global;
 
 /// The most bytes that a file may have.
@@ -48,10 +51,12 @@ pub fn read_file<F: Files>(
     }
 }
 
-fn graph_from(alloc: Global, bytes: &[u8]) -> Result<Graph, Failure>
-    ensures { Gives (λ g. g) (refusing graph_refused (graph_of bytes.now)) result }
+fn graph_from(alloc: Global, bytes: &[u8], lib: &Library) -> Result<Graph, Failure>
+    ensures exact { Gives (λ g. g) (refusing graph_refused (graph_of (library_of lib.now) bytes.now)) result }
+    ensures fits { IfOk result (λ g. FitsAll (library_of lib.now) g) }
 {
-    match read_graph(alloc, bytes) {
+    accepted_graphs_are_lawful();
+    match read_graph(alloc, bytes, lib) {
         Ok(graph) => Ok(graph),
         Err(GraphRefused::At { number, why }) => Err(Failure::Refused(Refusal::Graph(number, why))),
         Err(GraphRefused::Memory) => Err(Failure::Memory),
@@ -71,19 +76,21 @@ fn script_from(alloc: Global, graph: &Graph, bytes: &[u8]) -> Result<Script, Fai
     }
 }
 
-/// Reads the graph: the second word's file.
+/// Reads the graph, whose functions are the library's: the second word's file.
 pub fn open_graph<F: Files>(
     alloc: Global,
     words: &[String],
     files: &mut F,
+    lib: &Library,
 ) -> Result<Graph, Failure>
     requires { 1 < length words.now }
     ensures same { (name : List ℕ) → F.content files.new name ≡ F.content files.old name }
     ensures later { (name : List ℕ) → F.faults files.old name ≤ F.faults files.new name }
-    ensures part { Performs (λ g. g) (words_of words.now) (view (F.content files.old) (F.faults files.old) (F.faults files.new)) opening result }
+    ensures part { Performs (λ g. g) (words_of words.now) (view (F.content files.old) (F.faults files.old) (F.faults files.new)) (opening (library_of lib.now)) result }
+    ensures fits { IfOk result (λ g. FitsAll (library_of lib.now) g) }
 {
     match read_file(alloc, words, 1, files) {
-        Ok(bytes) => graph_from(alloc, &bytes),
+        Ok(bytes) => graph_from(alloc, &bytes, lib),
         Err(failure) => Err(failure),
     }
 }

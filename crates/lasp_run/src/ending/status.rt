@@ -13,7 +13,8 @@ fn refusal_status(refusal: &Refusal) -> u8
         Refusal::Graph(_, _) => 2,
         Refusal::Script(_, _) => 3,
         Refusal::TooLong(_) => 4,
-        Refusal::TooLarge(_, _, _) => 6,
+        Refusal::TooLarge(_, _, _) | Refusal::NetworkFull(_) => 6,
+        Refusal::NotReached(_) => 8,
     }
 }
 

@@ -5,11 +5,12 @@ use Rattle.model_readings.specs.Graph.{graph_of}
 use Rattle.model_program.specs.Follows.{view, Gives}
 use Rattle.model_program.specs.Program.{graph_refused}
 use Rattle.model_program.proofs.PlanLaws.{performs-checked}
+use Rattle.lasp_graph.specs.Library.{library_of}
 use Rattle.lasp_run.specs.Words.{words_of}
 use Rattle.lasp_run.proofs.open.open_graph.Goals as goal
 
 pub returns-in-Ok-clause-part : goal.returns-in-Ok-clause-part
 returns-in-Ok-clause-part g c =
     performs-checked (λ (graph : List Decl). graph) (words_of c.args.words.now) (view (g.F.Files.content c.args.files.now) (g.F.Files.faults c.args.files.now) (g.F.Files.faults c.read_file.new.files)) 1 c.in-Ok.bytes.items
-    graph_refused graph_of c.graph_from.result c.in-Ok.ensures.part
-    (subst (λ (bytes : List ℕ). Gives (λ (graph : List Decl). graph) (refusing graph_refused (graph_of bytes)) c.graph_from.result) c.deref.ensures.value c.graph_from.ensures)
+    graph_refused (graph_of (library_of c.args.lib.now)) c.graph_from.result c.in-Ok.ensures.part
+    (subst (λ (bytes : List ℕ). Gives (λ (graph : List Decl). graph) (refusing graph_refused (graph_of (library_of c.args.lib.now) bytes)) c.graph_from.result) c.deref.ensures.value c.graph_from.ensures.exact)

@@ -3,19 +3,20 @@ use Rattle.model_program.specs.Follows.{View, view}
 use Rattle.model_program.specs.Ends.{Writing, writing}
 use Rattle.model_program.specs.Program.{plan}
 use Rattle.model_program.proofs.AnswerLaws.{follows-told, refused-ends, complete-ends, quiet-ends}
+use Rattle.lasp_graph.specs.Library.{library_of}
 use Rattle.lasp_run.specs.Words.{words_of}
 use Rattle.lasp_run.proofs.program.one_thread.Goals as goal
 
 pub returns-clause-refused : goal.returns-clause-refused
 returns-clause-refused g c = λ x told.
     let v : View = view (g.F.Files.content c.args.files.now) (g.F.Files.faults c.args.files.now) (g.F.Files.faults c.run_words.new.files) in
-    refused-ends (words_of c.args.words.now) v (plan (words_of c.args.words.now)) x c.run_words.ensures.ends.0 _ _ c.run_words.result (follows-told (words_of c.args.words.now) v (plan (words_of c.args.words.now)) c.run_words.ensures.ends.0 (Err x) c.run_words.ensures.ends.1 told) c.run_words.ensures.ends.2
+    refused-ends (words_of c.args.words.now) v (plan (library_of c.args.lib.now) (words_of c.args.words.now)) x c.run_words.ensures.ends.0 _ _ c.run_words.result (follows-told (words_of c.args.words.now) v (plan (library_of c.args.lib.now) (words_of c.args.words.now)) c.run_words.ensures.ends.0 (Err x) c.run_words.ensures.ends.1 told) c.run_words.ensures.ends.2
 
 pub returns-clause-complete : goal.returns-clause-complete
 returns-clause-complete g c = λ text told quiet sound.
     let v : View = view (g.F.Files.content c.args.files.now) (g.F.Files.faults c.args.files.now) (g.F.Files.faults c.run_words.new.files) in
     let out : Writing = writing (g.O.Sink.written c.args.out.now) (g.O.Sink.written c.run_words.new.out) (g.O.Sink.faults c.args.out.now) (g.O.Sink.faults c.run_words.new.out) in
-    complete-ends (words_of c.args.words.now) v (plan (words_of c.args.words.now)) text c.run_words.ensures.ends.0 out _ c.run_words.result quiet sound (follows-told (words_of c.args.words.now) v (plan (words_of c.args.words.now)) c.run_words.ensures.ends.0 (Ok text) c.run_words.ensures.ends.1 told) c.run_words.ensures.ends.2
+    complete-ends (words_of c.args.words.now) v (plan (library_of c.args.lib.now) (words_of c.args.words.now)) text c.run_words.ensures.ends.0 out _ c.run_words.result quiet sound (follows-told (words_of c.args.words.now) v (plan (library_of c.args.lib.now) (words_of c.args.words.now)) c.run_words.ensures.ends.0 (Ok text) c.run_words.ensures.ends.1 told) c.run_words.ensures.ends.2
 
 pub returns-clause-quiet : goal.returns-clause-quiet
 returns-clause-quiet g c = λ not_done not_fault.

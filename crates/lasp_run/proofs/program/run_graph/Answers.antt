@@ -4,6 +4,7 @@ use Rattle.model_program.specs.Plan.{Says}
 use Rattle.model_program.specs.Follows.{view}
 use Rattle.model_program.specs.Program.{run_answer}
 use Rattle.model_program.proofs.PlanLaws.{part-itself, follows-says}
+use Rattle.lasp_graph.specs.Library.{library_of}
 use Rattle.lasp_run.specs.Words.{words_of, answered}
 use Rattle.lasp_run.proofs.PartLaws.{gives-answered}
 use Rattle.lasp_run.proofs.program.run_graph.Goals as goal
