@@ -1,0 +1,91 @@
+//! Runs of graphs that name functions: a library of two, made of closures.
+
+ghost use Rattle.std.specs.Prelude.{◌≡◌};
+ghost use Rattle.model_values.specs.Size.{IsSized};
+ghost use Rattle.model_functions.specs.Predicate.{passes};
+ghost use Rattle.lasp_value.specs.Value.{val_of};
+ghost use Rattle.lasp_fns.specs.Answers.{Answers};
+
+use super::{CHECK, PLAIN, ends_over, files_of};
+use lasp_fns::{
+    Library, MapOp, MapOps, PredOp, PredOps, StoredMap, StoredPred, apply_map, apply_pred,
+};
+use lasp_value::Value;
+use std::alloc::AllocError;
+use std::test::Fail;
+
+/// Each words, graph and script with the status, the report and the line on `err`.
+const RUNS: [(&str, &str, &str, u8, &str, &str); 5] = [
+    // two values that a function makes one go one by one
+    (
+        PLAIN,
+        "[[\"a\",\"orset\"],[\"m\",\"map\",\"a\",\"abs\"]]",
+        "[[\"nodes\",1],[\"add\",0,\"a\",-3],[\"add\",0,\"a\",3],[\"print\",0,\"m\"],[\"remove\",0,\"a\",3],[\"print\",0,\"m\"],[\"remove\",0,\"a\",-3],[\"print\",0,\"m\"],[\"add\",0,\"a\",-3],[\"print\",0,\"m\"]]",
+        0,
+        "0 m [3]\n0 m [3]\n0 m []\n0 m [3]\nknown 0 5\n",
+        "",
+    ),
+    (
+        PLAIN,
+        "[[\"a\",\"orset\"],[\"e\",\"filter\",\"a\",\"even\"],[\"m\",\"map\",\"e\",\"abs\"]]",
+        "[[\"nodes\",1],[\"add\",0,\"a\",-4],[\"add\",0,\"a\",3],[\"add\",0,\"a\",\"x\"],[\"print\",0,\"e\"],[\"print\",0,\"m\"]]",
+        0,
+        "0 e [-4]\n0 m [4]\nknown 0 3\n",
+        "",
+    ),
+    (
+        CHECK,
+        "[[\"a\",\"orset\"],[\"e\",\"filter\",\"a\",\"even\"],[\"m\",\"map\",\"e\",\"abs\"]]",
+        "",
+        0,
+        "a orset 1\ne filter 1\nm map 1\n",
+        "",
+    ),
+    // a predicate is no map function
+    (
+        PLAIN,
+        "[[\"a\",\"orset\"],[\"m\",\"map\",\"a\",\"even\"]]",
+        "",
+        2,
+        "",
+        "graph 1 UnknownFunction\n",
+    ),
+    (
+        CHECK,
+        "[[\"a\",\"orset\"],[\"m\",\"filter\",\"a\",\"abs\"]]",
+        "",
+        2,
+        "",
+        "graph 1 UnknownFunction\n",
+    ),
+];
+
+#[test]
+fn functions_are_those_of_the_library(rt: HostRuntime) -> Result<(), Fail> {
+    let alloc = rt.alloc();
+    let mut steps = MapOps::new(alloc);
+    steps.push(MapOp::Abs)?;
+    let mine = steps.try_clone()?;
+    let f = move |v: &Value| -> Result<Value, AllocError>
+        requires { IsSized (val_of v.now) }
+        ensures { Answers mine (val_of v.entry.now) result }
+    { apply_map(alloc, &mine, v) };
+    let mut conditions = PredOps::new(alloc);
+    conditions.push(PredOp::Even)?;
+    let own = conditions.try_clone()?;
+    let p = move |v: &Value| -> bool
+        requires { IsSized (val_of v.now) }
+        ensures { result ≡ passes own (val_of v.entry.now) }
+    { apply_pred(&own, v) };
+    let mut lib = Library::new(alloc);
+    lib.add_map("abs", StoredMap::new(steps, Box::new(alloc, f)?))?;
+    lib.add_pred("even", StoredPred::new(conditions, Box::new(alloc, p)?))?;
+    for (line, graph, script, status, report, told) in &RUNS {
+        let mut files = files_of(alloc, graph.as_bytes(), script.as_bytes())?;
+        assert!(rt;
+            ends_over(alloc, &lib, line, &mut files, *status, report, told)?,
+            "{graph} {script}"
+        );
+    }
+    Ok(())
+}
