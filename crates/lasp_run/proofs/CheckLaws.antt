@@ -29,7 +29,7 @@ some-same : {A : Type 0} (x y : A) → Some x ≡ Some y → x ≡ y
 some-same x y e = cc
 
 line-next : (g : List Decl) (ws : List ℕ) (x : ℕ) (d : Decl) → slice_get g x ≡ Some d → x < length ws
-    → lines_with (drop x g) (drop x ws) ≡ check_line d (width_at ws x) ++ lines_with (drop (x + 1) g) (drop (x + 1) ws)
+    → lines_with (drop x g) (drop x ws) ≡ check_line d (width_at ws x) ++ lines_with (drop (suc x) g) (drop (suc x) ws)
 line-next [] ws x d at within = absurd cc
 line-next (a ∷ g) [] x d at within = absurd (omega (arith, within))
 line-next (a ∷ g) (w ∷ ws) zero d at within = ap (λ (e : Decl). check_line e w ++ lines_with g ws) (some-same a d at)
@@ -40,8 +40,10 @@ pub lines-next : (g : List Decl) (x : ℕ) (d : Decl) (text more : List ℕ) →
     → more ≡ text ++ check_line d (width_at (widths g) x) → text ++ lines_with (drop x g) (drop x (widths g)) ≡ check_text g
     → more ++ lines_with (drop (x + 1) g) (drop (x + 1) (widths g)) ≡ check_text g
 lines-next g x d text more at within is before =
-    let rest : List ℕ = lines_with (drop (x + 1) g) (drop (x + 1) (widths g)) in
-    ap (λ (t : List ℕ). t ++ rest) is
+    let step : x + 1 ≡ suc x = omega arith in
+    let rest : List ℕ = lines_with (drop (suc x) g) (drop (suc x) (widths g)) in
+    ap (λ (n : ℕ). more ++ lines_with (drop n g) (drop n (widths g))) step
+    ∙ ap (λ (t : List ℕ). t ++ rest) is
     ∙ append_assoc text (check_line d (width_at (widths g) x)) rest
     ∙ ap (λ (t : List ℕ). text ++ t) (sym (line-next g (widths g) x d at (omega (arith, widths-length g, within))))
     ∙ before
@@ -58,3 +60,5 @@ lines-end g x text past before =
     sym (append-nil text)
     ∙ ap (λ (ds : List Decl). text ++ lines_with ds (drop x (widths g))) (sym (drop-all g x past))
     ∙ before
+
+pub ruleset checking = (check-widths, lines-next, lines-end)

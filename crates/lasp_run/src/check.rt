@@ -40,6 +40,7 @@ fn push_variable(text: &mut String, decl: &Decl, width: u8) -> Result<(), AllocE
     text.push('\n')
 }
 
+#[tactic(auto, using(crate::proofs::CheckLaws::checking))]
 /// A line for each variable of a graph.
 pub fn graph_text(alloc: Global, graph: &Graph) -> Result<Vec<u8>, AllocError>
     ensures { IfOk result (λ text. text.items ≡ check_text graph.now) }

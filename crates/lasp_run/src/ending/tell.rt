@@ -1,6 +1,7 @@
 //! The one line on `err`. No memory is taken, and a fault there changes no status.
 
 ghost use Rattle.std.specs.Prelude.{◌≡◌, ◌≤◌, ◌∷◌, [], map, codes, slice_index_or};
+ghost use Rattle.std.specs.Fmt.{decimal};
 ghost use Rattle.lasp_run.specs.Words.{words_of};
 ghost use Rattle.model_world.specs.Line.{line};
 ghost use Rattle.model_program.specs.Plan.{word_at};
@@ -64,6 +65,14 @@ pub fn tell<E: Sink>(err: &mut E, first: &[u8], rest: &[&[u8]])
     let _ = put_line(err, first, rest);
 }
 
+fn tell_number<E: Sink>(err: &mut E, first: &[u8], number: u32)
+    ensures later { E.faults err.old ≤ E.faults err.new }
+    ensures told { Tells (writing (E.written err.old) (E.written err.new) (E.faults err.old) (E.faults err.new)) (line (first.now ∷ decimal number ∷ [])) }
+{
+    let mut digits = Buffer::new();
+    tell(err, first, &[digits.format(number).as_bytes()]);
+}
+
 fn tell_refusal<E: Sink>(words: &[String], refusal: &Refusal, err: &mut E)
     ensures later { E.faults err.old ≤ E.faults err.new }
     ensures told { Tells (writing (E.written err.old) (E.written err.new) (E.faults err.old) (E.faults err.new)) (line (refusal_words (words_of words.now) refusal.now)) }
@@ -92,14 +101,8 @@ fn tell_refusal<E: Sink>(words: &[String], refusal: &Refusal, err: &mut E)
                 name.as_str().as_bytes(),
             ],
         ),
-        Refusal::NetworkFull(command) => tell(
-            err,
-            b"network full",
-            &[first.format(*command).as_bytes()],
-        ),
-        Refusal::NotReached(command) => {
-            tell(err, b"not reached", &[first.format(*command).as_bytes()])
-        }
+        Refusal::NetworkFull(command) => tell_number(err, b"network full", *command),
+        Refusal::NotReached(command) => tell_number(err, b"not reached", *command),
     }
 }
 
