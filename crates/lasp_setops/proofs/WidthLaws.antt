@@ -1,11 +1,13 @@
 -- How large the rows of results are.
-use Rattle.std.proofs.Common.{◌≡◌, ℕ, ◌+◌, ◌*◌, ◌≤◌, ◌<◌, max, Bool, true, false, if◌then◌else◌, List, ◌∷◌, subst, sym, ap, arith, ◌⊎◌, inl, inr}
-use Rattle.model_values.specs.Value.{Val, pair}
-use Rattle.model_values.specs.Token.{Tok, both}
-use Rattle.model_values.specs.Row.{Row}
+use Rattle.std.proofs.Common.{◌≡◌, ℕ, ◌+◌, ◌*◌, ◌≤◌, ◌<◌, max, ℤ, Bool, true, false, if◌then◌else◌, List, ◌∷◌, refl, ◌∙◌, subst, sym, ap, arith, ◌⊎◌, inl, inr}
+use Rattle.std.specs.Ordering.{eq_by_cmp}
+use Rattle.model_values.specs.Value.{Val, int, pair}
+use Rattle.model_values.specs.Token.{Tok, single, both}
+use Rattle.model_values.specs.Row.{Key, Row, key_cmp, key_exact}
 use Rattle.model_values.specs.Size.{leaves, text_bytes, HasSmallInts, IsSized, IsOfWidth, IsTokenOfWidth}
 use Rattle.model_functions.specs.Map.{MapOp, mapped}
-use Rattle.model_sets.specs.Rows.{level, row_mark, HasRow}
+use Rattle.model_sets.specs.Rows.{level, row_mark, HasRow, put}
+use Rattle.model_sets.proofs.RowLaws.{is-Equal, mark-put}
 use Rattle.model_sets.specs.Equations.{map_set, filter_set, union_set, product_set, intersect_set}
 use Rattle.model_sets.proofs.WordLaws.{map-has, filter-has, union-has, product-has, product-only, intersect-has, intersect-only}
 use Rattle.model_sets.proofs.EquationLaws.{tied_key}
@@ -82,5 +84,27 @@ pub width-rest : (w : ℕ) (rows rest : List Row) (r : Row) → rows ≡ r ∷ r
 width-rest w rows rest r at h =
     let all = subst (IsSetOfWidth w) at h in
     record { values = λ v t has. all.values v t (omega (arith, has)); tokens = λ v t has. all.tokens v t (omega (arith, has)) }
+
+-- one row more of a number and a single token
+pub width-number : (s t : List Row) (r : Row) (n : ℤ) (q k : ℕ) (d : Bool) → IsSetOfWidth 16 s → r ≡ ((int n, single q k), d) → t ≡ put r s → IsSetOfWidth 16 t
+width-number s t r n q k d h is new = subst (IsSetOfWidth 16) (sym (new ∙ ap (λ (p : Row). put p s) is)) record {
+  values = λ v u has. value v u (eq_by_cmp key_cmp (v, u) (int n, single q k)) refl has;
+  tokens = λ v u has. token v u (eq_by_cmp key_cmp (v, u) (int n, single q k)) refl has;
+} where
+  w : Row
+  w = ((int n, single q k), d)
+
+  older : (v : Val) (u : Tok) → eq_by_cmp key_cmp (v, u) (int n, single q k) ≡ false → HasRow (put w s) v u → HasRow s v u
+  older v u e has =
+      let none : row_mark w v u ≡ 0 = ap (λ (b : Bool). if b then level d else 0) e in
+      omega (arith, none, has, mark-put w s v u)
+
+  value : (v : Val) (u : Tok) (b : Bool) → eq_by_cmp key_cmp (v, u) (int n, single q k) ≡ b → HasRow (put w s) v u → IsOfWidth 16 v
+  value v u true e has = subst (IsOfWidth 16) (sym (ap (λ (key : Key). key.0) (key_exact (v, u) (int n, single q k) (is-Equal (key_cmp (v, u) (int n, single q k)) e)))) (record { leaves = omega arith; bytes = omega arith })
+  value v u false e has = h.values v u (older v u e has)
+
+  token : (v : Val) (u : Tok) (b : Bool) → eq_by_cmp key_cmp (v, u) (int n, single q k) ≡ b → HasRow (put w s) v u → IsTokenOfWidth 16 u
+  token v u true e has = subst (IsTokenOfWidth 16) (sym (ap (λ (key : Key). key.1) (key_exact (v, u) (int n, single q k) (is-Equal (key_cmp (v, u) (int n, single q k)) e)))) (omega arith)
+  token v u false e has = h.tokens v u (older v u e has)
 
 pub ruleset widths = (width-map, width-filter, width-union, width-product, width-intersection)

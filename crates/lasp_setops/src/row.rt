@@ -30,9 +30,9 @@ pub(crate) fn paired(alloc: Global, row: &Entry, other: &Entry) -> Result<Entry,
 {
     let first = row.value().try_clone(alloc)?;
     let second = other.value().try_clone(alloc)?;
-    let value = Value::Pair(Box::new(alloc, first)?, Box::new(alloc, second)?);
+    let pair = Value::Pair(Box::new(alloc, first)?, Box::new(alloc, second)?);
     let token = both(alloc, row, other)?;
-    Entry::new(alloc, value, token, row.is_dead() || other.is_dead())
+    Entry::new(alloc, pair, token, row.is_dead() || other.is_dead())
 }
 
 /// Two rows of one value as one: both tokens, dead where either is.
@@ -40,8 +40,8 @@ pub(crate) fn met(alloc: Global, row: &Entry, other: &Entry) -> Result<Entry, Al
     ensures { IfOk result (λ r. r ≡ met row.now other.now) }
 {
     let value = row.value().try_clone(alloc)?;
-    let token = both(alloc, row, other)?;
-    Entry::new(alloc, value, token, row.is_dead() || other.is_dead())
+    let tokens = both(alloc, row, other)?;
+    Entry::new(alloc, value, tokens, row.is_dead() || other.is_dead())
 }
 
 fn both(alloc: Global, row: &Entry, other: &Entry) -> Result<Token, AllocError>
