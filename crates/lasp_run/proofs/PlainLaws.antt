@@ -1,5 +1,6 @@
 -- What the plain engine's nodes rest on.
-use Rattle.std.proofs.Common.{zero, suc, refl, sym, ap, subst, ◌∙◌, arith}
+use Rattle.std.proofs.Common.{zero, suc, refl, sym, ap, subst, ◌∙◌, arith, get_or}
+use Rattle.model_states.specs.Counts.{count_at}
 use Rattle.std.specs.Prelude.{◌≡◌, ℕ, ◌+◌, ◌<◌, ◌⊎◌, List, [], ◌∷◌, ◌++◌, length, map, take, replicate, slice_get, slice_set, Option, Some, None, Result, Ok, Err, OnOk, Bool, IsTrue, true, false, if◌then◌else◌, nat_lt}
 use mathlib.Core.Logic.{inl, inr}
 use Rattle.std.proofs.lemmas.List.{map-set, map-append, length-set}
@@ -431,11 +432,34 @@ shape-kept nodes (Filter i place ops) built = refl
 shape-kept nodes (Fold i op place lift) built = absurd built
 
 -- what a settled node shows of a variable prints as its kind
-pub printed : (nodes : ℕ) (g : List Decl) (sources shown : List Held) (x : ℕ) (k : Kind) (s : State) → kind_at g x ≡ k → IsBuilt k → x < length g → AreShaped nodes g sources → KeepShapes (length g) g sources shown
+pub printed : (nodes : ℕ) (g : List Decl) (sources shown : List Held) (x : ℕ) (k : Kind) (s : State) → kind_at g x ≡ k → IsBuilt k → x < length g → AreShaped nodes g sources → KeepShapes (length shown) g sources shown
     → slice_get shown x ≡ Some (held_of s) → state.shown_state s ≡ shown_content (kind_at g x) (content_at (contents_of shown) x)
 printed nodes g sources shown x k s is built within shaped keep at =
     let here : IsBuilt (kind_at g x) = subst IsBuilt (sym is) built in
     let held : held_at shown x ≡ held_of s = get_or_from_slice_get shown x (held_of s) _ at in
     let shape : state.shape_of s ≡ shape_of nodes (kind_at g x) =
-    sym (ap (λ (h : Held). h.shape) held) ∙ keep x within ∙ ap (shape_after (kind_at g x)) (shaped x within) ∙ shape-kept nodes (kind_at g x) here in
+    sym (ap (λ (h : Held). h.shape) held) ∙ keep x (slice_get_within shown x (held_of s) at) ∙ ap (shape_after (kind_at g x)) (shaped x within) ∙ shape-kept nodes (kind_at g x) here in
     shown-kind nodes (kind_at g x) s here shape ∙ ap (shown_content (kind_at g x)) (sym (ap (λ (h : Held). h.content) held) ∙ sym (content-held shown x))
+
+pub length-eval : (g : List Decl) (sources : List Content) → length (eval g sources) ≡ length g
+length-eval g sources = omega (arith, length-eval_from g [] sources)
+
+-- no states have no shapes
+pub nothing-kept : (g : List Decl) (sources shown : List Held) → shown ≡ [] → KeepShapes (length shown) g sources shown
+nothing-kept g sources shown none x within = absurd (omega (arith, within, ap (λ (hs : List Held). length hs) none))
+
+-- a count that was read
+pub count-read : (counts : List ℕ) (r n : ℕ) → r < length counts → n ≡ get_or counts r n → n ≡ count_at counts r
+count-read [] r n within is = absurd (omega (arith, within))
+count-read (c ∷ counts) zero n within is = is
+count-read (c ∷ counts) (suc r) n within is = count-read counts r n (omega (arith, within)) is
+
+-- what stands where a content was joined
+pub content-joined : (old new : List Held) (x : ℕ) (s : Content) (h : Held) → IsJoined old x s new → slice_get new x ≡ Some h
+    → content_at (slice_set (contents_of old) x (join_contents (content_at (contents_of old) x) s)) x ≡ h.content
+content-joined old new x s h joined at =
+    ap (λ (cs : List Content). content_at cs x) (sym joined.contents) ∙ content-held new x ∙ ap (λ (k : Held). k.content) (get_or_from_slice_get new x h _ at)
+
+pub length-same : {X : Type 0} (n : ℕ) (x : X) → length (replicate n x) ≡ n
+length-same zero x = refl
+length-same (suc n) x = ap suc (length-same n x)

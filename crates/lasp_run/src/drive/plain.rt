@@ -35,7 +35,7 @@ pub struct PlainNode {
     ghost narrow: { AreNarrow (arc_value graph) sources },
     ghost settled: { IsTrue is_settled → contents_of shown ≡ eval (arc_value graph) (contents_of sources) } by { →_prop (Coded-set coded_contents (contents_of shown) (eval (arc_value graph) (contents_of sources))) },
     ghost small: { IsTrue is_settled → first_large 0 (contents_of shown) ≡ None },
-    ghost shapes: { IsTrue is_settled → KeepShapes (length (arc_value graph)) (arc_value graph) sources shown },
+    ghost shapes: { KeepShapes (length shown) (arc_value graph) sources shown },
 }
 
 /// The states of all variables before anything happened.

@@ -1,0 +1,36 @@
+use Rattle.std.proofs.Common.{ℕ, ◌≡◌, ◌<◌, ◌∙◌, length, List, sym, ap, subst}
+use Rattle.std.specs.Prelude.{Some, Err}
+use Rattle.std.specs.Arc.{arc_value}
+use Rattle.model_states.specs.Content.{Content}
+use Rattle.model_graph.specs.Graph.{Decl}
+use Rattle.model_graph.specs.Evaluation.{eval, first_large}
+use Rattle.lasp_graph.specs.States.{contents_of}
+use Rattle.lasp_graph.specs.Evaluated.{AreSmall, Evaluates, KeepShapes}
+use Rattle.lasp_graph.proofs.Evaluation.{first_large-small, length-contents}
+use Rattle.lasp_run.proofs.PlainLaws.{stopped-eval, length-eval}
+use Rattle.lasp_run.proofs.drive.plain.PlainNodeNode.settle.Goals as goal
+
+pub invariant_of-self : goal.invariant_of-self
+invariant_of-self g c =
+    let decls = arc_value c.args.self.now.graph in
+    let sources = contents_of c.args.self.now.sources in
+    let is : (eval decls sources ≡ contents_of c.in-Ok.states) × AreSmall (eval decls sources) =
+    subst (λ (g : List Decl). (eval g sources ≡ contents_of c.in-Ok.states) × AreSmall (eval g sources)) c.deref.ensures c.in-Ok.ensures.exact in
+    let long : length decls ≡ length c.in-Ok.states = sym (length-eval decls sources) ∙ ap (λ (cs : List Content). length cs) is.0 ∙ length-contents c.in-Ok.states in
+    record {
+      sources_of_all = c.args.self.now.sources_of_all;
+      replica_within = c.args.self.now.replica_within;
+      shaped = c.args.self.now.shaped;
+      narrow = c.args.self.now.narrow;
+      settled = λ _. sym is.0;
+      small = λ _. first_large-small 0 (contents_of c.in-Ok.states) (subst (λ (cs : List Content). AreSmall cs) is.0 is.1);
+      shapes = subst (λ (n : ℕ). KeepShapes n decls c.args.self.now.sources c.in-Ok.states) long
+          (subst (λ (g : List Decl). KeepShapes (length g) g c.args.self.now.sources c.in-Ok.states) c.deref.ensures c.in-Ok.ensures.shapes);
+    }
+
+pub returns-in-Err-TooLarge-clause-done : goal.returns-in-Err-TooLarge-clause-done
+returns-in-Err-TooLarge-clause-done g c =
+    let sources = contents_of c.args.self.now.sources in
+    subst (λ (x : ℕ). (first_large 0 (eval (arc_value c.args.self.now.graph) sources) ≡ Some x) × (x < length (arc_value c.args.self.now.graph))) (sym c.in-Err-TooLarge.x-is)
+    (stopped-eval (arc_value c.args.self.now.graph) sources c.in-Err-TooLarge.field-0 c.in-Err-TooLarge.x c.in-Err-TooLarge.field-0-is
+    (subst (λ (g : List Decl). Evaluates (Err c.in-Err-TooLarge.field-0) (eval g sources)) c.deref.ensures c.in-Err-TooLarge.ensures.exact))
