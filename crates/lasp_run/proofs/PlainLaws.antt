@@ -315,8 +315,8 @@ narrow-updated op g old new x replica k at narrow joined y within source =
     let here : IsTrue (is_source (kind_at g x)) → HasWidth 1 (content_at (contents_of old) x) = narrow x (op-within op g x at) in
     subst (λ (cs : List Content). HasWidth 1 (content_at cs y)) (sym joined.contents)
     (content-set (contents_of old) x _ y (joined-narrow here) (narrow y within source)) where
-  joined-narrow : (IsTrue (is_source (kind_at g x)) → HasWidth 1 (content_at (contents_of old) x)) → HasWidth 1 (join_contents (content_at (contents_of old) x) (plain.delta op (content_at (contents_of old) x) replica k))
-  joined-narrow here = join-narrow _ _ (here (op-source op g x at)) (delta-narrow op g x (content_at (contents_of old) x) replica k at here)
+      joined-narrow : (IsTrue (is_source (kind_at g x)) → HasWidth 1 (content_at (contents_of old) x)) → HasWidth 1 (join_contents (content_at (contents_of old) x) (plain.delta op (content_at (contents_of old) x) replica k))
+      joined-narrow here = join-narrow _ _ (here (op-source op g x at)) (delta-narrow op g x (content_at (contents_of old) x) replica k at here)
 
 -- ---- the states before anything happened
 

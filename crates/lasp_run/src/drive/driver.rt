@@ -85,13 +85,7 @@ impl<N: Node> Driver<N> {
     }
 
     /// Command number c settles every node, nodes ascending.
-    pub fn point(
-        &mut self,
-        alloc: Global,
-        graph: &Graph,
-        lib: &Library,
-        c: u32,
-    ) -> Result<(), Halt>
+    pub fn point(&mut self, alloc: Global, graph: &Graph, lib: &Library, c: u32) -> Result<(), Halt>
         requires ready { AreReady N.decls N.number N.peer graph.now (length self.old.nodes.items) c self.old.nodes.items }
         requires few { length self.old.nodes.items ≤ 8 }
         requires fits { FitsAll (library_of lib.now) graph.now }

@@ -17,4 +17,4 @@ pub returns : goal.returns
 returns c =
     ap shown_state c.deref-2.ensures
     ∙ printed (length c.args.self.now.counts.items) (arc_value c.args.self.now.graph) c.args.self.now.sources c.args.self.now.shown c.args.x (kind_of c.at-decl.result.now.kind) (arc_value c.at.result.now)
-        (subst (λ g. kind_at g c.args.x ≡ kind_of c.at-decl.result.now.kind) c.deref.ensures c.at-decl.ensures.kind) (kind-built c.at-decl.result.now.kind) c.requires.var c.args.self.now.shaped c.args.self.now.shapes c.at.ensures
+    (subst (λ g. kind_at g c.args.x ≡ kind_of c.at-decl.result.now.kind) c.deref.ensures c.at-decl.ensures.kind) (kind-built c.at-decl.result.now.kind) c.requires.var c.args.self.now.shaped c.args.self.now.shapes c.at.ensures

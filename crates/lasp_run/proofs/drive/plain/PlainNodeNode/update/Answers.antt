@@ -38,11 +38,10 @@ returns-then-size-gt-MOST_ROWS-clause-done c =
     let old = contents_of c.args.self.now.sources in
     let here = content-joined c.args.self.now.sources c.join_update.new.sources c.args.x _ (held_of (arc_value c.at.result.now)) c.in_ok-join_update.ensures.ok c.at.ensures in
     let large : row_limit < size_of (content_of (arc_value c.at.result.now)) =
-    subst (λ (s : Content). row_limit < size_of s) (ap content_of c.deref.ensures) (omega (arith, c.size.ensures, c.if-size-gt-MOST_ROWS.true)) in
-    (
+    subst (λ (s : Content). row_limit < size_of s) (ap content_of c.deref.ensures) (omega (arith, c.size.ensures, c.if-size-gt-MOST_ROWS.true)) in (
       refl,
       subst (λ (n : ℕ). row_limit < size_of (content_at (slice_set old c.args.x (join_contents (content_at old c.args.x) (delta (op_of c.args.op.now) (content_at old c.args.x) c.args.self.now.replica (n + 1)))) c.args.x)) counted
-      (subst (λ (s : Content). row_limit < size_of s) (sym here) large),
+          (subst (λ (s : Content). row_limit < size_of s) (sym here) large),
     )
 
 pub returns-clause-done : goal.returns-clause-done
@@ -51,14 +50,13 @@ returns-clause-done c =
     let old = contents_of c.args.self.now.sources in
     let here = content-joined c.args.self.now.sources c.join_update.new.sources c.args.x _ (held_of (arc_value c.at.result.now)) c.in_ok-join_update.ensures.ok c.at.ensures in
     let few : size_of (content_of (arc_value c.at.result.now)) ≤ row_limit =
-    subst (λ (s : Content). size_of s ≤ row_limit) (ap content_of c.deref.ensures) (omega (arith, c.size.ensures, c.if-size-gt-MOST_ROWS.false)) in
-    (
+    subst (λ (s : Content). size_of s ≤ row_limit) (ap content_of c.deref.ensures) (omega (arith, c.size.ensures, c.if-size-gt-MOST_ROWS.false)) in (
       λ i. record {
         contents = (c.in_ok-join_update.ensures.ok.contents ∙ ap (λ (n : ℕ). slice_set old c.args.x (join_contents (content_at old c.args.x) (delta (op_of c.args.op.now) (content_at old c.args.x) c.args.self.now.replica (n + 1)))) counted) i;
         counts = slice_set c.args.self.now.counts.items c.args.self.now.replica (counted i + 1);
       },
       subst (λ (n : ℕ). size_of (content_at (slice_set old c.args.x (join_contents (content_at old c.args.x) (delta (op_of c.args.op.now) (content_at old c.args.x) c.args.self.now.replica (n + 1)))) c.args.x) ≤ row_limit) counted
-      (subst (λ (s : Content). size_of s ≤ row_limit) (sym here) few),
+          (subst (λ (s : Content). size_of s ≤ row_limit) (sym here) few),
     )
 
 pub invariant_of-self-2-clause-replica_within : goal.invariant_of-self-2-clause-replica_within
