@@ -1,0 +1,7 @@
+pub mod ProcessLaws
+pub mod FoldLaws
+pub mod DeliveryLaws
+pub mod ReadLaws
+pub mod SourceLaws
+pub mod GrowthLaws
+pub mod BindLaws
