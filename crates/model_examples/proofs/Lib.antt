@@ -4,4 +4,5 @@ pub mod DeliveryLaws
 pub mod ReadLaws
 pub mod SourceLaws
 pub mod GrowthLaws
+pub mod AdvertisementLaws
 pub mod BindLaws

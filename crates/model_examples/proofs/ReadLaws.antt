@@ -6,17 +6,18 @@ use Rattle.model_messages.specs.Spelling.{spelled}
 use Rattle.model_world.specs.World.{play}
 use Rattle.model_world.specs.declared.stop.Stop.TheVariants.{NotReached}
 use Rattle.model_examples.specs.Case.{told, lines}
-use Rattle.model_examples.specs.Reads.{count_graph, even_graph, pending_script, missed_script, reached_script, added_script, removed_script}
+use Rattle.model_examples.specs.Graphs.{counter_graph}
+use Rattle.model_examples.specs.Reads.{even_graph, pending_script, missed_script, reached_script, added_script, removed_script}
 
-pub pending-told : told count_graph pending_script ≡ Ok (lines (codes "known 0 1 0" ∷ codes "known 1 1 1" ∷ codes "read 0 pending" ∷ codes "read 1 reached" ∷ []))
+pub pending-told : told counter_graph pending_script ≡ Ok (lines (codes "known 0 1 0" ∷ codes "known 1 1 1" ∷ codes "read 0 pending" ∷ codes "read 1 reached" ∷ []))
 unfolding play digits spelled
 pending-told = refl
 
-pub missed-told : told count_graph missed_script ≡ Err (NotReached 2)
+pub missed-told : told counter_graph missed_script ≡ Err (NotReached 2)
 unfolding play digits
 missed-told = refl
 
-pub reached-told : told count_graph reached_script ≡ Ok (lines (codes "known 0 1" ∷ []))
+pub reached-told : told counter_graph reached_script ≡ Ok (lines (codes "known 0 1" ∷ []))
 unfolding play digits
 reached-told = refl
 

@@ -4,13 +4,14 @@ use Rattle.std.specs.Fmt.{digits}
 use Rattle.model_values.specs.Text.{escaped}
 use Rattle.model_world.specs.World.{play}
 use Rattle.model_examples.specs.Case.{told, lines}
-use Rattle.model_examples.specs.Sources.{marked_graph, growing_graph, bound_script, carried_script, growing_script}
+use Rattle.model_examples.specs.Graphs.{set_graph}
+use Rattle.model_examples.specs.Sources.{growing_graph, bound_script, carried_script, growing_script}
 
-pub bound-told : told marked_graph bound_script ≡ Ok (lines (codes "0 a [5]" ∷ codes "known 0 2" ∷ []))
+pub bound-told : told set_graph bound_script ≡ Ok (lines (codes "0 a [5]" ∷ codes "known 0 2" ∷ []))
 unfolding play digits
 bound-told = refl
 
-pub carried-told : told marked_graph carried_script ≡ Ok (lines (codes "1 a [5]" ∷ codes "known 0 1 0" ∷ codes "known 1 0 1" ∷ []))
+pub carried-told : told set_graph carried_script ≡ Ok (lines (codes "1 a [5]" ∷ codes "known 0 1 0" ∷ codes "known 1 0 1" ∷ []))
 unfolding play digits
 carried-told = refl
 

@@ -1,13 +1,9 @@
 -- A case of a graph that grows.
-use Rattle.std.specs.Prelude.{pos, List, [], ◌∷◌, codes}
+use Rattle.std.specs.Prelude.{pos, [], ◌∷◌, codes}
 use Rattle.model_values.specs.Value.{int}
-use Rattle.model_graph.specs.Graph.{OrSet, Decl}
+use Rattle.model_graph.specs.Graph.{OrSet}
 use Rattle.model_world.specs.Command.{Add, Send, Deliver, Print, Declare, Script}
 use Rattle.model_examples.specs.Case.{variable}
-
--- the set a
-abbrev pub small_graph : List Decl
-small_graph = variable (codes "a") OrSet ∷ []
 
 -- node 0 adds 5 and sends; then b is declared, node 1 adds 7 to it and takes the message
 abbrev pub growth_script : Script

@@ -2,13 +2,9 @@
 use Rattle.std.specs.Prelude.{pos, List, [], ◌∷◌, ◌++◌, codes}
 use Rattle.model_values.specs.Value.{int}
 use Rattle.model_functions.specs.Predicate.{Even}
-use Rattle.model_graph.specs.Graph.{OrSet, Counter, Filter, Decl}
+use Rattle.model_graph.specs.Graph.{OrSet, Filter, Decl}
 use Rattle.model_world.specs.Command.{Above, Count, Added, Removed, Command, Add, Remove, Inc, Mark, Send, Deliver, Read, Await, Script}
 use Rattle.model_examples.specs.Case.{variable}
-
--- the counter c
-abbrev pub count_graph : List Decl
-count_graph = variable (codes "c") Counter ∷ []
 
 -- the set a, and e, its even numbers
 abbrev pub even_graph : List Decl

@@ -1,13 +1,9 @@
 -- Cases of sources: marks, grow-only sets and registers.
 use Rattle.std.specs.Prelude.{pos, negsuc, List, [], ◌∷◌, codes}
 use Rattle.model_values.specs.Value.{int, text}
-use Rattle.model_graph.specs.Graph.{OrSet, GSet, MaxReg, Decl}
+use Rattle.model_graph.specs.Graph.{GSet, MaxReg, Decl}
 use Rattle.model_world.specs.Command.{Add, Insert, Max, Mark, Bind, Settle, Print, Script}
 use Rattle.model_examples.specs.Case.{variable}
-
--- the set a
-abbrev pub marked_graph : List Decl
-marked_graph = variable (codes "a") OrSet ∷ []
 
 -- the grow-only set g and the register m
 abbrev pub growing_graph : List Decl

@@ -1,6 +1,7 @@
 //! Worked scripts, each with the report that the model says of it, by computation. There is nothing to run here: each function's contract is a group of cases.
 #![tactic(auto)]
 
+mod advertisements;
 mod binds;
 mod deliveries;
 mod folds;
@@ -9,6 +10,7 @@ mod processes;
 mod reads;
 mod sources;
 
+pub use advertisements::advertisements_under_contract_are_shown;
 pub use binds::binds_may_come_out_of_order;
 pub use deliveries::messages_may_cross_come_late_and_come_twice;
 pub use folds::folds_count_each_visible_value_once;
