@@ -6,7 +6,7 @@ use Rattle.model_world.specs.World.{play}
 use Rattle.model_known.specs.Example.{example_graph}
 use Rattle.model_examples.specs.Case.{told, lines}
 use Rattle.model_examples.specs.Graphs.{set_graph, counter_graph}
-use Rattle.model_examples.specs.Deliveries.{crossing_script, late_script, repeated_script, unheard_script, absent_script, lost_script}
+use Rattle.model_examples.specs.Deliveries.{crossing_script, late_script, repeated_script, unheard_script, lost_script}
 
 pub survives-told : told set_graph crossing_script ≡ Ok (lines (codes "0 a [1]" ∷ codes "1 a [1]" ∷ codes "known 0 2 1" ∷ codes "known 1 2 1" ∷ []))
 unfolding play digits spelled
@@ -20,10 +20,6 @@ pub unheard-told : told set_graph unheard_script ≡ Ok (lines (codes "1 a []" �
 unfolding play digits spelled
 unheard-told = refl
 
-pub absent-told : told set_graph absent_script ≡ Ok (lines (codes "0 a []" ∷ codes "known 0 1" ∷ []))
-unfolding play digits
-absent-told = refl
-
 pub lost-told : told example_graph lost_script ≡ Ok (lines (codes "1 a [5,7]" ∷ codes "known 0 2 0" ∷ codes "known 1 2 1" ∷ []))
 unfolding play digits spelled
 lost-told = refl
@@ -32,4 +28,4 @@ pub repeated-told : told counter_graph repeated_script ≡ Ok (lines (codes "0 c
 unfolding play digits spelled
 repeated-told = refl
 
-pub ruleset deliveries = (survives-told, late-told, unheard-told, absent-told, lost-told, repeated-told)
+pub ruleset deliveries = (survives-told, late-told, unheard-told, lost-told, repeated-told)

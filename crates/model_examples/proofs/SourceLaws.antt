@@ -5,7 +5,11 @@ use Rattle.model_values.specs.Text.{escaped}
 use Rattle.model_world.specs.World.{play}
 use Rattle.model_examples.specs.Case.{told, lines}
 use Rattle.model_examples.specs.Graphs.{set_graph}
-use Rattle.model_examples.specs.Sources.{growing_graph, bound_script, carried_script, growing_script}
+use Rattle.model_examples.specs.Sources.{growing_graph, absent_script, bound_script, carried_script, growing_script}
+
+pub absent-told : told set_graph absent_script ≡ Ok (lines (codes "0 a []" ∷ codes "known 0 1" ∷ []))
+unfolding play digits
+absent-told = refl
 
 pub bound-told : told set_graph bound_script ≡ Ok (lines (codes "0 a [5]" ∷ codes "known 0 2" ∷ []))
 unfolding play digits
@@ -19,4 +23,4 @@ pub growing-told : told growing_graph growing_script ≡ Ok (lines (codes "0 m n
 unfolding play digits escaped
 growing-told = refl
 
-pub ruleset sources = (bound-told, carried-told, growing-told)
+pub ruleset sources = (absent-told, bound-told, carried-told, growing-told)

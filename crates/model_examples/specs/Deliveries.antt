@@ -20,10 +20,6 @@ repeated_script = record { nodes = 2; commands = Inc 0 0 3 ∷ Send 0 ∷ Inc 1 
 abbrev pub unheard_script : Script
 unheard_script = record { nodes = 2; commands = Add 0 0 (int (pos 5)) ∷ Send 0 ∷ Print 1 0 ∷ [] }
 
--- a value is removed that is not there
-abbrev pub absent_script : Script
-absent_script = record { nodes = 1; commands = Remove 0 0 (int (pos 9)) ∷ Print 0 0 ∷ [] }
-
 -- node 0 adds 5 and 7 and sends after each; node 1 adds 5 of its own and takes the second message, again the second, and the first
 abbrev pub lost_script : Script
 lost_script = record { nodes = 2; commands = example_commands ++ example_repeats ++ Print 1 0 ∷ [] }

@@ -1,13 +1,17 @@
--- Cases of sources: marks, grow-only sets and registers.
+-- Cases of sources: an idle remove, marks, grow-only sets and registers.
 use Rattle.std.specs.Prelude.{pos, negsuc, List, [], ◌∷◌, codes}
 use Rattle.model_values.specs.Value.{int, text}
 use Rattle.model_graph.specs.Graph.{GSet, MaxReg, Decl}
-use Rattle.model_world.specs.Command.{Add, Insert, Max, Mark, Bind, Settle, Print, Script}
+use Rattle.model_world.specs.Command.{Add, Remove, Insert, Max, Mark, Bind, Settle, Print, Script}
 use Rattle.model_examples.specs.Case.{variable}
 
 -- the grow-only set g and the register m
 abbrev pub growing_graph : List Decl
 growing_graph = variable (codes "g") GSet ∷ variable (codes "m") MaxReg ∷ []
+
+-- a value is removed that is not there
+abbrev pub absent_script : Script
+absent_script = record { nodes = 1; commands = Remove 0 0 (int (pos 9)) ∷ Print 0 0 ∷ [] }
 
 -- 5 is added and marked, and the mark is bound where it was made
 abbrev pub bound_script : Script
