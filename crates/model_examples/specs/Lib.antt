@@ -1,0 +1,10 @@
+pub mod Case
+pub mod Graphs
+pub mod Processes
+pub mod Folds
+pub mod Deliveries
+pub mod Reads
+pub mod Sources
+pub mod Growth
+pub mod Advertisements
+pub mod Binds
