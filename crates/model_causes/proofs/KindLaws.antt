@@ -6,7 +6,7 @@ use Rattle.std.proofs.lemmas.Bool.{false≢true}
 use Rattle.model_functions.specs.Library.{Library}
 use Rattle.model_graph.specs.Chain.{◌>>=◌, check, or_else}
 use Rattle.model_graph.specs.Graph.{Kind, OrSet, GSet, Counter, MaxReg, Union, Product, Intersection, Map, Filter, Decl, is_set, decl_at}
-use Rattle.model_readings.specs.Graph.{Form, orset, gset, counter, maxreg, union, product, intersection, map, filter, place_of, known, set_checked, function_named, pair_read, function_read, kind_read}
+use Rattle.model_readings.specs.Graph.{Form, orset, gset, counter, maxreg, union, product, intersection, map, filter, place_of, known, set_checked, function_named, inputs_read, input_read, function_read, pair_read, applied_read, kind_read}
 use Rattle.model_readings.specs.declared.graph_why.GraphWhy.{GraphWhy}
 use Rattle.model_readings.specs.declared.graph_why.GraphWhy.TheVariants as why
 use Rattle.model_causes.specs.Named.{IsDeclared, IsNamed, IsStored}
@@ -62,9 +62,12 @@ either-sets : (before : List Decl) (x y z : List ℕ) (d e k : Decl) → IsNamed
 either-sets before x y z d e k n s m t (inl same) named = set-named before x z d k n s same named
 either-sets before x y z d e k n s m t (inr same) named = set-named before y z e k m t same named
 
+abbrev pair_made : (ℕ → ℕ → Kind) → Result (ℕ × ℕ) GraphWhy → Result Kind GraphWhy
+pair_made make r = r >>= λ p. Ok (make p.0 p.1)
+
 pair-sets : (before : List Decl) (make : ℕ → ℕ → Kind) (x y : List ℕ) (i j : ℕ) (t u : Result (Unit {0}) GraphWhy)
     → IsNamed before x (decl_at before i) → IsNamed before y (decl_at before j) → SetAnswer (decl_at before i) t → SetAnswer (decl_at before j) u
-    → KindAnswer before (Either x y) (Unit {0}) (t >>= λ _. u >>= λ _. Ok (make i j))
+    → KindAnswer before (Either x y) (Unit {0}) (pair_made make (t >>= λ _. u >>= λ _. Ok (i, j)))
 pair-sets before make x y i j (Err e) u n m (other o) v =
     no_set (λ z taken. either-declared before x y z _ _ n m taken) (record { input = x; decl = decl_at before i; taken = inl refl; named = n; kind = o })
 pair-sets before make x y i j (Ok k) (Err e) n m (set s) (other o) =
@@ -73,13 +76,13 @@ pair-sets before make x y i j (Ok k) (Ok l) n m (set s) (set t) =
     of_kind (λ z taken. either-declared before x y z _ _ n m taken) (λ z e taken named. either-sets before x y z _ _ e n s m t taken named) tt
 
 pair-inputs : (before : List Decl) (make : ℕ → ℕ → Kind) (x y : List ℕ) (r s : Result ℕ GraphWhy) → InputAnswer before x r → InputAnswer before y s
-    → KindAnswer before (Either x y) (Unit {0}) (r >>= λ i. s >>= λ j. set_checked before i >>= λ _. set_checked before j >>= λ _. Ok (make i j))
+    → KindAnswer before (Either x y) (Unit {0}) (pair_made make (r >>= λ i. s >>= λ j. set_checked before i >>= λ _. set_checked before j >>= λ _. Ok (i, j)))
 pair-inputs before make x y (Err e) s (undeclared n) m = unknown (record { input = x; taken = inl refl; absent = n })
 pair-inputs before make x y (Ok i) (Err e) (declared n) (undeclared m) = unknown (record { input = y; taken = inr refl; absent = m })
 pair-inputs before make x y (Ok i) (Ok j) (declared n) (declared m) = pair-sets before make x y i j (set_checked before i) (set_checked before j) n m (set-answer before i) (set-answer before j)
 
 pair-answer : (before : List Decl) (make : ℕ → ℕ → Kind) (x y : List ℕ) → KindAnswer before (Either x y) (Unit {0}) (pair_read before make x y)
-unfolding pair_read
+unfolding inputs_read
 pair-answer before make x y = pair-inputs before make x y (known before x) (known before y) (input-answer before x) (input-answer before y)
 
 -- one input and a function
@@ -96,18 +99,18 @@ function-stored before functions make x f i (Some p) n s (stored_as h) =
 
 function-sets : {A : Type 0} (before : List Decl) (functions : List (List ℕ × A)) (make : ℕ → ℕ → A → Kind) (x f : List ℕ) (i : ℕ) (t : Result (Unit {0}) GraphWhy)
     → IsNamed before x (decl_at before i) → SetAnswer (decl_at before i) t
-    → KindAnswer before (Only x) (IsStored functions f) (t >>= λ _. or_else (function_named functions f) why.UnknownFunction >>= λ p. Ok (make i p.0 p.1))
+    → KindAnswer before (Only x) (IsStored functions f) ((t >>= λ _. Ok i) >>= λ j. or_else (function_named functions f) why.UnknownFunction >>= λ p. Ok (make j p.0 p.1))
 function-sets before functions make x f i (Err e) n (other o) =
     no_set (λ z same. declared-named before x z _ n same) (record { input = x; decl = decl_at before i; taken = refl; named = n; kind = o })
 function-sets before functions make x f i (Ok k) n (set s) = function-stored before functions make x f i (function_named functions f) n s (function-answer functions f)
 
 function-inputs : {A : Type 0} (before : List Decl) (functions : List (List ℕ × A)) (make : ℕ → ℕ → A → Kind) (x f : List ℕ) (r : Result ℕ GraphWhy) → InputAnswer before x r
-    → KindAnswer before (Only x) (IsStored functions f) (r >>= λ i. set_checked before i >>= λ _. or_else (function_named functions f) why.UnknownFunction >>= λ p. Ok (make i p.0 p.1))
+    → KindAnswer before (Only x) (IsStored functions f) ((r >>= λ i. set_checked before i >>= λ _. Ok i) >>= λ j. or_else (function_named functions f) why.UnknownFunction >>= λ p. Ok (make j p.0 p.1))
 function-inputs before functions make x f (Err e) (undeclared n) = unknown (record { input = x; taken = refl; absent = n })
 function-inputs before functions make x f (Ok i) (declared n) = function-sets before functions make x f i (set_checked before i) n (set-answer before i)
 
-functions-answer : {A : Type 0} (before : List Decl) (functions : List (List ℕ × A)) (make : ℕ → ℕ → A → Kind) (x f : List ℕ) → KindAnswer before (Only x) (IsStored functions f) (function_read before functions make x f)
-unfolding function_read
+functions-answer : {A : Type 0} (before : List Decl) (functions : List (List ℕ × A)) (make : ℕ → ℕ → A → Kind) (x f : List ℕ) → KindAnswer before (Only x) (IsStored functions f) (applied_read before functions make x f)
+unfolding input_read function_read
 functions-answer before functions make x f = function-inputs before functions make x f (known before x) (input-answer before x)
 
 source-answer : (before : List Decl) (kind : Kind) → KindAnswer before (λ _. ⊥) (Unit {0}) (Ok kind)
