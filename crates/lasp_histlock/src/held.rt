@@ -2,7 +2,7 @@
 
 use std::snapshot::Snapshot;
 
-/// The value, while it is out. It must be given back: it has no `Drop`.
+/// The value, while it is out. It is to be given back: where it is taken apart instead, the lock stays taken.
 pub struct Held<T> {
     pub value: T,
     /// The value as it was taken, which clauses alone read.

@@ -13,15 +13,15 @@
 //! lock.give(&mut first, Held { value, taken });
 //! done?;
 //! lock.rejoin(&mut first, second);
-//! let value = lock.close(first);                       // Some: every pass came back
+//! let value = lock.close(first);                       // Some: nobody has the turn
 //! ```
 //!
 //! A turn costs ten atomic steps on two words, whatever the value's size: an exchange, an addition and a store, and seven loads.
 //! A miss costs one exchange, `length` one load, `split` and `rejoin` two loads each. Nothing but `new` takes memory. Who waits
 //! in `take` tries again and again and lets other threads run in between: there is no queue, and nothing is said of fairness.
 //!
-//! A pass that is dropped stays out for good: its entries stay in the history, and `close` then answers `None`. So does a `Held`
-//! that is taken apart and never given back; the lock then stays taken.
+//! A pass that is dropped stays out for good, and its entries stay in the history. Dropped in a turn it leaves the lock taken, as
+//! does a `Held` that is taken apart and never given back: then nobody gets the value again, and `close` answers `None`.
 #![tactic(auto)]
 
 mod content;

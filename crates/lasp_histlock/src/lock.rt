@@ -163,11 +163,14 @@ impl<T: Kept + Drop> HistLock<T> {
         p.entries = p.entries.max(entries);
     }
 
-    /// Ends the lock and answers its value, unless a pass is out. It never waits: it makes at most one exchange. Where it answers
-    /// `None`, the lock is dropped, and its value with it if nobody has that.
+    /// Ends the lock and answers its value. It never waits: it makes at most one exchange. It answers `None` at once where the
+    /// pass is in a turn, and where its exchange sees the lock taken, which takes a pass that is out; then the lock is dropped,
+    /// and its value with it if nobody has that. A pass that is out without a turn hinders nothing, so `Some` doesn't say that
+    /// all came back.
     pub fn close(self, p: Pass<T>) -> Option<T>
         requires lock { p.lock ≡ self }
         requires first { p.number ≡ 0 }
+        ensures turn { p.turn ≡ true → IsNone result }
         ensures none { IfNone result ((p.turn ≡ true) ⊎ SomeOut p.made p.back) }
         ensures list { IfSome result (λ value. T.list value ≡ p.seen ++ added p.seen (T.list value)) }
         ensures others { IfSome result (λ value. All (λ e. T.names e ≢ 0) (added p.seen (T.list value))) }
