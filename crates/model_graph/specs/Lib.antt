@@ -6,3 +6,4 @@ pub mod Order
 pub mod Lawful
 pub mod Width
 pub mod Algebra
+pub mod Increment

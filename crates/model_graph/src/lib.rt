@@ -7,7 +7,7 @@ mod folds;
 mod shown;
 mod widths;
 
-pub use equations::equations_follow_their_inputs;
+pub use equations::{equations_follow_changed_rows, equations_follow_their_inputs};
 pub use evaluation::{evaluation_follows_the_sources, evaluation_solves_the_equations};
 pub use folds::{folds_combine_a_group, folds_follow_changed_rows};
 pub use shown::evaluation_shows_the_algebra;
