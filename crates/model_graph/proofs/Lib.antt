@@ -5,3 +5,4 @@ pub mod ShownLaws
 pub mod WidthLaws
 pub mod GroupLaws
 pub mod IncrementLaws
+pub mod LimitLaws

@@ -7,3 +7,4 @@ pub mod Lawful
 pub mod Width
 pub mod Algebra
 pub mod Increment
+pub mod Limit
