@@ -11,6 +11,7 @@ use Rattle.model_graph.specs.Evaluation.{equation}
 use Rattle.model_graph.specs.Lawful.{width_limit, width_at, width_of, widths, IsGraph, sources_among}
 use Rattle.model_graph.proofs.EquationLaws.{equation-ordered}
 use Rattle.model_graph.proofs.PlaceLaws.{equal-numbers}
+use Rattle.model_graph.proofs.WidthLaws.{width-source}
 use Rattle.model_messages.specs.Message.{Sent, sent_at, source_number, with_gain}
 use Rattle.model_journal.specs.Entry.{Act, Update, Deliver, Bind, Extend, Entry, Frame}
 use Rattle.model_journal.specs.Journal.{Snapshot, snapshot_at, gain, counts_after, journal, graph, val, counts}
@@ -19,7 +20,7 @@ use Rattle.model_journal.proofs.GraphLaws.{input-declared}
 use Rattle.model_journal.proofs.GoodLaws.{to-now}
 use Rattle.model_journal.proofs.NextLaws.{op-of-source}
 use Rattle.model_journal.proofs.JournalLaws.{journal-good, counts-length}
-use Rattle.model_journal.proofs.WidthLaws.{width-source, widths-at, widths-same, narrow-at}
+use Rattle.model_journal.proofs.WidthLaws.{widths-at, widths-same, narrow-at}
 use Rattle.model_journal.proofs.ValidLaws.{valid-join, valid-delta}
 use Rattle.model_journal.proofs.EquationLaws.{valid-equation}
 use Rattle.model_journal.proofs.StandLaws.{journal-valid}

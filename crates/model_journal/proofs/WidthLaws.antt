@@ -1,7 +1,7 @@
 -- The widths of a graph: each is that of its declaration over the widths of all, and a graph that goes on keeps them.
-use Rattle.std.proofs.Common.{◌≡◌, ℕ, zero, suc, ◌+◌, ◌≤◌, ◌<◌, max, inl, inr, true, List, [], ◌∷◌, ◌++◌, length, take, drop, refl, sym, ap, subst, ◌∙◌, arith}
+use Rattle.std.proofs.Common.{◌≡◌, ℕ, zero, suc, ◌+◌, ◌≤◌, ◌<◌, max, inl, inr, List, [], ◌∷◌, ◌++◌, length, take, drop, refl, sym, ap, subst, ◌∙◌, arith}
 use Rattle.std.proofs.lemmas.List.{length-take, take-append-drop}
-use Rattle.model_graph.specs.Graph.{Kind, OrSet, GSet, Counter, MaxReg, Union, Product, Intersection, Map, Filter, Fold, Decl, is_source, decl_at, kind_at, IsInput}
+use Rattle.model_graph.specs.Graph.{Kind, OrSet, GSet, Counter, MaxReg, Union, Product, Intersection, Map, Filter, Fold, Decl, decl_at, kind_at, IsInput}
 use Rattle.model_graph.specs.Lawful.{width_limit, width_at, width_of, widths_from, widths, IsGraph}
 use Rattle.model_graph.proofs.PlaceLaws.{at-append, at-last, length-append, from-nothing}
 use Rattle.model_graph.proofs.EvalLaws.{graph-earlier}
@@ -19,19 +19,6 @@ width-alike (Intersection x y) us ws h = λ i. h x (inl refl) i + h y (inr refl)
 width-alike (Map x place ops) us ws h = h x refl
 width-alike (Filter x place ops) us ws h = h x refl
 width-alike (Fold x op place lift) us ws h = h x refl
-
--- a source is of width 1
-pub width-source : (k : Kind) (ws : List ℕ) → is_source k ≡ true → width_of k ws ≡ 1
-width-source OrSet ws e = refl
-width-source GSet ws e = refl
-width-source Counter ws e = refl
-width-source MaxReg ws e = refl
-width-source (Union x y) ws e = cc
-width-source (Product x y) ws e = cc
-width-source (Intersection x y) ws e = cc
-width-source (Map x place ops) ws e = cc
-width-source (Filter x place ops) ws e = cc
-width-source (Fold x op place lift) ws e = cc
 
 widths-keep : (g : List Decl) (done : List ℕ) (x : ℕ) → x < length done → width_at (widths_from g done) x ≡ width_at done x
 widths-keep [] done x h = refl
