@@ -5,6 +5,7 @@ ghost use Rattle.model_values.specs.Value.{int};
 ghost use Rattle.model_sets.specs.Values.{visible};
 ghost use Rattle.model_journal.specs.Journal.{vals, val};
 ghost use Rattle.model_journal.specs.Clean.{version, applied, IsClean};
+ghost use Rattle.model_journal.specs.Legal.{IsLegal};
 ghost use Rattle.model_journal.specs.Example.{example_frame, example_entries};
 ghost use Rattle.model_examples.specs.Binds.{entries_in_order, contents_with, union_of_one, union_of_both, map_frame, map_entries, mapped_contents};
 
@@ -17,9 +18,10 @@ pub fn binds_may_come_out_of_order()
     ensures late { vals example_frame example_entries ≡ contents_with union_of_both }
 {}
 
-/// Two binds of a map, of which the one that read both values comes first: the map shows the one value that both become, and every variable is clean. After the first add alone, the map has not applied what its set is at.
-#[tactic(auto, using(crate::proofs::BindLaws::map_binds))]
+/// Two binds of a map, of which the one that read both values comes first. The entries are legal, the map shows the one value that both become, and every variable is clean. After the first add alone, the map has not applied what its set is at.
+#[tactic(auto, using(crate::proofs::BindLaws::map_binds, crate::proofs::MapLaws::legal))]
 pub fn a_map_is_clean_after_two_binds_out_of_order()
+    ensures legal { IsLegal map_frame map_entries }
     ensures contents { vals map_frame map_entries ≡ mapped_contents }
     ensures shown { visible (val map_frame map_entries 1).rows ≡ int (pos 1) ∷ [] }
     ensures clean { (y : ℕ) → IsClean map_frame map_entries y }
