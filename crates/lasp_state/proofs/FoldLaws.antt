@@ -29,7 +29,7 @@ pub ruleset shapes = (has-shape, folds-have-numbers)
 
 -- ---- what is taken
 
-as-many : (s t : State) → shape_of s ≡ shape_of t → length (content_of s).counts ≡ length (content_of t).counts
+pub as-many : (s t : State) → shape_of s ≡ shape_of t → length (content_of s).counts ≡ length (content_of t).counts
 as-many s t e = shape-counts (shape_of t) (content_of s) (content_of t) (subst (λ shape. HasShape shape (content_of s)) e (has-shape s)) (has-shape t)
 
 pub refuted : (b : Bool) → IsTrue b → IsFalse b → ⊥
