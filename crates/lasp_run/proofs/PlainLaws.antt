@@ -11,7 +11,7 @@ use Rattle.model_values.specs.Size.{IsOfWidth, IsTokenOfWidth}
 use Rattle.model_sets.specs.Rows.{HasRow}
 use Rattle.model_sets.proofs.WordLaws.{union-has}
 use Rattle.model_states.specs.Content.{Content, join_contents, size_of, row_limit}
-use Rattle.model_states.specs.Threshold.{Shape, set as Set, grow as Grow, counter as Count, register as Register, fold as state_fold}
+use Rattle.model_states.specs.Threshold.{Shape, set as Set, grow as Grow, counter as Count, register as Register}
 use Rattle.model_states.specs.Update as plain
 use Rattle.model_states.proofs.DeltaLaws.{add-row, remove-row}
 use Rattle.model_graph.specs.Graph.{Kind, OrSet, GSet, Counter, MaxReg, Union, Product, Intersection, Map, Filter, Fold, Decl, no_decl, decl_at, kind_at, is_source, is_set}
@@ -114,14 +114,6 @@ joined-as old new x s t e h = subst (λ (c : Content). IsJoined old x c new) e h
 pub joined-result : {E : Type 0} (r : Result (Unit {0}) E) (old new : List Held) (x : ℕ) (d : Content) (s : Held) → s.content ≡ d → OnOk r (new ≡ slice_set old x (grown (held_at old x) s)) → OnOk r (IsJoined old x d new)
 joined-result (Ok done) old new x d s e h = joined-as old new x s.content d e (joined-at old new x s h)
 joined-result (Err e) old new x d s same h = tt
-
--- what an operation updates is no fold
-pub op-nested : (op : Op) (replica : ℕ) (shape : Shape) (s t : Content) → IsOpOf op replica shape → state.AreNested shape s t
-op-nested (rust.Add v) replica shape s t is folded = absurd (let both : Set ≡ state_fold = sym is ∙ folded in cc)
-op-nested (rust.Remove v) replica shape s t is folded = absurd (let both : Set ≡ state_fold = sym is ∙ folded in cc)
-op-nested (rust.Insert v) replica shape s t is folded = absurd (let both : Grow ≡ state_fold = sym is ∙ folded in cc)
-op-nested (rust.Inc by) replica shape s t is folded = absurd (let both : Count is.0 ≡ state_fold = sym is.1 ∙ folded in cc)
-op-nested (rust.Max n) replica shape s t is folded = absurd (let both : Register ≡ state_fold = sym is ∙ folded in cc)
 
 -- ---- shapes
 
