@@ -5,7 +5,7 @@ use Rattle.model_states.specs.Content.{Content, join_contents, IsContentAtMost, 
 use Rattle.model_states.specs.Threshold.{Shape, fold, meets}
 use Rattle.model_states.proofs.ContentLaws as laws
 use Rattle.model_states.proofs.ThresholdLaws.{threshold-grows}
-use Rattle.lasp_state.specs.State.{content_of, shape_of, number_of, joined_number, number_after, AreNested, AreJoinable}
+use Rattle.lasp_state.specs.State.{content_of, shape_of, number_of, joined_number, AreJoinable}
 use Rattle.lasp_state.specs.Joined.{Joins, IsOf}
 use Rattle.lasp_state.specs.Threshold.{threshold_of}
 use Rattle.lasp_state.specs.declared.state.State.{State}

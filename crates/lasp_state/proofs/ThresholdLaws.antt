@@ -1,7 +1,6 @@
 -- What thresholds ask, from what the parts of states answer.
-use Rattle.std.proofs.Common.{◌≡◌, ◌↔◌, ℕ, zero, suc, ◌+◌, Bool, IsTrue, true, false, List, [], ◌∷◌, Option, Some, drop, refl, sym, ap, subst, ◌∙◌, ◌&&◌, ◌⊎◌, arith}
+use Rattle.std.proofs.Common.{◌≡◌, ◌↔◌, ℕ, zero, suc, ◌+◌, Bool, IsTrue, true, false, List, [], ◌∷◌, Some, drop, refl, sym, ap, subst, ◌∙◌, ◌&&◌, ◌⊎◌, arith}
 use mathlib.Core.Logic.{inl, inr}
-use Rattle.std.proofs.lemmas.Bool.Decides.{nat_tests}
 use Rattle.std.specs.List.{list_all, slice_get}
 use Rattle.model_values.specs.Value.{Val}
 use Rattle.model_values.specs.Token.{Tok}
@@ -9,8 +8,8 @@ use Rattle.model_values.specs.Row.{Row}
 use Rattle.model_sets.specs.Rows.{HasRow, IsDeadIn}
 use Rattle.model_sets.specs.Values.{IsHeld}
 use Rattle.model_sets.proofs.RowLaws.{and-left, and-both}
-use Rattle.model_states.specs.Content.{Content, least, of_set, of_grow, of_counts, of_top, IsContentAtMost, is_content_at_most}
-use Rattle.model_states.specs.Threshold.{Shape, set, grow, counter, register, fold, Added, Removed, is_shape, is_added, is_removed}
+use Rattle.model_states.specs.Content.{Content, least, of_set, IsContentAtMost, is_content_at_most}
+use Rattle.model_states.specs.Threshold.{is_added, is_removed}
 use Rattle.model_states.proofs.ContentLaws.{order-test}
 use Rattle.model_states.proofs.DeltaLaws.{insert-value}
 use Rattle.model_states.proofs.ThresholdLaws.{added-words, removed-words}
