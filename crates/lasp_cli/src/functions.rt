@@ -1,8 +1,6 @@
 //! The functions that a graph may name, each by the operations whose meaning it has.
 
-use lasp_fns::{LiftOp, MapOp, MapOps, PredOp, PredOps};
-use lasp_value::Text;
-use std::alloc::{AllocError, Global};
+use lasp_fns::{LiftOp, MapOp};
 
 /// A condition of a predicate, its text still to be copied.
 #[derive(Clone, Copy)]
@@ -58,33 +56,3 @@ pub const LIFTS: [(&str, LiftOp); 4] = [
     ("length", LiftOp::Length),
     ("first", LiftOp::First),
 ];
-
-/// The steps of a map function.
-pub fn steps_of(alloc: Global, steps: &[MapOp]) -> Result<MapOps, AllocError> {
-    let mut ops = MapOps::new(alloc);
-    for step in steps {
-        ops.push(*step)?;
-    }
-    Ok(ops)
-}
-
-/// The conditions of a predicate.
-pub fn conditions_of(alloc: Global, conditions: &[Condition]) -> Result<PredOps, AllocError> {
-    let mut ops = PredOps::new(alloc);
-    for condition in conditions {
-        ops.push(condition_of(alloc, *condition)?)?;
-    }
-    Ok(ops)
-}
-
-fn condition_of(alloc: Global, condition: Condition) -> Result<PredOp, AllocError> {
-    match condition {
-        Condition::Even => Ok(PredOp::Even),
-        Condition::Above(k) => Ok(PredOp::Above(k)),
-        Condition::Below(k) => Ok(PredOp::Below(k)),
-        Condition::IsText => Ok(PredOp::IsText),
-        Condition::StartsWith(start) => Ok(PredOp::StartsWith(Text::of(alloc, start)?)),
-        Condition::KeyMatch => Ok(PredOp::KeyMatch),
-        Condition::Same => Ok(PredOp::Same),
-    }
-}

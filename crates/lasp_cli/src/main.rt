@@ -1,23 +1,14 @@
 //! The program `lasp`: its words, the functions that its graphs may name, the real files and the standard streams, handed to the call that does the work.
 #![tactic(auto)]
 
-ghost use Rattle.std.specs.Prelude.{◌≡◌};
-ghost use Rattle.model_values.specs.Size.{IsSized};
-ghost use Rattle.model_functions.specs.Predicate.{passes};
-ghost use Rattle.model_functions.specs.Lift.{lifted};
-ghost use Rattle.lasp_value.specs.Value.{val_of};
-ghost use Rattle.lasp_fns.specs.Lift.{lift_op_of};
-ghost use Rattle.lasp_fns.specs.Answers.{Answers};
-
+mod answer;
 mod functions;
+mod library;
+mod operations;
 
-use crate::functions::{LIFTS, MAPS, PREDICATES, conditions_of, steps_of};
+use crate::answer::answer_words;
+use crate::functions::{LIFTS, MAPS, PREDICATES};
 use lasp_edge::{DirFiles, StdSink};
-use lasp_fns::{
-    Library, LibraryRefused, StoredLift, StoredMap, StoredPred, apply_lift, apply_map, apply_pred,
-};
-use lasp_run::one_thread;
-use lasp_value::Value;
 use std::alloc::AllocError;
 use std::env;
 use std::io::{self, Write};
@@ -32,40 +23,22 @@ fn words_of(rt: &HostRuntime) -> io::Result<Vec<String>> {
     Ok(words)
 }
 
-/// Makes the library, and answers the words. The closures go into it here, where it is made.
-fn run(rt: &HostRuntime, words: &[String]) -> Result<u8, LibraryRefused> {
-    let alloc = rt.alloc();
-    let mut library = Library::new(alloc);
-    for (name, steps) in &MAPS {
-        let ops = steps_of(alloc, steps)?;
-        let mine = ops.try_clone()?;
-        let f = move |v: &Value| -> Result<Value, AllocError>
-            requires { IsSized (val_of v.now) }
-            ensures { Answers mine (val_of v.entry.now) result }
-        { apply_map(alloc, &mine, v) };
-        library.add_map(name, StoredMap::new(ops, Box::new(alloc, f)?))?;
-    }
-    for (name, conditions) in &PREDICATES {
-        let ops = conditions_of(alloc, conditions)?;
-        let mine = ops.try_clone()?;
-        let f = move |v: &Value| -> bool
-            requires { IsSized (val_of v.now) }
-            ensures { result ≡ passes mine (val_of v.entry.now) }
-        { apply_pred(&mine, v) };
-        library.add_pred(name, StoredPred::new(ops, Box::new(alloc, f)?))?;
-    }
-    for (name, op) in &LIFTS {
-        let mine = *op;
-        let f = move |v: &Value| -> i64
-            requires { IsSized (val_of v.now) }
-            ensures { result ≡ lifted (lift_op_of mine) (val_of v.entry.now) }
-        { apply_lift(&mine, v) };
-        library.add_lift(name, StoredLift::new(*op, Box::new(alloc, f)?))?;
-    }
+/// Answers the words over the program's functions, the real files and the standard streams.
+#[tactic(auto, unfolding(crate::specs::Functions::program_maps, crate::specs::Functions::program_predicates, crate::specs::Functions::program_lifts))]
+fn run(rt: &HostRuntime, words: &[String]) -> Result<u8, AllocError> {
     let mut files = DirFiles::new(rt);
     let mut out = StdSink::new(rt.stdout());
     let mut err = StdSink::new(rt.stderr());
-    Ok(one_thread(alloc, words, &mut files, &mut out, &mut err, &library))
+    answer_words(
+        rt.alloc(),
+        &MAPS,
+        &PREDICATES,
+        &LIFTS,
+        words,
+        &mut files,
+        &mut out,
+        &mut err,
+    )
 }
 
 fn out_of_memory(rt: &HostRuntime) -> ExitCode {
@@ -85,7 +58,6 @@ fn main(rt: HostRuntime) -> ExitCode {
     };
     match run(&rt, &words) {
         Ok(status) => ExitCode::from(status),
-        // the names of the table are names and differ, so that memory was wanting
         Err(_) => out_of_memory(&rt),
     }
 }

@@ -1,4 +1,4 @@
-//! Runs of graphs that name functions: a library of two, made of closures.
+//! Runs of graphs that name functions: a library of three, made of closures.
 
 ghost use Rattle.std.specs.Prelude.{◌≡◌};
 ghost use Rattle.model_values.specs.Size.{IsSized};
@@ -15,7 +15,7 @@ use std::alloc::AllocError;
 use std::test::Fail;
 
 /// Each words, graph and script with the status, the report and the line on `err`.
-const RUNS: [(&str, &str, &str, u8, &str, &str); 5] = [
+const RUNS: [(&str, &str, &str, u8, &str, &str); 6] = [
     // two values that a function makes one go one by one
     (
         PLAIN,
@@ -31,6 +31,15 @@ const RUNS: [(&str, &str, &str, u8, &str, &str); 5] = [
         "[[\"nodes\",1],[\"add\",0,\"a\",-4],[\"add\",0,\"a\",3],[\"add\",0,\"a\",\"x\"],[\"print\",0,\"e\"],[\"print\",0,\"m\"]]",
         0,
         "0 e [-4]\n0 m [4]\nknown 0 3\n",
+        "",
+    ),
+    // a number stays within 64 bits
+    (
+        PLAIN,
+        "[[\"a\",\"orset\"],[\"m\",\"map\",\"a\",\"succ\"]]",
+        "[[\"nodes\",1],[\"add\",0,\"a\",9223372036854775807],[\"print\",0,\"m\"]]",
+        0,
+        "0 m [9223372036854775807]\nknown 0 1\n",
         "",
     ),
     (
@@ -60,16 +69,23 @@ const RUNS: [(&str, &str, &str, u8, &str, &str); 5] = [
     ),
 ];
 
+/// The library's map functions, each of one step.
+const MAPS: [(&str, MapOp); 2] = [("abs", MapOp::Abs), ("succ", MapOp::Add(1))];
+
 #[test]
 fn functions_are_those_of_the_library(rt: HostRuntime) -> Result<(), Fail> {
     let alloc = rt.alloc();
-    let mut steps = MapOps::new(alloc);
-    steps.push(MapOp::Abs)?;
-    let mine = steps.try_clone()?;
-    let f = move |v: &Value| -> Result<Value, AllocError>
-        requires { IsSized (val_of v.now) }
-        ensures { Answers mine (val_of v.entry.now) result }
-    { apply_map(alloc, &mine, v) };
+    let mut lib = Library::new(alloc);
+    for (name, step) in &MAPS {
+        let mut steps = MapOps::new(alloc);
+        steps.push(*step)?;
+        let mine = steps.try_clone()?;
+        let f = move |v: &Value| -> Result<Value, AllocError>
+            requires { IsSized (val_of v.now) }
+            ensures { Answers mine (val_of v.entry.now) result }
+        { apply_map(alloc, &mine, v) };
+        lib.add_map(name, StoredMap::new(steps, Box::new(alloc, f)?))?;
+    }
     let mut conditions = PredOps::new(alloc);
     conditions.push(PredOp::Even)?;
     let own = conditions.try_clone()?;
@@ -77,8 +93,6 @@ fn functions_are_those_of_the_library(rt: HostRuntime) -> Result<(), Fail> {
         requires { IsSized (val_of v.now) }
         ensures { result ≡ passes own (val_of v.entry.now) }
     { apply_pred(&own, v) };
-    let mut lib = Library::new(alloc);
-    lib.add_map("abs", StoredMap::new(steps, Box::new(alloc, f)?))?;
     lib.add_pred("even", StoredPred::new(conditions, Box::new(alloc, p)?))?;
     for (line, graph, script, status, report, told) in &RUNS {
         let mut files = files_of(alloc, graph.as_bytes(), script.as_bytes())?;

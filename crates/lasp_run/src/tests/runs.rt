@@ -2,10 +2,11 @@
 
 use super::{CHECK, FIRST_REPORT, FIRST_SCRIPT, PLAIN, UNION, ends, files_of};
 use lasp_edge::MemFiles;
+use std::alloc::{AllocError, Global};
 use std::test::Fail;
 
 /// Each graph and script with its report.
-const RUNS: [(&str, &str, &str); 10] = [
+const RUNS: [(&str, &str, &str); 11] = [
     ("[]", "[[\"nodes\",1]]", "known 0 0\n"),
     (UNION, FIRST_SCRIPT, FIRST_REPORT),
     (
@@ -49,6 +50,12 @@ const RUNS: [(&str, &str, &str); 10] = [
         "[[\"nodes\",1],[\"add\",0,\"a\",1],[\"add\",0,\"a\",2],[\"add\",0,\"b\",\"x\"],[\"print\",0,\"p\"],[\"remove\",0,\"a\",1],[\"print\",0,\"p\"],[\"remove\",0,\"b\",\"x\"],[\"print\",0,\"p\"]]",
         "0 p [[1,\"x\"],[2,\"x\"]]\n0 p [[2,\"x\"]]\n0 p []\nknown 0 5\n",
     ),
+    // a removed value goes from both sides of a product with itself
+    (
+        "[[\"a\",\"orset\"],[\"p\",\"product\",\"a\",\"a\"]]",
+        "[[\"nodes\",1],[\"add\",0,\"a\",1],[\"add\",0,\"a\",2],[\"remove\",0,\"a\",1],[\"print\",0,\"p\"]]",
+        "0 p [[2,2]]\nknown 0 3\n",
+    ),
     // a value is in both sets until it is removed from one
     (
         "[[\"a\",\"orset\"],[\"b\",\"orset\"],[\"i\",\"intersection\",\"a\",\"b\"]]",
@@ -65,6 +72,37 @@ fn runs_write_the_reports_that_were_worked_out_by_hand(rt: HostRuntime) -> Resul
         assert!(rt;
             ends(alloc, PLAIN, &mut files, 0, report, "")?,
             "{graph} {script}"
+        );
+    }
+    Ok(())
+}
+
+/// A script that adds the numbers below `many` to `a` and those below 256 to `b`.
+fn additions(alloc: Global, many: u32) -> Result<String, AllocError> {
+    let mut script = String::from_str(alloc, "[[\"nodes\",1]")?;
+    for k in 0..many {
+        write!(&mut script, ",[\"add\",0,\"a\",{k}]")?;
+    }
+    for k in 0..256 {
+        write!(&mut script, ",[\"add\",0,\"b\",{k}]")?;
+    }
+    script.push(']')?;
+    Ok(script)
+}
+
+#[test]
+fn a_product_reaches_the_limit_of_rows_and_does_not_pass_it(rt: HostRuntime) -> Result<(), Fail> {
+    let alloc = rt.alloc();
+    let graph = "[[\"a\",\"orset\"],[\"b\",\"orset\"],[\"p\",\"product\",\"a\",\"b\"]]";
+    for (many, status, report, told) in [
+        (256, 0, "known 0 512\n", ""),
+        (257, 6, "", "too large 514 0 p\n"),
+    ] {
+        let script = additions(alloc, many)?;
+        let mut files = files_of(alloc, graph.as_bytes(), script.as_bytes())?;
+        assert!(rt;
+            ends(alloc, PLAIN, &mut files, status, report, told)?,
+            "{many}"
         );
     }
     Ok(())
