@@ -1,0 +1,5 @@
+pub mod StepLaws
+pub mod TurnLaws
+pub mod PassLaws
+pub mod FoldLaws
+pub mod ModuloLaws
