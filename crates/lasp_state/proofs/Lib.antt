@@ -1,1 +1,2 @@
+mod FoldLaws
 pub mod StateLaws

@@ -6,6 +6,7 @@
 //! ```
 #![tactic(auto)]
 
+mod fold;
 mod op;
 mod print;
 mod state;

@@ -1,7 +1,7 @@
-//! The printed forms of counters and registers.
+//! The printed forms of counters, registers and folds.
 
 ghost use Rattle.std.specs.Prelude.{◌≡◌, ◌++◌, OnOk, string_bytes};
-ghost use Rattle.std.specs.Fmt.{decimal};
+ghost use Rattle.std.specs.Fmt.{decimal, signed_decimal};
 ghost use Rattle.model_world.specs.Line.{shown_top};
 
 use std::alloc::AllocError;
@@ -21,4 +21,11 @@ pub(crate) fn print_number(number: Option<i64>, out: &mut String) -> Result<(), 
         Some(number) => write!(out, "{number}"),
         None => out.push_str("null"),
     }
+}
+
+/// The number of a fold in decimal digits.
+pub(crate) fn print_fold(number: i128, out: &mut String) -> Result<(), AllocError>
+    ensures { OnOk result (string_bytes out.new ≡ string_bytes out.old ++ signed_decimal number) }
+{
+    write!(out, "{number}")
 }
