@@ -1,6 +1,6 @@
 //! The operation of a lift: the number that a value brings to a fold.
 
-ghost use Rattle.std.specs.Prelude.{◌≡◌, ◌≤◌, length, pos};
+ghost use Rattle.std.specs.Prelude.{◌≡◌, ◌↔◌, ◌≤◌, IsTrue, length, pos};
 ghost use Rattle.model_values.specs.Size.{IsSized};
 ghost use Rattle.model_functions.specs.Lift.{lifted, number_of, length_of, first_of};
 ghost use Rattle.lasp_value.specs.Value.{val_of};
@@ -9,7 +9,7 @@ ghost use Rattle.lasp_fns.specs.Lift.{lift_op_of};
 use lasp_value::Value;
 
 /// The number that a value brings to a fold.
-#[derive(Clone, Copy)]
+#[derive(Clone, Copy, PartialEq, Eq)]
 pub enum LiftOp {
     /// 1 of every value.
     One,
@@ -19,6 +19,15 @@ pub enum LiftOp {
     Length,
     /// The first part of a pair where that is a number, else 0.
     First,
+}
+
+impl LiftOp {
+    /// Whether it is the same operation.
+    pub fn is_same(&self, other: &LiftOp) -> bool
+        ensures { IsTrue result ↔ (lift_op_of self.now ≡ lift_op_of other.now) }
+    {
+        self == other
+    }
 }
 
 /// The number that a value brings. It takes no memory.

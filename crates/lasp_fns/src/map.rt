@@ -1,6 +1,6 @@
 //! The operations of a map function, and what they make of a value.
 
-ghost use Rattle.std.specs.Prelude.{◌≡◌, ◌<◌, ◌≤◌, ◌++◌, ◌∷◌, [], IfOk, OnOk, OnErr, length, slice_get, Some, map};
+ghost use Rattle.std.specs.Prelude.{◌≡◌, ◌↔◌, ◌<◌, ◌≤◌, ◌++◌, ◌∷◌, [], IfOk, IsTrue, OnOk, OnErr, length, slice_get, Some, map};
 ghost use Rattle.model_values.specs.Value.{int};
 ghost use Rattle.model_values.specs.Size.{IsSized};
 ghost use Rattle.model_functions.specs.Map.{mapped, mapped_once, mapped_number, mapped_text, mapped_pair};
@@ -13,7 +13,7 @@ use std::marker::Model;
 
 /// One step of a map function. A step that isn't made for a value leaves the value as it is, and none goes into the parts of a pair.
 /// Numbers are held between the least and the greatest of 64 bits.
-#[derive(Clone, Copy)]
+#[derive(Clone, Copy, PartialEq, Eq)]
 pub enum MapOp {
     /// Adds this number to a number.
     Add(i64),
@@ -96,11 +96,37 @@ impl MapOps {
         })
     }
 
+    /// Whether the steps are the same, one by one.
+    pub fn is_same(&self, other: &MapOps) -> bool
+        ensures { IsTrue result ↔ (self.now ≡ other.now) }
+    {
+        are_same(&self.items, &other.items)
+    }
+
     fn as_slice(&self) -> &[MapOp]
         ensures { map map_op_of result.now ≡ self.now }
     {
         self.items.as_slice()
     }
+}
+
+fn are_same(steps: &[MapOp], others: &[MapOp]) -> bool
+    ensures { IsTrue result ↔ (map map_op_of steps.now ≡ map map_op_of others.now) }
+{
+    let mut rest = others;
+    for step in steps {
+        match rest.split_first() {
+            Some((other, behind)) if is_same_step(*step, *other) => rest = behind,
+            _ => return false,
+        }
+    }
+    rest.is_empty()
+}
+
+fn is_same_step(step: MapOp, other: MapOp) -> bool
+    ensures { IsTrue result ↔ (map_op_of step ≡ map_op_of other) }
+{
+    step == other
 }
 
 /// The value after all steps. Parts of pairs that the first steps take are found without a copy.

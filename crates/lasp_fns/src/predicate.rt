@@ -1,6 +1,6 @@
 //! The operations of a predicate, and what passes them.
 
-ghost use Rattle.std.specs.Prelude.{◌≡◌, ◌<◌, ◌++◌, ◌∷◌, [], IfOk, OnOk, OnErr, length, slice_get, Some, map};
+ghost use Rattle.std.specs.Prelude.{◌≡◌, ◌↔◌, ◌<◌, ◌++◌, ◌∷◌, [], IfOk, IsTrue, OnOk, OnErr, length, slice_get, Some, map};
 ghost use Rattle.model_values.specs.Size.{IsSized};
 ghost use Rattle.model_functions.specs.Predicate.{passes, passes_once, passes_number, passes_text, passes_pair, begins_with};
 ghost use Rattle.lasp_value.specs.Value.{val_of};
@@ -42,6 +42,22 @@ impl PredOp {
             PredOp::StartsWith(text) => Ok(PredOp::StartsWith(text.try_clone()?)),
             PredOp::KeyMatch => Ok(PredOp::KeyMatch),
             PredOp::Same => Ok(PredOp::Same),
+        }
+    }
+
+    /// Whether it is the same condition, with the same bound or text.
+    pub fn is_same(&self, other: &PredOp) -> bool
+        ensures { IsTrue result ↔ (pred_op_of self.now ≡ pred_op_of other.now) }
+    {
+        match (self, other) {
+            (PredOp::Even, PredOp::Even) => true,
+            (PredOp::Above(k), PredOp::Above(l)) => k == l,
+            (PredOp::Below(k), PredOp::Below(l)) => k == l,
+            (PredOp::IsText, PredOp::IsText) => true,
+            (PredOp::StartsWith(s), PredOp::StartsWith(t)) => s.as_str() == t.as_str(),
+            (PredOp::KeyMatch, PredOp::KeyMatch) => true,
+            (PredOp::Same, PredOp::Same) => true,
+            (_, _) => false,
         }
     }
 }
@@ -109,11 +125,31 @@ impl PredOps {
         Ok(PredOps { items })
     }
 
+    /// Whether the conditions are the same, one by one.
+    pub fn is_same(&self, other: &PredOps) -> bool
+        ensures { IsTrue result ↔ (self.now ≡ other.now) }
+    {
+        are_same(&self.items, &other.items)
+    }
+
     fn as_slice(&self) -> &[PredOp]
         ensures { map pred_op_of result.now ≡ self.now }
     {
         self.items.as_slice()
     }
+}
+
+fn are_same(conditions: &[PredOp], others: &[PredOp]) -> bool
+    ensures { IsTrue result ↔ (map pred_op_of conditions.now ≡ map pred_op_of others.now) }
+{
+    let mut rest = others;
+    for condition in conditions {
+        match rest.split_first() {
+            Some((other, behind)) if condition.is_same(other) => rest = behind,
+            _ => return false,
+        }
+    }
+    rest.is_empty()
 }
 
 /// Whether a value meets all conditions. It takes no memory.

@@ -5,6 +5,7 @@
 
 mod decl;
 mod evaluate;
+mod fits;
 mod graph;
 mod inputs;
 mod kind;
