@@ -20,7 +20,7 @@ pub use decl::Decl;
 pub use evaluate::{eval_all, eval_node};
 pub use graph::Graph;
 pub use inputs::{EvalAll, EvalRefused, Inputs};
-pub use kind::{Kind, MapRef, PredRef};
+pub use kind::{FoldOp, Kind, LiftRef, MapRef, PredRef};
 pub use model_readings::GraphWhy;
 pub use read::{read_decl, read_graph};
 pub use refused::{DeclRefused, GraphRefused};
