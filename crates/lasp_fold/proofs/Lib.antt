@@ -3,3 +3,4 @@ pub mod TurnLaws
 pub mod PassLaws
 pub mod FoldLaws
 pub mod ModuloLaws
+pub mod LimitLaws

@@ -8,10 +8,14 @@ use Rattle.model_functions.specs.Lift.{LiftOp, lifted}
 use Rattle.model_sets.specs.Rows.{HasRow}
 use Rattle.model_states.specs.Content.{row_limit}
 
+-- each value is of the greatest width at most
+abbrev pub HasWidth : List Row → Type 0
+HasWidth s = (v : Val) (t : Tok) → HasRow s v t → IsOfWidth 16 v
+
 -- a set that a variable may hold: not too many rows, and each value of the greatest width at most
 pub record IsWithinLimits (s : List Row) : Type 0 where
   pub rows : length s ≤ row_limit
-  pub values : (v : Val) (t : Tok) → HasRow s v t → IsOfWidth 16 v
+  pub values : HasWidth s
 
 -- each value may be handed to a stored function
 abbrev pub AreSized : List Row → Type 0

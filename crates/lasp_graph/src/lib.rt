@@ -6,6 +6,7 @@
 mod decl;
 mod delta;
 mod evaluate;
+mod followed;
 mod fits;
 mod graph;
 mod increment;
