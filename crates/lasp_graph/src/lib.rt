@@ -6,7 +6,6 @@
 mod decl;
 mod delta;
 mod evaluate;
-mod followed;
 mod fits;
 mod graph;
 mod increment;
