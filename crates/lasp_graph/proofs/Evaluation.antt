@@ -1,5 +1,5 @@
 -- What is evaluated stays, and the first variable that is too large is the first that was met.
-use Rattle.std.proofs.Common.{◌≡◌, ◌∙◌, sym, ap, refl, subst, ℕ, zero, suc, ◌+◌, ◌<◌, ◌≤◌, List, [], ◌∷◌, ◌++◌, length, take, Err, Bool, IsTrue, true, false, Option, Some, None, nat_lt, if◌then◌else◌, append_assoc, length-append, Result, Ok, IfOk, arith}
+use Rattle.std.proofs.Common.{◌≡◌, ◌∙◌, sym, ap, refl, subst, ℕ, zero, suc, ◌+◌, ◌<◌, ◌≤◌, List, [], ◌∷◌, ◌++◌, length, take, Err, Bool, IsTrue, IsFalse, true, false, Option, Some, None, nat_lt, if◌then◌else◌, append_assoc, length-append, Result, Ok, IfOk, arith}
 use Rattle.std.proofs.lemmas.List.{append-nil, length-map, map-append}
 use Rattle.std.proofs.lemmas.Bool.{lt-ltb, le-ltb}
 use Rattle.std.proofs.lemmas.Grind.{common_steps}
@@ -9,14 +9,14 @@ use Rattle.model_states.specs.Content.{Content, least, size_of, row_limit}
 use Rattle.model_states.specs.Threshold.{Shape, set}
 use Rattle.model_graph.specs.Graph.{Kind, OrSet, GSet, Counter, MaxReg, Union, Product, Intersection, Map, Filter, Fold, Decl, no_decl, kind_at, is_source, is_set}
 use Rattle.model_graph.specs.Evaluation.{content_at, equation, evaluated, eval_from, eval, first_large}
-use Rattle.model_graph.specs.Lawful.{width_limit, width_at, width_of, widths_from, widths}
+use Rattle.model_graph.specs.Lawful.{width_limit, width_at, width_of, widths_from, widths, IsKind}
 use Rattle.model_graph.specs.Width.{HasWidth}
 use Rattle.model_graph.proofs.WidthLaws.{eval-width}
 use Rattle.lasp_graph.proofs.Entries.{widths-push}
 use borrow.Author.Tests.{ltb-true, ltb-false}
 use Rattle.model_readings.specs.Lawful.{IsSetAt, AreInputs, IsGraph}
 use Rattle.lasp_graph.specs.States.{Held, held_at, contents_of}
-use Rattle.lasp_graph.specs.Evaluated.{inputs_of, process, AreSmall, Becomes, Evaluates, stopped_at, AreSets, AreNarrow, shape_after, KeepShapes}
+use Rattle.lasp_graph.specs.Evaluated.{inputs_of, process, AreSmall, Becomes, Evaluates, stopped_at, AreSets, AreNarrow, derived_shape, shape_after, KeepShapes, number_by, KeepNumbers}
 use Rattle.lasp_graph.specs.declared.inputs.EvalRefused.{EvalRefused}
 use Rattle.lasp_graph.specs.declared.inputs.EvalRefused.TheVariants as node
 
@@ -97,13 +97,25 @@ pub inputs_before : (g : List Decl) (x : ℕ) (d : Decl) (p : ℕ × ℕ) → Is
 inputs_before g x d p good at is = inputs-sets g x d.kind p (good.each x d at).inputs is
 
 -- a set before a variable was evaluated to a set
-shape-choice : (b : Bool) (s : Shape) → (IsTrue b → s ≡ set) → (if b then s else set) ≡ set
-shape-choice true s h = h refl
-shape-choice false s h = refl
+set-derived : (k : Kind) → is_source k ≡ false → IsTrue (is_set k) → derived_shape k ≡ set
+set-derived OrSet e h = refl
+set-derived GSet e h = cc
+set-derived Counter e h = cc
+set-derived MaxReg e h = cc
+set-derived (Union i j) e h = refl
+set-derived (Product i j) e h = refl
+set-derived (Intersection i j) e h = refl
+set-derived (Map i place ops) e h = refl
+set-derived (Filter i place ops) e h = refl
+set-derived (Fold i op place lift) e h = cc
+
+shape-choice : (k : Kind) (b : Bool) (s : Shape) → is_source k ≡ b → IsTrue (is_set k) → (IsTrue b → s ≡ set) → (if b then s else derived_shape k) ≡ set
+shape-choice k true s e h is = is refl
+shape-choice k false s e h is = set-derived k e h
 
 pub earlier-shape : (g : List Decl) (x i : ℕ) (sources done : List Held) → x < length g → AreSets g sources → KeepShapes x g sources done → IsEarlierSet g x i → (held_at done i).shape ≡ set
 earlier-shape g x i sources done within sets shapes s =
-    shapes i s.earlier ∙ shape-choice (is_source (kind_at g i)) _ (λ source. sets i (omega (arith, s.earlier, within)) source s.set)
+    shapes i s.earlier ∙ shape-choice (kind_at g i) (is_source (kind_at g i)) _ refl s.set (λ source. sets i (omega (arith, s.earlier, within)) source s.set)
 
 -- what has inputs is no source
 pub derived-inputs : (k : Kind) (p : ℕ × ℕ) → inputs_of k ≡ Some p → is_source k ≡ false
@@ -194,7 +206,7 @@ stopped-eval_from k d g done sources node.Memory x is long small large = tt
 
 -- a source keeps its shape
 pub source-shape : (k : Kind) (s : Shape) → inputs_of k ≡ None → shape_after k s ≡ s
-source-shape k s none = ap (λ (b : Bool). if b then s else set) (source-inputs k none)
+source-shape k s none = ap (λ (b : Bool). if b then s else derived_shape k) (source-inputs k none)
 
 pub shape-as : {A E : Type 0} (r : Result A E) (shape : A → Shape) (s t : Shape) → s ≡ t → IfOk r (λ a. shape a ≡ s) → IfOk r (λ a. shape a ≡ t)
 shape-as (Ok a) shape s t e h = h ∙ e
@@ -226,6 +238,25 @@ shapes-push many g sources states h long keep last x within = by_place (nat_lt x
       let is : x ≡ many = omega (arith, past, within) in
       let here : x ≡ length states = omega (arith, is, long) in
       ap (λ (n : ℕ). (held_at (states ++ h ∷ []) n).shape) here ∙ ap (λ (h : Held). h.shape) (at-last states h) ∙ last ∙ ap (λ (n : ℕ). shape_after (kind_at g n) (held_at sources n).shape) (sym is)
+
+pub numbers-push : (many : ℕ) (g : List Decl) (states : List Held) (h : Held) → length states ≡ many → KeepNumbers many g states
+    → (IsFalse (is_source (kind_at g many)) → h.number ≡ number_by (kind_at g many) h.content) → KeepNumbers (many + 1) g (states ++ h ∷ [])
+numbers-push many g states h long keep last x within derived = by_place (nat_lt x many) refl where
+  by_place : (b : Bool) → nat_lt x many ≡ b → (held_at (states ++ h ∷ []) x).number ≡ number_by (kind_at g x) (held_at (states ++ h ∷ []) x).content
+  by_place true e =
+      let before : x < many = ltb-true _ _ e in
+      subst (λ (h : Held). h.number ≡ number_by (kind_at g x) h.content) (sym (at-before states h x (omega (arith, before, long)))) (keep x before derived)
+  by_place false e =
+      let past : many ≤ x = ltb-false _ _ e in
+      let is : x ≡ many = omega (arith, past, within) in
+      let here : x ≡ length states = omega (arith, is, long) in
+      let it : held_at (states ++ h ∷ []) x ≡ h = ap (λ (n : ℕ). held_at (states ++ h ∷ []) n) here ∙ at-last states h in
+      subst (λ (h : Held). h.number ≡ number_by (kind_at g x) h.content) (sym it)
+      (subst (λ (n : ℕ). h.number ≡ number_by (kind_at g n) h.content) (sym is) (last (subst (λ (n : ℕ). IsFalse (is_source (kind_at g n))) is derived)))
+
+-- what else a declaration says can be done
+pub kind-sound : (g : List Decl) (x : ℕ) (d : Decl) → IsGraph g → slice_get g x ≡ Some d → IsKind d.kind
+kind-sound g x d good at = (good.each x d at).kind
 
 -- ---- widths
 

@@ -5,3 +5,4 @@ pub mod Declared
 pub mod StateLists
 pub mod Evaluation
 pub mod ProcessLaws
+pub mod DeltaLaws

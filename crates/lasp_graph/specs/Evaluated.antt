@@ -1,11 +1,13 @@
 -- That what evaluation returned is the plain evaluation, or the first variable that is too large.
-use Rattle.std.specs.Prelude.{◌≡◌, ℕ, ◌<◌, ◌≤◌, List, [], ◌∷◌, length, Option, Some, None, Result, Ok, Err, IsTrue, if◌then◌else◌}
+use Rattle.std.specs.Prelude.{◌≡◌, ℕ, ℤ, pos, IsFalse, ◌<◌, ◌≤◌, List, [], ◌∷◌, length, Option, Some, None, Result, Ok, Err, IsTrue, if◌then◌else◌}
 use Rattle.model_functions.specs.Map.{mapped}
 use Rattle.model_functions.specs.Predicate.{passes}
 use Rattle.model_sets.specs.Equations.{map_set, filter_set, union_set, product_set, intersect_set}
 use Rattle.model_states.specs.Content.{Content, least, of_set, size_of, row_limit}
 use Rattle.model_states.specs.Threshold.{Shape, set}
 use Rattle.model_graph.specs.Graph.{Kind, OrSet, GSet, Counter, MaxReg, Union, Product, Intersection, Map, Filter, Fold, Decl, is_source, is_set, kind_at}
+use Rattle.model_graph.specs.Lawful as lawful
+use Rattle.model_graph.specs.Fold.{fold_rows}
 use Rattle.model_graph.specs.Evaluation.{content_at, first_large}
 use Rattle.model_graph.specs.Width.{HasWidth}
 use Rattle.lasp_graph.specs.States.{Held, held_at, contents_of}
@@ -79,9 +81,22 @@ AreSets g sources = (x : ℕ) → x < length g → IsTrue (is_source (kind_at g 
 abbrev pub AreNarrow : List Decl → List Held → Type 0
 AreNarrow g sources = (x : ℕ) → x < length g → IsTrue (is_source (kind_at g x)) → HasWidth 1 (content_at (contents_of sources) x)
 
--- what sort of content each variable was evaluated to: a source's own, and a process's set
+-- what sort of content a process has, whatever the number of nodes: a fold's, or a set
+abbrev pub derived_shape : Kind → Shape
+derived_shape k = lawful.shape_of 0 k
+
+-- what sort of content each variable was evaluated to: a source's own, and its kind's where it is derived
 abbrev pub shape_after : Kind → Shape → Shape
-shape_after k shape = if is_source k then shape else set
+shape_after k shape = if is_source k then shape else derived_shape k
+
+-- the number of a process that covers these rows: that of a fold, else 0
+abbrev pub number_by : Kind → Content → ℤ
+number_by (Fold x op place lift) s = fold_rows op lift s.rows
+number_by _ s = pos 0
+
+-- the number of each derived variable is that of its kind
+abbrev pub KeepNumbers : ℕ → List Decl → List Held → Type 0
+KeepNumbers many g states = (x : ℕ) → x < many → IsFalse (is_source (kind_at g x)) → (held_at states x).number ≡ number_by (kind_at g x) (held_at states x).content
 
 abbrev pub KeepShapes : ℕ → List Decl → List Held → List Held → Type 0
 KeepShapes many g sources states = (x : ℕ) → x < many → (held_at states x).shape ≡ shape_after (kind_at g x) (held_at sources x).shape

@@ -5,14 +5,15 @@ ghost use Rattle.std.specs.Arc.{arc_value};
 ghost use Rattle.model_states.specs.Content.{size_of, row_limit};
 ghost use Rattle.model_states.specs.Threshold.{set};
 ghost use Rattle.model_graph.specs.Graph.{kind_at, is_source};
+ghost use Rattle.model_graph.specs.Lawful.{IsKind};
 ghost use Rattle.model_graph.specs.Evaluation.{content_at, eval, evaluated};
 ghost use Rattle.model_graph.specs.Width.{HasWidth};
 ghost use Rattle.model_readings.specs.Lawful.{Fits, FitsAll};
-ghost use Rattle.lasp_state.specs.State.{content_of, shape_of};
+ghost use Rattle.lasp_state.specs.State.{content_of, shape_of, number_of};
 ghost use Rattle.lasp_graph.specs.Kind.{kind_of};
 ghost use Rattle.lasp_graph.specs.Library.{library_of};
 ghost use Rattle.lasp_graph.specs.States.{held_of, held_at, contents_of};
-ghost use Rattle.lasp_graph.specs.Evaluated.{process, AreSmall, Becomes, Evaluates, seen, AreSets, AreNarrow, shape_after, KeepShapes, second_of};
+ghost use Rattle.lasp_graph.specs.Evaluated.{process, AreSmall, Becomes, Evaluates, seen, AreSets, AreNarrow, derived_shape, shape_after, KeepShapes, number_by, KeepNumbers, second_of};
 
 use super::graph::Graph;
 use super::inputs::{EvalAll, EvalRefused, Inputs};
@@ -42,8 +43,10 @@ pub fn eval_node(
     requires width { HasWidth 16 (content_of (arc_value inputs.now.first)) }
     requires small { size_of (content_of (arc_value inputs.now.first)) ≤ row_limit }
     ensures content { Becomes (seen content_of result) (process (kind_at g.now var) (content_of (arc_value inputs.now.first)) (content_of (second_of inputs.now))) }
-    ensures shape { IfOk result (λ s. shape_of s ≡ set) }
+    ensures shape { IfOk result (λ s. shape_of s ≡ derived_shape (kind_at g.now var)) }
+    ensures number { IfOk result (λ s. number_of s ≡ number_by (kind_at g.now var) (content_of s)) }
 {
+    g.recall();
     let second = match &inputs.second {
         Some(second) => second,
         None => &inputs.first,
@@ -65,6 +68,7 @@ pub fn eval_all(
     requires narrow { AreNarrow g.now sources.now }
     ensures exact { Evaluates (seen contents_of result) (eval g.now (contents_of sources.now)) }
     ensures shapes { IfOk result (λ states. KeepShapes (length g.now) g.now sources.now states) }
+    ensures numbers { IfOk result (λ states. KeepNumbers (length g.now) g.now states) }
 {
     let mut states = States::new(alloc);
     for var in 0..g.len() {
@@ -95,6 +99,7 @@ fn eval_var(
     requires small { AreSmall (contents_of done.now) }
     ensures content { Becomes (seen (λ s. content_of (arc_value s)) result) (evaluated (kind_at g.now var) (contents_of done.now) (contents_of sources.now)) }
     ensures shape { IfOk result (λ s. shape_of (arc_value s) ≡ shape_after (kind_at g.now var) (held_at sources.now var).shape) }
+    ensures number { IfOk result (λ s. IsFalse (is_source (kind_at g.now var)) → number_of (arc_value s) ≡ number_by (kind_at g.now var) (content_of (arc_value s))) }
 {
     let kind = &g.at(var as u64).kind;
     match kind.inputs() {
@@ -118,11 +123,13 @@ fn eval_derived(
 ) -> Result<Arc<State>, EvalRefused>
     requires derived { IsFalse (is_source (kind_of kind.now)) }
     requires fits { Fits (library_of lib.now) (kind_of kind.now) }
+    requires sound { IsKind (kind_of kind.now) }
     requires sets { (shape_of x.now ≡ set) × (shape_of y.now ≡ set) }
     requires width { HasWidth 16 (content_of x.now) }
     requires small { size_of (content_of x.now) ≤ row_limit }
     ensures content { Becomes (seen (λ s. content_of (arc_value s)) result) (process (kind_of kind.now) (content_of x.now) (content_of y.now)) }
-    ensures shape { IfOk result (λ s. shape_of (arc_value s) ≡ set) }
+    ensures shape { IfOk result (λ s. shape_of (arc_value s) ≡ derived_shape (kind_of kind.now)) }
+    ensures number { IfOk result (λ s. number_of (arc_value s) ≡ number_by (kind_of kind.now) (content_of (arc_value s))) }
 {
     match eval_process(alloc, kind, lib, x, y) {
         Ok(state) => match Arc::new(alloc, state) {

@@ -3,13 +3,14 @@
 ghost use Rattle.std.specs.Prelude.{◌≡◌, ◌↔◌, IsTrue, Some};
 ghost use Rattle.model_functions.specs.Library.{operations_at};
 ghost use Rattle.model_readings.specs.Lawful.{Fits, FitsAll};
-ghost use Rattle.lasp_fns.specs.Library.{maps_of, predicates_of};
+ghost use Rattle.lasp_fns.specs.Lift.{lift_op_of};
+ghost use Rattle.lasp_fns.specs.Library.{maps_of, predicates_of, lifts_of};
 ghost use Rattle.lasp_fns.specs.Steps as counted;
 ghost use Rattle.lasp_graph.specs.Kind.{kind_of};
 ghost use Rattle.lasp_graph.specs.Library.{library_of};
 
 use super::graph::Graph;
-use super::kind::{Kind, MapRef, PredRef};
+use super::kind::{Kind, LiftRef, MapRef, PredRef};
 use lasp_fns::{Library, StepLib};
 
 impl Graph {
@@ -43,6 +44,7 @@ impl Kind {
             Kind::Union(_, _) | Kind::Product(_, _) | Kind::Intersection(_, _) => true,
             Kind::Map(_, f) => has_map(lib, f),
             Kind::Filter(_, p) => has_predicate(lib, p),
+            Kind::Fold(_, _, l) => has_lift(lib, l),
         }
     }
 }
@@ -61,6 +63,15 @@ fn has_predicate(lib: &Library, p: &PredRef) -> bool
 {
     match lib.pred_ops(p.place) {
         Some(ops) => ops.is_same(&p.ops),
+        None => false,
+    }
+}
+
+fn has_lift(lib: &Library, l: &LiftRef) -> bool
+    ensures { IsTrue result ↔ (operations_at (lifts_of lib.now) l.now.place ≡ Some (lift_op_of l.now.op)) }
+{
+    match lib.lift_op(l.place) {
+        Some(op) => op.is_same(&l.op),
         None => false,
     }
 }

@@ -98,6 +98,7 @@ impl Graph {
             Kind::Intersection(x, y) => u64::from(self.width(*x)) + u64::from(self.width(*y)),
             Kind::Map(x, _) => u64::from(self.width(*x)),
             Kind::Filter(x, _) => u64::from(self.width(*x)),
+            Kind::Fold(x, _, _) => u64::from(self.width(*x)),
         }
     }
 

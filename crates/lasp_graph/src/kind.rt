@@ -8,7 +8,7 @@ ghost use Rattle.lasp_state.specs.State as state;
 ghost use Rattle.lasp_graph.specs.Kind.{kind_of};
 ghost use Rattle.lasp_graph.specs.Evaluated.{inputs_of};
 
-use lasp_fns::{MapOps, PredOps};
+use lasp_fns::{LiftOp, MapOps, PredOps};
 use lasp_state::State;
 use std::alloc::{AllocError, Global};
 
@@ -28,6 +28,26 @@ pub struct PredRef {
     pub place: u32,
     /// The operations whose meaning the predicate has.
     pub ops: PredOps,
+}
+
+/// A lift of the library: its place there, and the operation that stands at it.
+#[derive(Drop)]
+pub struct LiftRef {
+    /// The place, counted from 0.
+    pub place: u32,
+    /// The operation whose meaning the lift has.
+    pub op: LiftOp,
+}
+
+/// How a fold combines the numbers of the visible values.
+#[derive(Clone, Copy, Drop)]
+pub enum FoldOp {
+    /// Their sum.
+    Sum,
+    /// The xor of their bits, in 128 bits.
+    Xor,
+    /// The remainder of their sum by this number, which is 1 at least in a graph.
+    Modulo(u32),
 }
 
 /// What a variable is: a source, or a process over earlier variables, which are named by their numbers.
@@ -51,6 +71,8 @@ pub enum Kind {
     Map(u8, MapRef),
     /// The values of a set that pass a test.
     Filter(u8, PredRef),
+    /// The number that the lifts of a set's visible values combine to.
+    Fold(u8, FoldOp, LiftRef),
 }
 
 impl Kind {
@@ -59,7 +81,7 @@ impl Kind {
         ensures { result ≡ is_set (kind_of self.now) }
     {
         match self {
-            Kind::GSet | Kind::Counter | Kind::MaxReg => false,
+            Kind::GSet | Kind::Counter | Kind::MaxReg | Kind::Fold(_, _, _) => false,
             _ => true,
         }
     }
@@ -84,6 +106,7 @@ impl Kind {
             Kind::Intersection(x, y) => Some((*x, *y)),
             Kind::Map(x, _) => Some((*x, *x)),
             Kind::Filter(x, _) => Some((*x, *x)),
+            Kind::Fold(x, _, _) => Some((*x, *x)),
             _ => None,
         }
     }
@@ -98,6 +121,7 @@ impl Kind {
             Kind::GSet => Ok(State::no_elements(alloc)),
             Kind::Counter => State::zero_count(alloc, nodes),
             Kind::MaxReg => Ok(State::no_number()),
+            Kind::Fold(_, _, _) => Ok(State::empty_fold(alloc)),
             _ => Ok(State::empty_set(alloc)),
         }
     }

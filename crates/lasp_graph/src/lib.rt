@@ -4,9 +4,11 @@
 #![tactic(auto)]
 
 mod decl;
+mod delta;
 mod evaluate;
 mod fits;
 mod graph;
+mod increment;
 mod inputs;
 mod kind;
 mod process;
@@ -17,10 +19,11 @@ mod tree;
 mod written;
 
 pub use decl::Decl;
+pub use delta::{node_delta, node_increment};
 pub use evaluate::{eval_all, eval_node};
 pub use graph::Graph;
 pub use inputs::{EvalAll, EvalRefused, Inputs};
-pub use kind::{Kind, MapRef, PredRef};
+pub use kind::{FoldOp, Kind, LiftRef, MapRef, PredRef};
 pub use model_readings::GraphWhy;
 pub use read::{read_decl, read_graph};
 pub use refused::{DeclRefused, GraphRefused};

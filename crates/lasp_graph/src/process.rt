@@ -6,20 +6,26 @@ ghost use Rattle.model_functions.specs.Predicate.{passes};
 ghost use Rattle.model_functions.specs.Library.{operations_at};
 ghost use Rattle.model_sets.specs.Equations.{map_set, filter_set};
 ghost use Rattle.model_states.specs.Content.{of_set, size_of, row_limit};
-ghost use Rattle.model_states.specs.Threshold.{set};
+ghost use Rattle.model_states.specs.Threshold.{set, fold};
 ghost use Rattle.model_graph.specs.Graph.{is_source};
+ghost use Rattle.model_graph.specs.Lawful.{IsFoldOp, IsKind};
+ghost use Rattle.model_graph.specs.Fold.{fold_rows};
 ghost use Rattle.model_graph.specs.Width.{HasWidth};
 ghost use Rattle.model_readings.specs.Lawful.{Fits};
-ghost use Rattle.lasp_fns.specs.Library.{maps_of, predicates_of};
+ghost use Rattle.lasp_fns.specs.Stored.{lift_of};
+ghost use Rattle.lasp_fns.specs.Lift.{lift_op_of};
+ghost use Rattle.lasp_fns.specs.Library.{maps_of, predicates_of, lifts_of};
+ghost use Rattle.lasp_fold.specs.Fold.{IsWithinLimits};
 ghost use Rattle.lasp_setops.specs.Width.{IsSetOfWidth};
-ghost use Rattle.lasp_state.specs.State.{content_of, shape_of};
+ghost use Rattle.lasp_state.specs.State.{content_of, shape_of, number_of};
 ghost use Rattle.lasp_graph.specs.Library.{library_of};
-ghost use Rattle.lasp_graph.specs.Kind.{kind_of};
-ghost use Rattle.lasp_graph.specs.Evaluated.{process, Becomes, seen};
+ghost use Rattle.lasp_graph.specs.Kind.{kind_of, fold_op_of};
+ghost use Rattle.lasp_graph.specs.Evaluated.{process, Becomes, seen, derived_shape, number_by};
 
 use super::inputs::EvalRefused;
-use super::kind::{Kind, MapRef, PredRef};
-use lasp_fns::Library;
+use super::kind::{FoldOp, Kind, LiftRef, MapRef, PredRef};
+use lasp_fns::{Library, StoredLift};
+use lasp_fold::{Modulo, Sum, Xor, fold_all};
 use lasp_orset::OrSet;
 use lasp_setops::{SetRefused, filter_set, intersect_sets, map_set, product_sets, union_sets};
 use lasp_state::State;
@@ -35,20 +41,48 @@ pub(crate) fn eval_process(
 ) -> Result<State, EvalRefused>
     requires derived { IsFalse (is_source (kind_of kind.now)) }
     requires fits { Fits (library_of lib.now) (kind_of kind.now) }
+    requires sound { IsKind (kind_of kind.now) }
     requires first { shape_of x.now ≡ set }
     requires second { shape_of y.now ≡ set }
     requires width { HasWidth 16 (content_of x.now) }
     requires small { size_of (content_of x.now) ≤ row_limit }
     ensures content { Becomes (seen content_of result) (process (kind_of kind.now) (content_of x.now) (content_of y.now)) }
-    ensures shape { IfOk result (λ s. shape_of s ≡ set) }
+    ensures shape { IfOk result (λ s. shape_of s ≡ derived_shape (kind_of kind.now)) }
+    ensures number { IfOk result (λ s. number_of s ≡ number_by (kind_of kind.now) (content_of s)) }
 {
     match (x, y) {
-        (State::Set(x), State::Set(y)) => match process_sets(alloc, kind, lib, x, y) {
+        (State::Set(x), State::Set(y)) => process(alloc, kind, lib, x, y),
+        (_, _) => unreachable!(),
+    }
+}
+
+/// The same on the sets themselves.
+fn process(
+    alloc: Global,
+    kind: &Kind,
+    lib: &Library,
+    x: &OrSet,
+    y: &OrSet,
+) -> Result<State, EvalRefused>
+    requires derived { IsFalse (is_source (kind_of kind.now)) }
+    requires fits { Fits (library_of lib.now) (kind_of kind.now) }
+    requires sound { IsKind (kind_of kind.now) }
+    requires width { IsSetOfWidth 16 x.now }
+    requires small { length x.now ≤ row_limit }
+    ensures content { Becomes (seen content_of result) (process (kind_of kind.now) (of_set x.now) (of_set y.now)) }
+    ensures shape { IfOk result (λ s. shape_of s ≡ derived_shape (kind_of kind.now)) }
+    ensures number { IfOk result (λ s. number_of s ≡ number_by (kind_of kind.now) (content_of s)) }
+{
+    match kind {
+        Kind::Fold(_, op, l) => match folded_set(lib, op, l, x) {
+            Ok(fold) => Ok(fold),
+            Err(_) => Err(EvalRefused::Memory),
+        },
+        _ => match process_sets(alloc, kind, lib, x, y) {
             Ok(set) => Ok(State::Set(set)),
             Err(SetRefused::TooManyRows) => Err(EvalRefused::TooManyRows),
             Err(SetRefused::Memory) => Err(EvalRefused::Memory),
         },
-        (_, _) => unreachable!(),
     }
 }
 
@@ -60,6 +94,7 @@ fn process_sets(
     y: &OrSet,
 ) -> Result<OrSet, SetRefused>
     requires derived { IsFalse (is_source (kind_of kind.now)) }
+    requires set { derived_shape (kind_of kind.now) ≡ set }
     requires fits { Fits (library_of lib.now) (kind_of kind.now) }
     requires width { IsSetOfWidth 16 x.now }
     requires small { length x.now ≤ row_limit }
@@ -101,4 +136,31 @@ fn filtered_set(lib: &Library, p: &PredRef, x: &OrSet) -> Result<OrSet, AllocErr
     ensures small { length (filter_set (passes p.now.ops) x.now) ≤ length x.now }
 {
     filter_set(lib.pred_at(p.place), x)
+}
+
+/// The fold of a set by a lift of the library.
+fn folded_set(lib: &Library, op: &FoldOp, l: &LiftRef, x: &OrSet) -> Result<State, AllocError>
+    requires fits { operations_at (lifts_of lib.now) l.now.place ≡ Some (lift_op_of l.now.op) }
+    requires sound { IsFoldOp (fold_op_of op.now) }
+    requires width { IsSetOfWidth 16 x.now }
+    requires small { length x.now ≤ row_limit }
+    ensures content { IfOk result (λ s. content_of s ≡ of_set x.now) }
+    ensures shape { IfOk result (λ s. shape_of s ≡ fold) }
+    ensures number { IfOk result (λ s. number_of s ≡ fold_rows (fold_op_of op.now) (lift_op_of l.now.op) x.now) }
+{
+    let number = fold_number(op, lib.lift_at(l.place), x);
+    Ok(State::Fold(x.try_clone()?, number))
+}
+
+/// The number of a fold.
+fn fold_number(op: &FoldOp, lift: &StoredLift, x: &OrSet) -> i128
+    requires sound { IsFoldOp (fold_op_of op.now) }
+    requires limits { IsWithinLimits x.now }
+    ensures { result ≡ fold_rows (fold_op_of op.now) (lift_of lift.now) x.now }
+{
+    match op {
+        FoldOp::Sum => fold_all(&Sum, lift, x),
+        FoldOp::Xor => fold_all(&Xor, lift, x),
+        FoldOp::Modulo(n) => fold_all(&Modulo::new(*n), lift, x),
+    }
 }

@@ -5,7 +5,8 @@ ghost use Rattle.serde_json.specs.View.{view};
 ghost use Rattle.model_graph.specs.Lawful.{variable_limit};
 ghost use Rattle.model_readings.specs.Graph.{known, set_checked, inputs_read, input_read, function_read, kind_read, decl_read, next_read, decls_read, tree_read, graph_of};
 ghost use Rattle.model_readings.specs.Lawful.{AreInputs, IsNext};
-ghost use Rattle.lasp_fns.specs.Library.{maps_of, predicates_of};
+ghost use Rattle.lasp_fns.specs.Lift.{lift_op_of};
+ghost use Rattle.lasp_fns.specs.Library.{maps_of, predicates_of, lifts_of};
 ghost use Rattle.lasp_graph.specs.Library.{library_of};
 ghost use Rattle.lasp_graph.specs.Kind.{kind_of};
 ghost use Rattle.lasp_graph.specs.Decl.{decl_of};
@@ -14,7 +15,7 @@ ghost use Rattle.lasp_graph.specs.Answers.{Shows, Answers, Gives};
 
 use super::decl::Decl;
 use super::graph::Graph;
-use super::kind::{Kind, MapRef, PredRef};
+use super::kind::{Kind, LiftRef, MapRef, PredRef};
 use super::refused::{DeclRefused, GraphRefused};
 use super::written::{Form, written_of};
 use lasp_fns::Library;
@@ -139,6 +140,10 @@ fn read_kind(g: &Graph, lib: &Library, form: &Form) -> Result<Kind, DeclRefused>
             let i = read_input(g, x)?;
             Ok(Kind::Filter(i, read_predicate(lib, p)?))
         }
+        Form::Fold(x, op, l) => {
+            let i = read_input(g, x)?;
+            Ok(Kind::Fold(i, *op, read_lift(lib, l)?))
+        }
     }
 }
 
@@ -196,6 +201,20 @@ fn read_predicate(lib: &Library, name: &str) -> Result<PredRef, DeclRefused>
         place,
         ops: ops.try_clone()?,
     })
+}
+
+/// A lift of the library, with its operation.
+#[tactic(auto, unfolding(model_readings::specs::Graph::function_read, model_readings::specs::Graph::function_named))]
+fn read_lift(lib: &Library, name: &str) -> Result<LiftRef, GraphWhy>
+    ensures { Shows (λ l. (l.place, lift_op_of l.op)) result (function_read (lifts_of lib.now) name.now) }
+{
+    let Some(place) = lib.find_lift(name) else {
+        return Err(GraphWhy::UnknownFunction);
+    };
+    let Some(op) = lib.lift_op(place) else {
+        return Err(GraphWhy::UnknownFunction);
+    };
+    Ok(LiftRef { place, op: *op })
 }
 
 fn known(g: &Graph, name: &str) -> Result<u8, GraphWhy>

@@ -1,6 +1,7 @@
 //! What graphs are read, and how bad ones are refused.
 
 mod calls;
+mod followed;
 
 use super::{Graph, GraphRefused, GraphWhy, Kind, read_graph};
 use lasp_fns::Library;

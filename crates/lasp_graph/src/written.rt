@@ -3,11 +3,16 @@
 ghost use Rattle.std.specs.Prelude.{◌≡◌, option_map, codes};
 ghost use Rattle.serde_json.specs.View.{view};
 ghost use Rattle.model_readings.specs.Tree.{text_at, two};
-ghost use Rattle.model_readings.specs.Graph.{form_of, written_of, source_form, names_of};
+ghost use Rattle.model_readings.specs.Graph.{form_of, written_of, source_form, names_of, modulo_by, modulo_of, fold_op_of, fold_form};
+ghost use Rattle.lasp_graph.specs.Kind as kinds;
 ghost use Rattle.lasp_graph.specs.Written.{form_view, written_view};
 
-use super::tree::{has_items, is_word_at, text_at};
+use super::kind::FoldOp;
+use super::tree::{has_items, is_word_at, number_at, text_at};
 use serde_json::Value as Json;
+
+/// The greatest number that a modulo may be by.
+const MODULO_LIMIT: u64 = 4_294_967_295;
 
 /// The form of a declaration behind its name, with the names of inputs and functions.
 #[derive(Clone, Copy)]
@@ -21,6 +26,7 @@ pub enum Form<'a> {
     Intersection(&'a str, &'a str),
     Map(&'a str, &'a str),
     Filter(&'a str, &'a str),
+    Fold(&'a str, FoldOp, &'a str),
 }
 
 /// A declaration as it is written.
@@ -67,6 +73,8 @@ fn form_of(j: &Json) -> Option<Form<'_>>
     } else if is_word_at(j, 1, "filter") {
         let (x, p) = names(j)?;
         Some(Form::Filter(x, p))
+    } else if is_word_at(j, 1, "fold") {
+        fold(j)
     } else {
         None
     }
@@ -90,4 +98,54 @@ fn names(j: &Json) -> Option<(&str, &str)>
     let x = text_at(j, 2)?;
     let y = text_at(j, 3)?;
     Some((x, y))
+}
+
+/// The input, the operation and the lift behind the word of a fold.
+#[tactic(auto, unfolding(model_readings::specs::Graph::fold_form))]
+fn fold(j: &Json) -> Option<Form<'_>>
+    ensures { option_map form_view result ≡ fold_form (view j.now) }
+{
+    if !has_items(j, 5) {
+        return None;
+    }
+    let x = text_at(j, 2)?;
+    let op = fold_op_of(j)?;
+    let l = text_at(j, 4)?;
+    Some(Form::Fold(x, op, l))
+}
+
+/// The operation of a fold, which stands behind its input.
+#[tactic(auto, unfolding(model_readings::specs::Graph::fold_op_of))]
+fn fold_op_of(j: &Json) -> Option<FoldOp>
+    ensures { option_map kinds.fold_op_of result ≡ fold_op_of (view j.now) }
+{
+    if is_word_at(j, 3, "sum") {
+        Some(FoldOp::Sum)
+    } else if is_word_at(j, 3, "xor") {
+        Some(FoldOp::Xor)
+    } else {
+        modulo_of(j.get(3)?)
+    }
+}
+
+/// A modulo: its word and its number.
+#[tactic(auto, unfolding(model_readings::specs::Graph::modulo_of))]
+fn modulo_of(j: &Json) -> Option<FoldOp>
+    ensures { option_map kinds.fold_op_of result ≡ modulo_of (view j.now) }
+{
+    if !has_items(j, 2) || !is_word_at(j, 0, "modulo") {
+        return None;
+    }
+    let n = number_at(j, 1)?.as_u64()?;
+    modulo_by(n)
+}
+
+fn modulo_by(n: u64) -> Option<FoldOp>
+    ensures { option_map kinds.fold_op_of result ≡ modulo_by n }
+{
+    if n >= 1 && n <= MODULO_LIMIT {
+        Some(FoldOp::Modulo(n as u32))
+    } else {
+        None
+    }
 }

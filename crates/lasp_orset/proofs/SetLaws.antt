@@ -1,35 +1,59 @@
 -- What the set's calls answer: soundness after a row came in, the order by look-ups, and joins by parts.
-use Rattle.std.proofs.Common.{◌≡◌, ◌≢◌, ℕ, ◌+◌, ◌<◌, ◌≤◌, ◌^◌, Bool, true, false, IsTrue, nat_le, List, [], ◌∷◌, ◌++◌, length, take, get_or, refl, sym, ap, subst, ◌∙◌, append_assoc, append-nil, arith, if◌then◌else◌}
+use Rattle.std.proofs.Common.{◌≡◌, ◌≢◌, ℕ, ◌+◌, ◌<◌, ◌≤◌, ◌^◌, Bool, true, false, IsTrue, nat_le, List, [], ◌∷◌, ◌++◌, length, take, get_or, refl, sym, ap, subst, ◌∙◌, append_assoc, append-nil, arith, if◌then◌else◌, max, length-append}
 use Rattle.std.proofs.lemmas.Bool.Decides.{nat_tests}
 use Rattle.std.proofs.lemmas.List.{take_more}
 use Rattle.std.specs.Ordering.{is_eq, eq_by_cmp}
 use Rattle.std.specs.List.{list_all}
 use Rattle.std.specs.Cmp.{tied_itself}
 use Rattle.model_values.specs.Value.{Val}
+use Rattle.model_values.specs.Size.{HasSmallInts}
 use Rattle.model_values.specs.Token.{Tok}
 use Rattle.model_values.specs.Row.{Key, Row, key_cmp, key_total, key_exact}
-use Rattle.model_sets.specs.Rows.{IsAscending, put, join, IsAtMost, level, row_mark, mark}
-use Rattle.model_sets.proofs.RowLaws.{and-left, and-right, and-both, is-Equal, ascending-put, join-append, join-right, join-at_most-right}
-use Rattle.lasp_orset.specs.Pieces.{joined, AreFilled, AreSound, is_covered}
+use Rattle.model_sets.specs.Rows.{IsAscending, put, join, IsAtMost, HasRow, level, row_mark, mark}
+use Rattle.model_sets.proofs.RowLaws.{and-left, and-right, and-both, is-Equal, ascending-put, mark-put, mark-append, join-append, join-right, join-at_most-right}
+use Rattle.lasp_orset.specs.Pieces.{joined, AreFilled, HaveSmallInts, AreSound, is_covered}
 
 -- ---- soundness
 
-pub sound-more : (css bss : List (List Row)) (n : ℕ) (r : Row) (added : Bool) → AreSound css n → n ≢ 2 ^ 32 → joined bss ≡ put r (joined css)
+small-more : (r : Row) (s t : List Row) → HasSmallInts r.0.0 → HaveSmallInts s → ((v : Val) (w : Tok) → mark t v w ≡ max (row_mark r v w) (mark s v w)) → HaveSmallInts t
+small-more r s t small ints more v w has = choose (eq_by_cmp key_cmp (v, w) r.0) refl where
+  choose : (b : Bool) → eq_by_cmp key_cmp (v, w) r.0 ≡ b → HasSmallInts v
+  choose true e = subst HasSmallInts (sym (ap (λ (k : Key). k.0) (key_exact (v, w) r.0 (is-Equal (key_cmp (v, w) r.0) e)))) small
+  choose false e = let none : row_mark r v w ≡ 0 = ap (λ (b : Bool). if b then level r.1 else 0) e in ints v w (omega (arith, none, has, more v w))
+
+pub small-put : (r : Row) (s : List Row) → HasSmallInts r.0.0 → HaveSmallInts s → HaveSmallInts (put r s)
+small-put r s small ints = small-more r s (put r s) small ints (mark-put r s)
+
+pub small-push : (r : Row) (s : List Row) → HasSmallInts r.0.0 → HaveSmallInts s → HaveSmallInts (s ++ r ∷ [])
+small-push r s small ints = small-more r s (s ++ r ∷ []) small ints (λ v w. omega (arith, mark-append s (r ∷ []) v w))
+
+pub sound-more : (css bss : List (List Row)) (n : ℕ) (r : Row) (added : Bool) → HasSmallInts r.0.0 → AreSound css n → n ≢ 2 ^ 32 → joined bss ≡ put r (joined css)
     → length (joined bss) ≡ (if added then length (joined css) + 1 else length (joined css)) → added ≡ true → AreFilled bss → AreSound bss (n + 1)
-sound-more css bss n r added sound room new count is full = record {
+sound-more css bss n r added ints sound room new count is full = record {
   counted = let e = subst (λ b. length (joined bss) ≡ (if b then length (joined css) + 1 else length (joined css))) is count in omega (arith, sound.counted, e);
   small = let h = sound.small in omega arith;
   ascends = subst IsAscending (sym new) (ascending-put r (joined css) sound.ascends);
   filled = full;
+  ints = subst HaveSmallInts (sym new) (small-put r (joined css) ints sound.ints);
 }
 
-pub sound-same : (css bss : List (List Row)) (n : ℕ) (r : Row) (added : Bool) → AreSound css n → joined bss ≡ put r (joined css)
+pub sound-same : (css bss : List (List Row)) (n : ℕ) (r : Row) (added : Bool) → HasSmallInts r.0.0 → AreSound css n → joined bss ≡ put r (joined css)
     → length (joined bss) ≡ (if added then length (joined css) + 1 else length (joined css)) → added ≡ false → AreFilled bss → AreSound bss n
-sound-same css bss n r added sound new count is full = record {
+sound-same css bss n r added ints sound new count is full = record {
   counted = let e = subst (λ b. length (joined bss) ≡ (if b then length (joined css) + 1 else length (joined css))) is count in omega (arith, sound.counted, e);
   small = sound.small;
   ascends = subst IsAscending (sym new) (ascending-put r (joined css) sound.ascends);
   filled = full;
+  ints = subst HaveSmallInts (sym new) (small-put r (joined css) ints sound.ints);
+}
+
+pub sound-pushed : (css bss : List (List Row)) (n : ℕ) (r : Row) → HasSmallInts r.0.0 → AreSound css n → n ≢ 2 ^ 32 → IsAscending (joined css ++ r ∷ []) → joined bss ≡ joined css ++ r ∷ [] → AreFilled bss → AreSound bss (n + 1)
+sound-pushed css bss n r ints sound room up new full = record {
+  counted = omega (arith, sound.counted, ap length new, length-append (joined css) (r ∷ []));
+  small = let h = sound.small in omega arith;
+  ascends = subst IsAscending (sym new) up;
+  filled = full;
+  ints = subst HaveSmallInts (sym new) (small-push r (joined css) ints sound.ints);
 }
 
 -- ---- the order by look-ups

@@ -4,7 +4,9 @@ use Rattle.std.specs.declared.cmp.Ordering.{Ordering}
 use Rattle.std.specs.declared.cmp.Ordering.TheVariants.{Greater}
 use Rattle.model_values.specs.Value.{Val, val_cmp}
 use Rattle.model_values.specs.Row.{Key, Row, key_cmp}
-use Rattle.model_sets.specs.Rows.{IsAscending, level, mark}
+use Rattle.model_values.specs.Token.{Tok}
+use Rattle.model_values.specs.Size.{HasSmallInts}
+use Rattle.model_sets.specs.Rows.{IsAscending, HasRow, level, mark}
 
 -- all rows, piece after piece
 abbrev pub joined : List (List Row) → List Row
@@ -38,12 +40,17 @@ pub record IsPlace (k : Key) (css : List (List Row)) (i : ℕ) : Type 0 where
   pub below : 0 < i → top_cmp k (drop i css) ≢ Greater
   pub above : top_cmp k (drop (suc i) css) ≡ Greater
 
--- what is kept: the number of rows, which ascend, in pieces of which none is empty
+-- each number in the values of the rows has at most 64 bits
+abbrev pub HaveSmallInts : List Row → Type 0
+HaveSmallInts s = (v : Val) (t : Tok) → HasRow s v t → HasSmallInts v
+
+-- what is kept: the number of rows, which ascend and have small numbers, in pieces of which none is empty
 pub record AreSound (css : List (List Row)) (count : ℕ) : Type 0 where
   pub counted : count ≡ length (joined css)
   pub small : count ≤ 2 ^ 32
   pub ascends : IsAscending (joined css)
   pub filled : AreFilled css
+  pub ints : HaveSmallInts (joined css)
 
 -- whether a row stands in the set, and is dead there if it is dead
 abbrev pub is_covered : List Row → Row → Bool

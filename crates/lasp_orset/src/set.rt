@@ -2,7 +2,7 @@
 
 ghost use Rattle.std.specs.Prelude.{◌≡◌, ◌≢◌, ◌≤◌, ◌^◌, ◌↔◌, ◌++◌, ◌∷◌, [], IfOk, OnOk, OnErr, IsTrue, length};
 ghost use Rattle.model_sets.specs.Rows.{IsAscending, put, join};
-ghost use Rattle.lasp_orset.specs.Pieces.{AreFilled, joined};
+ghost use Rattle.lasp_orset.specs.Pieces.{AreFilled, HaveSmallInts, joined};
 
 use super::entry::Entry;
 use super::insertion::{push_entry, put_entry};
@@ -76,6 +76,13 @@ impl OrSet {
         let _count = self.count;
     }
 
+    /// Recalls, at no cost, that each number in its values has at most 64 bits.
+    pub fn recall_ints(&self)
+        ensures { HaveSmallInts self.now }
+    {
+        let _count = self.count;
+    }
+
     /// Joins another set in, and tells whether this made a difference. It costs a search for each of the other set's rows; where they bring nothing new it takes no memory.
     pub fn join_in(&mut self, other: &OrSet) -> Result<bool, AllocError>
         ensures ok { OnOk result (self.new ≡ join self.old other.now) }
@@ -120,6 +127,7 @@ impl OrSet {
         if self.count == MOST_ROWS {
             return Err(AllocError);
         }
+        entry.value().recall_ints();
         let alloc = *self.pieces.allocator();
         if put_entry(alloc, &mut self.pieces, entry)? {
             self.count += 1;
@@ -136,6 +144,7 @@ impl OrSet {
         if self.count == MOST_ROWS {
             return Err(AllocError);
         }
+        entry.value().recall_ints();
         let alloc = *self.pieces.allocator();
         push_entry(alloc, &mut self.pieces, entry)?;
         self.count += 1;

@@ -1,7 +1,8 @@
 -- What the plain engine's nodes rest on.
 use Rattle.std.proofs.Common.{zero, suc, refl, sym, ap, subst, ◌∙◌, arith, get_or}
 use Rattle.model_states.specs.Counts.{count_at}
-use Rattle.std.specs.Prelude.{◌≡◌, ℕ, ◌+◌, ◌<◌, ◌⊎◌, List, [], ◌∷◌, ◌++◌, length, map, take, replicate, slice_get, slice_set, Option, Some, None, Result, Ok, Err, OnOk, Bool, IsTrue, true, false, if◌then◌else◌, nat_lt}
+use Rattle.std.specs.Prelude.{◌≡◌, ℕ, ◌+◌, ◌<◌, ◌⊎◌, List, [], ◌∷◌, ◌++◌, length, map, take, replicate, slice_get, slice_set, Option, Some, None, Result, Ok, Err, OnOk, Bool, IsTrue, IsFalse, true, false, if◌then◌else◌, nat_lt}
+use Rattle.std.specs.Fmt.{signed_decimal}
 use mathlib.Core.Logic.{inl, inr}
 use Rattle.std.proofs.lemmas.List.{map-set, map-append, length-set}
 use Rattle.std.proofs.lemmas.Option.{slice_get_within, get_or_from_slice_get}
@@ -25,16 +26,13 @@ use Rattle.lasp_state.specs.State as state
 use Rattle.lasp_state.specs.declared.state.State.{State}
 use Rattle.lasp_state.specs.declared.state.State.TheVariants as states
 use Rattle.model_world.specs.Line.{shown_content}
-use Rattle.lasp_graph.specs.Kind.{kind_of}
-use Rattle.lasp_graph.specs.declared.kind.Kind as graphs
-use Rattle.lasp_graph.specs.declared.kind.Kind.TheVariants as kinds
 use Rattle.lasp_state.specs.declared.op.Op.{Op}
 use Rattle.lasp_state.specs.declared.op.Op.TheVariants as rust
 use Rattle.lasp_graph.specs.States.{Held, held_of, held_at, grown, contents_of}
-use Rattle.lasp_graph.specs.Evaluated.{AreSmall, Evaluates, AreSets, AreNarrow, shape_after, KeepShapes}
+use Rattle.lasp_graph.specs.Evaluated.{AreSmall, Evaluates, AreSets, AreNarrow, shape_after, KeepShapes, number_by, KeepNumbers}
 use Rattle.lasp_graph.specs.declared.inputs.EvalAll.{EvalAll}
 use Rattle.lasp_graph.specs.declared.inputs.EvalAll.TheVariants as all
-use Rattle.lasp_run.specs.Plain.{fresh_state, AreShaped, IsJoined, IsBuilt}
+use Rattle.lasp_run.specs.Plain.{fresh_state, AreShaped, IsJoined}
 use Rattle.lasp_run.specs.Drive.{IsOpAt}
 
 length-eval_from : (g : List Decl) (done sources : List Content) → length (eval_from g done sources) ≡ length done + length g
@@ -366,89 +364,81 @@ fresh-contents nodes (d ∷ g) = ap (λ (cs : List Content). least_of nodes d.ki
 
 -- ---- what is printed
 
--- a state of a kind's shape prints as the kind does
-pub shown-kind : (nodes : ℕ) (k : Kind) (s : State) → IsBuilt k → state.shape_of s ≡ shape_of nodes k → state.shown_state s ≡ shown_content k (state.content_of s)
-shown-kind nodes OrSet (states.Set rows) built e = refl
-shown-kind nodes OrSet (states.Grow values) built e = absurd cc
-shown-kind nodes OrSet (states.Count counts) built e = absurd cc
-shown-kind nodes OrSet (states.Max m) built e = absurd cc
-shown-kind nodes OrSet (states.Fold rows n) built e = absurd cc
-shown-kind nodes GSet (states.Set rows) built e = absurd cc
-shown-kind nodes GSet (states.Grow values) built e = refl
-shown-kind nodes GSet (states.Count counts) built e = absurd cc
-shown-kind nodes GSet (states.Max m) built e = absurd cc
-shown-kind nodes GSet (states.Fold rows n) built e = absurd cc
-shown-kind nodes Counter (states.Set rows) built e = absurd cc
-shown-kind nodes Counter (states.Grow values) built e = absurd cc
-shown-kind nodes Counter (states.Count counts) built e = refl
-shown-kind nodes Counter (states.Max m) built e = absurd cc
-shown-kind nodes Counter (states.Fold rows n) built e = absurd cc
-shown-kind nodes MaxReg (states.Set rows) built e = absurd cc
-shown-kind nodes MaxReg (states.Grow values) built e = absurd cc
-shown-kind nodes MaxReg (states.Count counts) built e = absurd cc
-shown-kind nodes MaxReg (states.Max m) built e = refl
-shown-kind nodes MaxReg (states.Fold rows n) built e = absurd cc
-shown-kind nodes (Union i j) (states.Set rows) built e = refl
-shown-kind nodes (Union i j) (states.Grow values) built e = absurd cc
-shown-kind nodes (Union i j) (states.Count counts) built e = absurd cc
-shown-kind nodes (Union i j) (states.Max m) built e = absurd cc
-shown-kind nodes (Union i j) (states.Fold rows n) built e = absurd cc
-shown-kind nodes (Product i j) (states.Set rows) built e = refl
-shown-kind nodes (Product i j) (states.Grow values) built e = absurd cc
-shown-kind nodes (Product i j) (states.Count counts) built e = absurd cc
-shown-kind nodes (Product i j) (states.Max m) built e = absurd cc
-shown-kind nodes (Product i j) (states.Fold rows n) built e = absurd cc
-shown-kind nodes (Intersection i j) (states.Set rows) built e = refl
-shown-kind nodes (Intersection i j) (states.Grow values) built e = absurd cc
-shown-kind nodes (Intersection i j) (states.Count counts) built e = absurd cc
-shown-kind nodes (Intersection i j) (states.Max m) built e = absurd cc
-shown-kind nodes (Intersection i j) (states.Fold rows n) built e = absurd cc
-shown-kind nodes (Map i place ops) (states.Set rows) built e = refl
-shown-kind nodes (Map i place ops) (states.Grow values) built e = absurd cc
-shown-kind nodes (Map i place ops) (states.Count counts) built e = absurd cc
-shown-kind nodes (Map i place ops) (states.Max m) built e = absurd cc
-shown-kind nodes (Map i place ops) (states.Fold rows n) built e = absurd cc
-shown-kind nodes (Filter i place ops) (states.Set rows) built e = refl
-shown-kind nodes (Filter i place ops) (states.Grow values) built e = absurd cc
-shown-kind nodes (Filter i place ops) (states.Count counts) built e = absurd cc
-shown-kind nodes (Filter i place ops) (states.Max m) built e = absurd cc
-shown-kind nodes (Filter i place ops) (states.Fold rows n) built e = absurd cc
-shown-kind nodes (Fold i op place lift) s built e = absurd built
+-- a state of a kind's shape prints as the kind does, with its number where it is a fold
+pub shown-kind : (nodes : ℕ) (k : Kind) (s : State) → state.shape_of s ≡ shape_of nodes k → (IsFalse (is_source k) → state.number_of s ≡ number_by k (state.content_of s)) → state.shown_state s ≡ shown_content k (state.content_of s)
+shown-kind nodes OrSet (states.Set rows) e number = refl
+shown-kind nodes OrSet (states.Grow values) e number = absurd cc
+shown-kind nodes OrSet (states.Count counts) e number = absurd cc
+shown-kind nodes OrSet (states.Max m) e number = absurd cc
+shown-kind nodes OrSet (states.Fold rows n) e number = absurd cc
+shown-kind nodes GSet (states.Set rows) e number = absurd cc
+shown-kind nodes GSet (states.Grow values) e number = refl
+shown-kind nodes GSet (states.Count counts) e number = absurd cc
+shown-kind nodes GSet (states.Max m) e number = absurd cc
+shown-kind nodes GSet (states.Fold rows n) e number = absurd cc
+shown-kind nodes Counter (states.Set rows) e number = absurd cc
+shown-kind nodes Counter (states.Grow values) e number = absurd cc
+shown-kind nodes Counter (states.Count counts) e number = refl
+shown-kind nodes Counter (states.Max m) e number = absurd cc
+shown-kind nodes Counter (states.Fold rows n) e number = absurd cc
+shown-kind nodes MaxReg (states.Set rows) e number = absurd cc
+shown-kind nodes MaxReg (states.Grow values) e number = absurd cc
+shown-kind nodes MaxReg (states.Count counts) e number = absurd cc
+shown-kind nodes MaxReg (states.Max m) e number = refl
+shown-kind nodes MaxReg (states.Fold rows n) e number = absurd cc
+shown-kind nodes (Union i j) (states.Set rows) e number = refl
+shown-kind nodes (Union i j) (states.Grow values) e number = absurd cc
+shown-kind nodes (Union i j) (states.Count counts) e number = absurd cc
+shown-kind nodes (Union i j) (states.Max m) e number = absurd cc
+shown-kind nodes (Union i j) (states.Fold rows n) e number = absurd cc
+shown-kind nodes (Product i j) (states.Set rows) e number = refl
+shown-kind nodes (Product i j) (states.Grow values) e number = absurd cc
+shown-kind nodes (Product i j) (states.Count counts) e number = absurd cc
+shown-kind nodes (Product i j) (states.Max m) e number = absurd cc
+shown-kind nodes (Product i j) (states.Fold rows n) e number = absurd cc
+shown-kind nodes (Intersection i j) (states.Set rows) e number = refl
+shown-kind nodes (Intersection i j) (states.Grow values) e number = absurd cc
+shown-kind nodes (Intersection i j) (states.Count counts) e number = absurd cc
+shown-kind nodes (Intersection i j) (states.Max m) e number = absurd cc
+shown-kind nodes (Intersection i j) (states.Fold rows n) e number = absurd cc
+shown-kind nodes (Map i place ops) (states.Set rows) e number = refl
+shown-kind nodes (Map i place ops) (states.Grow values) e number = absurd cc
+shown-kind nodes (Map i place ops) (states.Count counts) e number = absurd cc
+shown-kind nodes (Map i place ops) (states.Max m) e number = absurd cc
+shown-kind nodes (Map i place ops) (states.Fold rows n) e number = absurd cc
+shown-kind nodes (Filter i place ops) (states.Set rows) e number = refl
+shown-kind nodes (Filter i place ops) (states.Grow values) e number = absurd cc
+shown-kind nodes (Filter i place ops) (states.Count counts) e number = absurd cc
+shown-kind nodes (Filter i place ops) (states.Max m) e number = absurd cc
+shown-kind nodes (Filter i place ops) (states.Fold rows n) e number = absurd cc
+shown-kind nodes (Fold i op place lift) (states.Set rows) e number = absurd cc
+shown-kind nodes (Fold i op place lift) (states.Grow values) e number = absurd cc
+shown-kind nodes (Fold i op place lift) (states.Count counts) e number = absurd cc
+shown-kind nodes (Fold i op place lift) (states.Max m) e number = absurd cc
+shown-kind nodes (Fold i op place lift) (states.Fold rows n) e number = ap signed_decimal (number refl)
 
--- the code has no other kinds
-pub kind-built : (k : graphs.Kind) → IsBuilt (kind_of k)
-kind-built kinds.OrSet = tt
-kind-built kinds.GSet = tt
-kind-built kinds.Counter = tt
-kind-built kinds.MaxReg = tt
-kind-built (kinds.Union i j) = tt
-kind-built (kinds.Product i j) = tt
-kind-built (kinds.Intersection i j) = tt
-kind-built (kinds.Map i f) = tt
-kind-built (kinds.Filter i p) = tt
-
--- a variable of such a kind was evaluated to the shape of its kind
-pub shape-kept : (nodes : ℕ) (k : Kind) → IsBuilt k → shape_after k (shape_of nodes k) ≡ shape_of nodes k
-shape-kept nodes OrSet built = refl
-shape-kept nodes GSet built = refl
-shape-kept nodes Counter built = refl
-shape-kept nodes MaxReg built = refl
-shape-kept nodes (Union i j) built = refl
-shape-kept nodes (Product i j) built = refl
-shape-kept nodes (Intersection i j) built = refl
-shape-kept nodes (Map i place ops) built = refl
-shape-kept nodes (Filter i place ops) built = refl
-shape-kept nodes (Fold i op place lift) built = absurd built
+-- a variable was evaluated to the shape of its kind
+pub shape-kept : (nodes : ℕ) (k : Kind) → shape_after k (shape_of nodes k) ≡ shape_of nodes k
+shape-kept nodes OrSet = refl
+shape-kept nodes GSet = refl
+shape-kept nodes Counter = refl
+shape-kept nodes MaxReg = refl
+shape-kept nodes (Union i j) = refl
+shape-kept nodes (Product i j) = refl
+shape-kept nodes (Intersection i j) = refl
+shape-kept nodes (Map i place ops) = refl
+shape-kept nodes (Filter i place ops) = refl
+shape-kept nodes (Fold i op place lift) = refl
 
 -- what a settled node shows of a variable prints as its kind
-pub printed : (nodes : ℕ) (g : List Decl) (sources shown : List Held) (x : ℕ) (k : Kind) (s : State) → kind_at g x ≡ k → IsBuilt k → x < length g → AreShaped nodes g sources → KeepShapes (length shown) g sources shown
+pub printed : (nodes : ℕ) (g : List Decl) (sources shown : List Held) (x : ℕ) (s : State) → x < length g → AreShaped nodes g sources → KeepShapes (length shown) g sources shown → KeepNumbers (length shown) g shown
     → slice_get shown x ≡ Some (held_of s) → state.shown_state s ≡ shown_content (kind_at g x) (content_at (contents_of shown) x)
-printed nodes g sources shown x k s is built within shaped keep at =
-    let here : IsBuilt (kind_at g x) = subst IsBuilt (sym is) built in
+printed nodes g sources shown x s within shaped keep numbers at =
     let held : held_at shown x ≡ held_of s = get_or_from_slice_get shown x (held_of s) _ at in
     let shape : state.shape_of s ≡ shape_of nodes (kind_at g x) =
-    sym (ap (λ (h : Held). h.shape) held) ∙ keep x (slice_get_within shown x (held_of s) at) ∙ ap (shape_after (kind_at g x)) (shaped x within) ∙ shape-kept nodes (kind_at g x) here in
-    shown-kind nodes (kind_at g x) s here shape ∙ ap (shown_content (kind_at g x)) (sym (ap (λ (h : Held). h.content) held) ∙ sym (content-held shown x))
+    sym (ap (λ (h : Held). h.shape) held) ∙ keep x (slice_get_within shown x (held_of s) at) ∙ ap (shape_after (kind_at g x)) (shaped x within) ∙ shape-kept nodes (kind_at g x) in
+    shown-kind nodes (kind_at g x) s shape (λ derived. subst (λ (h : Held). h.number ≡ number_by (kind_at g x) h.content) held (numbers x (slice_get_within shown x (held_of s) at) derived))
+    ∙ ap (shown_content (kind_at g x)) (sym (ap (λ (h : Held). h.content) held) ∙ sym (content-held shown x))
 
 pub length-eval : (g : List Decl) (sources : List Content) → length (eval g sources) ≡ length g
 length-eval g sources = omega (arith, length-eval_from g [] sources)
@@ -456,6 +446,10 @@ length-eval g sources = omega (arith, length-eval_from g [] sources)
 -- no states have no shapes
 pub nothing-kept : (g : List Decl) (sources shown : List Held) → shown ≡ [] → KeepShapes (length shown) g sources shown
 nothing-kept g sources shown none x within = absurd (omega (arith, within, ap (λ (hs : List Held). length hs) none))
+
+-- nor numbers
+pub nothing-numbered : (g : List Decl) (shown : List Held) → shown ≡ [] → KeepNumbers (length shown) g shown
+nothing-numbered g shown none x within derived = absurd (omega (arith, within, ap (λ (hs : List Held). length hs) none))
 
 -- a count that was read
 pub count-read : (counts : List ℕ) (r n : ℕ) → r < length counts → n ≡ get_or counts r n → n ≡ count_at counts r

@@ -2,7 +2,7 @@
 use Rattle.std.specs.Prelude.{◌≡◌, ℕ, pos, ◌<◌, List, length, slice_set}
 use Rattle.std.specs.Coded.{Coded, coded_list}
 use Rattle.model_states.specs.Content.{Content, join_contents}
-use Rattle.model_graph.specs.Graph.{Kind, Fold, Decl, kind_at}
+use Rattle.model_graph.specs.Graph.{Decl, kind_at}
 use Rattle.model_graph.specs.Evaluation.{content_at, least_of}
 use Rattle.model_graph.specs.Lawful.{shape_of}
 use Rattle.lasp_graph.specs.States.{Held, held_at, contents_of, coded_content}
@@ -23,8 +23,3 @@ pub record IsJoined (old : List Held) (x : ℕ) (s : Content) (new : List Held) 
 
 abbrev pub coded_contents : Coded (List Content)
 coded_contents = coded_list coded_content
-
--- the kinds that a program may have today: all but folds
-abbrev pub IsBuilt : Kind → Type 0
-IsBuilt (Fold x op place lift) = ⊥
-IsBuilt _ = Unit {0}

@@ -25,6 +25,7 @@ fn kind_word(kind: &Kind) -> &'static str
         Kind::Intersection(_, _) => "intersection",
         Kind::Map(_, _) => "map",
         Kind::Filter(_, _) => "filter",
+        Kind::Fold(_, _, _) => "fold",
     }
 }
 

@@ -5,8 +5,8 @@ use mathlib.Core.Logic.{inl, inr}
 use Rattle.std.proofs.lemmas.Bool.{false≢true}
 use Rattle.model_functions.specs.Library.{Library}
 use Rattle.model_graph.specs.Chain.{◌>>=◌, check, or_else}
-use Rattle.model_graph.specs.Graph.{Kind, OrSet, GSet, Counter, MaxReg, Union, Product, Intersection, Map, Filter, Decl, is_set, decl_at}
-use Rattle.model_readings.specs.Graph.{Form, orset, gset, counter, maxreg, union, product, intersection, map, filter, place_of, known, set_checked, function_named, inputs_read, input_read, function_read, pair_read, applied_read, kind_read}
+use Rattle.model_graph.specs.Graph.{Kind, OrSet, GSet, Counter, MaxReg, Union, Product, Intersection, Map, Filter, Fold, Decl, is_set, decl_at}
+use Rattle.model_readings.specs.Graph.{Form, orset, gset, counter, maxreg, union, product, intersection, map, filter, fold, place_of, known, set_checked, function_named, inputs_read, input_read, function_read, pair_read, applied_read, kind_read}
 use Rattle.model_readings.specs.declared.graph_why.GraphWhy.{GraphWhy}
 use Rattle.model_readings.specs.declared.graph_why.GraphWhy.TheVariants as why
 use Rattle.model_causes.specs.Named.{IsDeclared, IsNamed, IsStored}
@@ -126,6 +126,7 @@ kind-answer lib before (product x y) = pair-answer before Product x y
 kind-answer lib before (intersection x y) = pair-answer before Intersection x y
 kind-answer lib before (map x f) = functions-answer before lib.maps Map x f
 kind-answer lib before (filter x p) = functions-answer before lib.predicates Filter x p
+kind-answer lib before (fold x op l) = functions-answer before lib.lifts (λ i place lift. Fold i op place lift) x l
 
 module _ (before : List Decl) (names : List ℕ → Type 0) (function : Type 0) where
   known_unknown : {P : Type 0} → AreDeclared before names → IsUndeclared before names → P

@@ -2,7 +2,7 @@
 use Rattle.std.specs.Prelude.{◌≡◌, ◌⊎◌, ℕ, List, IsTrue, IsFalse}
 use Rattle.model_functions.specs.Library.{Library}
 use Rattle.model_graph.specs.Graph.{Decl, is_set}
-use Rattle.model_readings.specs.Graph.{Form, orset, gset, counter, maxreg, union, product, intersection, map, filter}
+use Rattle.model_readings.specs.Graph.{Form, orset, gset, counter, maxreg, union, product, intersection, map, filter, fold}
 use Rattle.model_readings.specs.declared.graph_why.GraphWhy.{GraphWhy}
 use Rattle.model_readings.specs.declared.graph_why.GraphWhy.TheVariants as why
 use Rattle.model_causes.specs.Named.{IsDeclared, IsNamed, IsStored}
@@ -18,6 +18,7 @@ Takes (product x y) name = (name ≡ x) ⊎ (name ≡ y)
 Takes (intersection x y) name = (name ≡ x) ⊎ (name ≡ y)
 Takes (map x f) name = name ≡ x
 Takes (filter x p) name = name ≡ x
+Takes (fold x op l) name = name ≡ x
 
 -- each of these names is declared
 abbrev pub AreDeclared : List Decl → (List ℕ → Type 0) → Type 0
@@ -45,6 +46,7 @@ pub record IsNoSet (before : List Decl) (names : List ℕ → Type 0) : Type 0 w
 abbrev pub HasFunction : Library → Form → Type 0
 HasFunction lib (map x f) = IsStored lib.maps f
 HasFunction lib (filter x p) = IsStored lib.predicates p
+HasFunction lib (fold x op l) = IsStored lib.lifts l
 HasFunction lib _ = Unit {0}
 
 -- the causes for which one declaration is refused

@@ -1,17 +1,17 @@
 -- What is read of a graph is lawful.
-use Rattle.std.proofs.Common.{◌≡◌, ap, refl, subst, ℕ, zero, suc, ◌<◌, List, [], ◌∷◌, ◌++◌, length, take, true, Option, Some, None, is_none, option_map, option_and_then, Ok, nat_lt, nat_le, arith, length-append}
+use Rattle.std.proofs.Common.{◌≡◌, IfSome, codes, Bool, false, if◌then◌else◌, ◌&&◌, ap, refl, subst, ℕ, zero, suc, ◌<◌, List, [], ◌∷◌, ◌++◌, length, take, true, Option, Some, None, is_none, option_map, option_and_then, Ok, nat_lt, nat_le, arith, length-append}
 use Rattle.std.specs.List.{slice_get}
 use borrow.Author.Tests.{ltb-true, leb-true}
 use Rattle.serde_json.specs.Data.{Data}
-use Rattle.serde_json.specs.Find.{as_array}
+use Rattle.serde_json.specs.Find.{at, as_array, as_u64}
 use Rattle.model_functions.specs.Library.{Library, place_named, operations_at}
 use Rattle.model_graph.specs.Chain.{or_else}
-use Rattle.model_graph.specs.Graph.{Kind, OrSet, GSet, Counter, MaxReg, Union, Product, Intersection, Map, Filter, Decl, is_set, decl_at}
-use Rattle.model_graph.specs.Lawful.{variable_limit, width_limit, width_of, widths, IsKind}
+use Rattle.model_graph.specs.Graph.{Kind, OrSet, GSet, Counter, MaxReg, Union, Product, Intersection, Map, Filter, Fold, FoldOp, Sum, Xor, Modulo, Decl, is_set, decl_at}
+use Rattle.model_graph.specs.Lawful.{variable_limit, width_limit, width_of, widths, IsFoldOp, IsKind}
 use Rattle.lasp_value.specs.Name.{is_name}
 use Rattle.model_readings.specs.declared.graph_why.GraphWhy.TheVariants as why
-use Rattle.model_readings.specs.Tree.{json_of, list_of}
-use Rattle.model_readings.specs.Graph.{Form, orset, gset, counter, maxreg, union, product, intersection, map, filter, written_of, place_of, known, stored, function_named, inputs_read, input_read, function_read, pair_read, applied_read, kind_read, declaration, decl_read, next_read, numbered, decls_read, tree_read, graph_of}
+use Rattle.model_readings.specs.Tree.{json_of, list_of, text_at, number_at, is_word_at, has_items, two}
+use Rattle.model_readings.specs.Graph.{Form, orset, gset, counter, maxreg, union, product, intersection, map, filter, fold, Written, source_form, names_of, process_form, modulo_limit, modulo_by, modulo_of, fold_op_of, operand, folded, fold_form, form_of, written, written_of, place_of, known, stored, function_named, inputs_read, input_read, function_read, pair_read, applied_read, kind_read, declaration, decl_read, next_read, numbered, decls_read, tree_read, graph_of}
 use Rattle.model_readings.specs.Lawful.{IsSetAt, AreInputs, Fits, IsNext, IsGraph, FitsAll}
 use Rattle.model_readings.proofs.Chains.{passed, check_passed, or_else_passed, refusing_passed}
 use Rattle.model_readings.proofs.Names.{none_named, found_at}
@@ -89,32 +89,112 @@ function-read before functions make x f kind e =
       stored = function-stored functions (place_named f functions) p.value (or_else_passed _ why.UnknownFunction p.value p.first);
     }
 
--- what is read of a form: its inputs are sets, its function is the library's, and what else it says can be done
+-- what is read of a form: its inputs are sets, and its function is the library's
 pub record IsKindRead (lib : Library) (before : List Decl) (kind : Kind) : Type 0 where
   pub inputs : AreInputs before kind
   pub fits : Fits lib kind
-  pub sound : IsKind kind
 
 pub kind-read : (lib : Library) (before : List Decl) (form : Form) (kind : Kind) → kind_read lib before form ≡ Ok kind → IsKindRead lib before kind
-kind-read lib before orset kind e = let same : OrSet ≡ kind = cc in subst (IsKindRead lib before) same (record { inputs = tt; fits = tt; sound = tt })
-kind-read lib before gset kind e = let same : GSet ≡ kind = cc in subst (IsKindRead lib before) same (record { inputs = tt; fits = tt; sound = tt })
-kind-read lib before counter kind e = let same : Counter ≡ kind = cc in subst (IsKindRead lib before) same (record { inputs = tt; fits = tt; sound = tt })
-kind-read lib before maxreg kind e = let same : MaxReg ≡ kind = cc in subst (IsKindRead lib before) same (record { inputs = tt; fits = tt; sound = tt })
+kind-read lib before orset kind e = let same : OrSet ≡ kind = cc in subst (IsKindRead lib before) same (record { inputs = tt; fits = tt })
+kind-read lib before gset kind e = let same : GSet ≡ kind = cc in subst (IsKindRead lib before) same (record { inputs = tt; fits = tt })
+kind-read lib before counter kind e = let same : Counter ≡ kind = cc in subst (IsKindRead lib before) same (record { inputs = tt; fits = tt })
+kind-read lib before maxreg kind e = let same : MaxReg ≡ kind = cc in subst (IsKindRead lib before) same (record { inputs = tt; fits = tt })
 kind-read lib before (union x y) kind e =
     let r = pair-read before Union x y kind e in
-    subst (IsKindRead lib before) r.made (record { inputs = r.sets; fits = tt; sound = tt })
+    subst (IsKindRead lib before) r.made (record { inputs = r.sets; fits = tt })
 kind-read lib before (product x y) kind e =
     let r = pair-read before Product x y kind e in
-    subst (IsKindRead lib before) r.made (record { inputs = r.sets; fits = tt; sound = tt })
+    subst (IsKindRead lib before) r.made (record { inputs = r.sets; fits = tt })
 kind-read lib before (intersection x y) kind e =
     let r = pair-read before Intersection x y kind e in
-    subst (IsKindRead lib before) r.made (record { inputs = r.sets; fits = tt; sound = tt })
+    subst (IsKindRead lib before) r.made (record { inputs = r.sets; fits = tt })
 kind-read lib before (map x f) kind e =
     let r = function-read before lib.maps Map x f kind e in
-    subst (IsKindRead lib before) r.made (record { inputs = r.set; fits = r.stored; sound = tt })
+    subst (IsKindRead lib before) r.made (record { inputs = r.set; fits = r.stored })
 kind-read lib before (filter x p) kind e =
     let r = function-read before lib.predicates Filter x p kind e in
-    subst (IsKindRead lib before) r.made (record { inputs = r.set; fits = r.stored; sound = tt })
+    subst (IsKindRead lib before) r.made (record { inputs = r.set; fits = r.stored })
+kind-read lib before (fold x op l) kind e =
+    let r = function-read before lib.lifts (λ i place lift. Fold i op place lift) x l kind e in
+    subst (IsKindRead lib before) r.made (record { inputs = r.set; fits = r.stored })
+
+-- ---- what else a form says can be done
+
+abbrev IsDoable : Form → Type 0
+IsDoable (fold x op l) = IsFoldOp op
+IsDoable _ = Unit {0}
+
+kind-sound : (lib : Library) (before : List Decl) (form : Form) (kind : Kind) → IsDoable form → kind_read lib before form ≡ Ok kind → IsKind kind
+kind-sound lib before orset kind h e = let same : OrSet ≡ kind = cc in subst IsKind same tt
+kind-sound lib before gset kind h e = let same : GSet ≡ kind = cc in subst IsKind same tt
+kind-sound lib before counter kind h e = let same : Counter ≡ kind = cc in subst IsKind same tt
+kind-sound lib before maxreg kind h e = let same : MaxReg ≡ kind = cc in subst IsKind same tt
+kind-sound lib before (union x y) kind h e = subst IsKind (pair-read before Union x y kind e).made tt
+kind-sound lib before (product x y) kind h e = subst IsKind (pair-read before Product x y kind e).made tt
+kind-sound lib before (intersection x y) kind h e = subst IsKind (pair-read before Intersection x y kind e).made tt
+kind-sound lib before (map x f) kind h e = subst IsKind (function-read before lib.maps Map x f kind e).made tt
+kind-sound lib before (filter x p) kind h e = subst IsKind (function-read before lib.predicates Filter x p kind e).made tt
+kind-sound lib before (fold x op l) kind h e = subst IsKind (function-read before lib.lifts (λ i place lift. Fold i op place lift) x l kind e).made h
+
+-- whichever of two ways is taken
+if-some : {A : Type 0} (P : A → Type 0) (b : Bool) (o p : Option A) → IfSome o P → IfSome p P → IfSome (if b then o else p) P
+if-some P true o p h k = h
+if-some P false o p h k = k
+
+modulo-doable : (n : ℕ) → IfSome (modulo_by n) IsFoldOp
+modulo-doable n = choose (nat_le 1 n) refl where
+  choose : (b : Bool) → nat_le 1 n ≡ b → IfSome (if b && nat_le n modulo_limit then Some (Modulo n) else None) IsFoldOp
+  choose true e = if-some IsFoldOp (nat_le n modulo_limit) (Some (Modulo n)) None (leb-true _ _ e) tt
+  choose false e = tt
+
+and-then-doable : {A : Type 0} (f : A → Option FoldOp) → ((a : A) → IfSome (f a) IsFoldOp) → (o : Option A) → IfSome (option_and_then f o) IsFoldOp
+and-then-doable f h None = tt
+and-then-doable f h (Some a) = h a
+
+fold_op-doable : (d : Data) → IfSome (fold_op_of d) IsFoldOp
+unfolding fold_op_of modulo_of
+fold_op-doable d =
+    if-some IsFoldOp (is_word_at 3 (codes "sum") d) (Some Sum) _ tt
+    (if-some IsFoldOp (is_word_at 3 (codes "xor") d) (Some Xor) _ tt
+    (and-then-doable modulo_of (λ e. if-some IsFoldOp (has_items 2 e && is_word_at 0 (codes "modulo") e) _ None (and-then-doable modulo_by modulo-doable (option_and_then as_u64 (number_at 1 e))) tt) (at 3 d)))
+
+fold_form-doable : (d : Data) → IfSome (fold_form d) IsDoable
+unfolding fold_form
+fold_form-doable d = if-some IsDoable (has_items 5 d) _ None (parts (text_at 2 d) (fold_op_of d) (text_at 4 d) (fold_op-doable d)) tt where
+  parts : (x : Option (List ℕ)) (op : Option FoldOp) (l : Option (List ℕ)) → IfSome op IsFoldOp → IfSome (two folded (two operand x op) l) IsDoable
+  parts None op l h = tt
+  parts (Some x) None l h = tt
+  parts (Some x) (Some op) None h = tt
+  parts (Some x) (Some op) (Some l) h = h
+
+process-doable : (form : List ℕ → List ℕ → Form) → ((x y : List ℕ) → IsDoable (form x y)) → (o : Option (List ℕ × List ℕ)) → IfSome (option_map (λ p. form p.0 p.1) o) IsDoable
+process-doable form h None = tt
+process-doable form h (Some p) = h p.0 p.1
+
+source-doable : (form : Form) → IsDoable form → (b : Bool) → IfSome (if b then Some form else None) IsDoable
+source-doable form h b = if-some IsDoable b (Some form) None h tt
+
+form-doable : (d : Data) → IfSome (form_of d) IsDoable
+unfolding form_of
+form-doable d =
+    if-some IsDoable (is_word_at 1 (codes "orset") d) _ _ (source-doable orset tt (has_items 2 d))
+    (if-some IsDoable (is_word_at 1 (codes "gset") d) _ _ (source-doable gset tt (has_items 2 d))
+    (if-some IsDoable (is_word_at 1 (codes "counter") d) _ _ (source-doable counter tt (has_items 2 d))
+    (if-some IsDoable (is_word_at 1 (codes "maxreg") d) _ _ (source-doable maxreg tt (has_items 2 d))
+    (if-some IsDoable (is_word_at 1 (codes "union") d) _ _ (process-doable union (λ x y. tt) (names_of d))
+    (if-some IsDoable (is_word_at 1 (codes "product") d) _ _ (process-doable product (λ x y. tt) (names_of d))
+    (if-some IsDoable (is_word_at 1 (codes "intersection") d) _ _ (process-doable intersection (λ x y. tt) (names_of d))
+    (if-some IsDoable (is_word_at 1 (codes "map") d) _ _ (process-doable map (λ x y. tt) (names_of d))
+    (if-some IsDoable (is_word_at 1 (codes "filter") d) _ _ (process-doable filter (λ x y. tt) (names_of d))
+    (if-some IsDoable (is_word_at 1 (codes "fold") d) _ _ (fold_form-doable d) tt)))))))))
+
+written-doable : (d : Data) (w : Written) → written_of d ≡ Some w → IsDoable w.form
+unfolding written_of
+written-doable d w e = parts (text_at 0 d) (form_of d) (form-doable d) e where
+  parts : (name : Option (List ℕ)) (form : Option Form) → IfSome form IsDoable → two written name form ≡ Some w → IsDoable w.form
+  parts None form h e = cc
+  parts (Some name) None h e = cc
+  parts (Some name) (Some form) h e = let same : written name form ≡ w = cc in subst (λ (v : Written). IsDoable v.form) same h
 
 is_none-None : {A : Type 0} (o : Option A) → is_none o ≡ true → o ≡ None
 is_none-None None e = refl
@@ -140,7 +220,7 @@ next-decl_read lib before d decl e =
         shape = shape.0;
         new = none_named w.value.name before (is_none-None (place_of w.value.name before) new.0);
         inputs = read.inputs;
-        kind = read.sound;
+        kind = kind-sound lib before w.value.form k.value (written-doable d w.value (or_else_passed (written_of d) why.Shape w.value w.first)) k.first;
         narrow = leb-true _ _ narrow.0;
       };
       fits = read.fits;

@@ -1,17 +1,21 @@
 -- What the bytes of a graph say against a library: its declarations, or the first refusal, with the number of the declaration that it is about.
-use Rattle.std.specs.Prelude.{ℕ, List, [], ◌∷◌, ◌++◌, length, if◌then◌else◌, nat_lt, nat_le, Option, Some, None, is_none, option_and_then, option_map, Result, Ok, codes}
+use Rattle.std.specs.Prelude.{ℕ, List, [], ◌∷◌, ◌++◌, length, if◌then◌else◌, nat_lt, nat_le, ◌&&◌, Option, Some, None, is_none, option_and_then, option_map, Result, Ok, codes}
 use Rattle.std.specs.List.{position}
 use Rattle.std.specs.Str.{bytes_eq}
 use Rattle.serde_json.specs.Data.{Data}
-use Rattle.serde_json.specs.Find.{as_array}
+use Rattle.serde_json.specs.Find.{at, as_array, as_u64}
 use Rattle.model_functions.specs.Library.{Library, place_named, operations_at}
 use Rattle.model_graph.specs.Chain.{◌>>=◌, check, or_else, refusing}
-use Rattle.model_graph.specs.Graph.{Kind, OrSet, GSet, Counter, MaxReg, Union, Product, Intersection, Map, Filter, Decl, is_set, decl_at}
+use Rattle.model_graph.specs.Graph.{Kind, OrSet, GSet, Counter, MaxReg, Union, Product, Intersection, Map, Filter, Fold, FoldOp, Sum, Xor, Modulo, Decl, is_set, decl_at}
 use Rattle.model_graph.specs.Lawful.{variable_limit, width_limit, width_of, widths}
 use Rattle.lasp_value.specs.Name.{is_name}
 use Rattle.model_readings.specs.declared.graph_why.GraphWhy.{GraphWhy}
 use Rattle.model_readings.specs.declared.graph_why.GraphWhy.TheVariants as why
-use Rattle.model_readings.specs.Tree.{json_of, list_of, text_at, is_word_at, has_items, two}
+use Rattle.model_readings.specs.Tree.{json_of, list_of, text_at, number_at, is_word_at, has_items, two}
+
+-- the greatest number that a modulo may be by
+abbrev pub modulo_limit : ℕ
+modulo_limit = 4294967295
 
 -- the forms of a declaration behind its name; inputs and functions are named
 pub data Form : Type 0 where
@@ -24,6 +28,7 @@ pub data Form : Type 0 where
   intersection : List ℕ → List ℕ → Form
   map : List ℕ → List ℕ → Form
   filter : List ℕ → List ℕ → Form
+  fold : List ℕ → FoldOp → List ℕ → Form
 
 -- a declaration as it is written
 pub record Written : Type 0 where
@@ -42,7 +47,30 @@ names_of d = if has_items 4 d then two (λ x y. (x, y)) (text_at 2 d) (text_at 3
 abbrev pub process_form : (List ℕ → List ℕ → Form) → Data → Option Form
 process_form form d = option_map (λ p. form p.0 p.1) (names_of d)
 
--- `[name,word]` of a source, `[name,word,x,y]` of a process
+-- a modulo by a number from 1 to the greatest
+abbrev pub modulo_by : ℕ → Option FoldOp
+modulo_by n = if nat_le 1 n && nat_le n modulo_limit then Some (Modulo n) else None
+
+-- `["modulo",n]`
+unfoldable pub modulo_of : Data → Option FoldOp
+modulo_of d = if has_items 2 d && is_word_at 0 (codes "modulo") d then option_and_then modulo_by (option_and_then as_u64 (number_at 1 d)) else None
+
+-- how a fold combines, which stands behind its input: `"sum"`, `"xor"` or a modulo
+unfoldable pub fold_op_of : Data → Option FoldOp
+fold_op_of d = if is_word_at 3 (codes "sum") d then Some Sum else (if is_word_at 3 (codes "xor") d then Some Xor else option_and_then modulo_of (at 3 d))
+
+-- an input with the operation that folds it
+abbrev pub operand : List ℕ → FoldOp → List ℕ × FoldOp
+operand x op = (x, op)
+
+abbrev pub folded : List ℕ × FoldOp → List ℕ → Form
+folded p l = fold p.0 p.1 l
+
+-- a form of a name, a word, an input, an operation and a lift
+unfoldable pub fold_form : Data → Option Form
+fold_form d = if has_items 5 d then two folded (two operand (text_at 2 d) (fold_op_of d)) (text_at 4 d) else None
+
+-- `[name,word]` of a source, `[name,word,x,y]` of a process, `[name,"fold",x,op,l]` of a fold
 unfoldable pub form_of : Data → Option Form
 form_of d =
     if is_word_at 1 (codes "orset") d then source_form orset d
@@ -54,7 +82,8 @@ form_of d =
     else (if is_word_at 1 (codes "intersection") d then process_form intersection d
     else (if is_word_at 1 (codes "map") d then process_form map d
     else (if is_word_at 1 (codes "filter") d then process_form filter d
-    else None))))))))
+    else (if is_word_at 1 (codes "fold") d then fold_form d
+    else None)))))))))
 
 abbrev pub written : List ℕ → Form → Written
 written name form = record { name = name; form = form }
@@ -119,6 +148,7 @@ kind_read lib before (product x y) = pair_read before Product x y
 kind_read lib before (intersection x y) = pair_read before Intersection x y
 kind_read lib before (map x f) = applied_read before lib.maps Map x f
 kind_read lib before (filter x p) = applied_read before lib.predicates Filter x p
+kind_read lib before (fold x op l) = applied_read before lib.lifts (λ i place lift. Fold i op place lift) x l
 
 abbrev pub declaration : List ℕ → Kind → Decl
 declaration name kind = record { name = name; kind = kind }

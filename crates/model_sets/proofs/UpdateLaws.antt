@@ -74,7 +74,7 @@ pub remove-ascending : (v : Val) (s : List Row) → IsAscending s → IsAscendin
 remove-ascending v s up = buried-ascending (filter (is_of v) s) (ascending-kept (is_of v) s up)
 
 -- held from the same live rows
-same-held : (s t : List Row) → IsAscending s → IsAscending t → (v : Val) → ((w : Tok) → mark s v w ≡ mark t v w) → held (visible s) v ≡ held (visible t) v
+pub same-held : (s t : List Row) → IsAscending s → IsAscending t → (v : Val) → ((w : Tok) → mark s v w ≡ mark t v w) → held (visible s) v ≡ held (visible t) v
 same-held s t up_s up_t v same = choose (held (visible s) v == 1) refl (held (visible t) v == 1) refl where
   choose : (b : Bool) → (held (visible s) v == 1) ≡ b → (c : Bool) → (held (visible t) v == 1) ≡ c → held (visible s) v ≡ held (visible t) v
   choose true e c g =
@@ -154,7 +154,7 @@ concurrent-add s v replica k up fresh =
 -- ---- a change
 
 -- A value with a row is among the rows' values.
-row-value : (s : List Row) (v : Val) (w : Tok) → HasRow s v w → IsHeld (map (λ r. r.0.0) s) v
+pub row-value : (s : List Row) (v : Val) (w : Tok) → HasRow s v w → IsHeld (map (λ r. r.0.0) s) v
 row-value [] v w h = absurd (omega (arith, h))
 row-value (r ∷ s) v w h = choose (λ g. row-value s v w g) (eq_by_cmp key_cmp (v, w) r.0) refl where
   choose : (HasRow s v w → IsHeld (map (λ r. r.0.0) s) v) → (b : Bool) → eq_by_cmp key_cmp (v, w) r.0 ≡ b → IsHeld (map (λ r. r.0.0) (r ∷ s)) v

@@ -7,7 +7,7 @@ ghost use Rattle.model_states.specs.Update.{delta};
 ghost use Rattle.model_graph.specs.Evaluation.{content_at, eval, first_large};
 ghost use Rattle.lasp_state.specs.State.{op_of, IsOpOf};
 ghost use Rattle.lasp_graph.specs.States.{held_at, contents_of};
-ghost use Rattle.lasp_graph.specs.Evaluated.{AreNarrow, KeepShapes};
+ghost use Rattle.lasp_graph.specs.Evaluated.{AreNarrow, KeepShapes, KeepNumbers};
 ghost use Rattle.lasp_run.specs.Plain.{fresh_state, coded_contents, AreShaped, IsJoined};
 
 use super::node::{Node, NodeStop};
@@ -36,6 +36,7 @@ pub struct PlainNode {
     ghost settled: { IsTrue is_settled → contents_of shown ≡ eval (arc_value graph) (contents_of sources) } by { →_prop (Coded-set coded_contents (contents_of shown) (eval (arc_value graph) (contents_of sources))) },
     ghost small: { IsTrue is_settled → first_large 0 (contents_of shown) ≡ None },
     ghost shapes: { KeepShapes (length shown) (arc_value graph) sources shown },
+    ghost numbers: { KeepNumbers (length shown) (arc_value graph) shown },
 }
 
 /// The states of all variables before anything happened.
@@ -134,8 +135,6 @@ impl Node for PlainNode {
     }
 
     fn state(&self, x: u8) -> &State {
-        // recalls, at no cost, what kinds a graph has
-        let _decl = self.graph.at(x as u64);
         self.shown.at(x as u64)
     }
 

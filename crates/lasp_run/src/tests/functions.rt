@@ -1,21 +1,24 @@
-//! Runs of graphs that name functions: a library of three, made of closures.
+//! Runs of graphs that name functions: a library of four functions, made of closures.
 
 ghost use Rattle.std.specs.Prelude.{◌≡◌};
 ghost use Rattle.model_values.specs.Size.{IsSized};
 ghost use Rattle.model_functions.specs.Predicate.{passes};
+ghost use Rattle.model_functions.specs.Lift as lift;
+ghost use Rattle.model_functions.specs.Lift.{lifted};
 ghost use Rattle.lasp_value.specs.Value.{val_of};
 ghost use Rattle.lasp_fns.specs.Answers.{Answers};
 
 use super::{CHECK, PLAIN, ends_over, files_of};
 use lasp_fns::{
-    Library, MapOp, MapOps, PredOp, PredOps, StoredMap, StoredPred, apply_map, apply_pred,
+    Library, LiftOp, MapOp, MapOps, PredOp, PredOps, StoredLift, StoredMap, StoredPred, apply_lift,
+    apply_map, apply_pred,
 };
 use lasp_value::Value;
 use std::alloc::AllocError;
 use std::test::Fail;
 
 /// Each words, graph and script with the status, the report and the line on `err`.
-const RUNS: [(&str, &str, &str, u8, &str, &str); 6] = [
+const RUNS: [(&str, &str, &str, u8, &str, &str); 11] = [
     // two values that a function makes one go one by one
     (
         PLAIN,
@@ -67,6 +70,49 @@ const RUNS: [(&str, &str, &str, u8, &str, &str); 6] = [
         "",
         "graph 1 UnknownFunction\n",
     ),
+    // a value that was added twice counts once, and no more once it is removed
+    (
+        PLAIN,
+        "[[\"a\",\"orset\"],[\"s\",\"fold\",\"a\",\"sum\",\"itself\"]]",
+        "[[\"nodes\",1],[\"print\",0,\"s\"],[\"add\",0,\"a\",7],[\"add\",0,\"a\",7],[\"print\",0,\"s\"],[\"add\",0,\"a\",\"x\"],[\"remove\",0,\"a\",7],[\"print\",0,\"s\"]]",
+        0,
+        "0 s 0\n0 s 7\n0 s 0\nknown 0 4\n",
+        "",
+    ),
+    (
+        PLAIN,
+        "[[\"a\",\"orset\"],[\"s\",\"fold\",\"a\",\"sum\",\"itself\"],[\"x\",\"fold\",\"a\",\"xor\",\"itself\"],[\"r\",\"fold\",\"a\",[\"modulo\",4],\"itself\"]]",
+        "[[\"nodes\",1],[\"add\",0,\"a\",-1],[\"add\",0,\"a\",5],[\"print\",0,\"s\"],[\"print\",0,\"x\"],[\"print\",0,\"r\"]]",
+        0,
+        "0 s 4\n0 x -6\n0 r 0\nknown 0 2\n",
+        "",
+    ),
+    (
+        CHECK,
+        "[[\"a\",\"orset\"],[\"p\",\"product\",\"a\",\"a\"],[\"r\",\"fold\",\"p\",[\"modulo\",4294967295],\"itself\"]]",
+        "",
+        0,
+        "a orset 1\np product 2\nr fold 2\n",
+        "",
+    ),
+    // a map function is no lift
+    (
+        CHECK,
+        "[[\"a\",\"orset\"],[\"s\",\"fold\",\"a\",\"sum\",\"abs\"]]",
+        "",
+        2,
+        "",
+        "graph 1 UnknownFunction\n",
+    ),
+    // a fold is no set
+    (
+        CHECK,
+        "[[\"a\",\"orset\"],[\"s\",\"fold\",\"a\",\"sum\",\"itself\"],[\"u\",\"union\",\"a\",\"s\"]]",
+        "",
+        2,
+        "",
+        "graph 2 WrongKind\n",
+    ),
 ];
 
 /// The library's map functions, each of one step.
@@ -93,6 +139,14 @@ fn functions_are_those_of_the_library(rt: HostRuntime) -> Result<(), Fail> {
         requires { IsSized (val_of v.now) }
         ensures { result ≡ passes own (val_of v.entry.now) }
     { apply_pred(&own, v) };
+    let l = |v: &Value| -> i64
+        requires { IsSized (val_of v.now) }
+        ensures { result ≡ lifted lift.Itself (val_of v.entry.now) }
+    { apply_lift(&LiftOp::Itself, v) };
+    lib.add_lift(
+        "itself",
+        StoredLift::new(LiftOp::Itself, Box::new(alloc, l)?),
+    )?;
     lib.add_pred("even", StoredPred::new(conditions, Box::new(alloc, p)?))?;
     for (line, graph, script, status, report, told) in &RUNS {
         let mut files = files_of(alloc, graph.as_bytes(), script.as_bytes())?;

@@ -5,7 +5,7 @@ use Rattle.model_graph.specs.Evaluation.{eval, eval_from, evaluated}
 use Rattle.lasp_state.specs.State.{content_of}
 use Rattle.lasp_graph.specs.States.{held_of, contents_of}
 use Rattle.lasp_graph.specs.Evaluated.{AreSmall, KeepShapes}
-use Rattle.lasp_graph.proofs.Evaluation.{stopped-eval_from, small-push, contents-push, shapes-push, length-contents, done-width}
+use Rattle.lasp_graph.proofs.Evaluation.{stopped-eval_from, small-push, contents-push, shapes-push, numbers-push, length-contents, done-width}
 use Rattle.lasp_graph.proofs.evaluate.eval_all.Goals as goal
 
 pub eval_var-requires-clause-done : goal.eval_var-requires-clause-done
@@ -33,6 +33,7 @@ returns-in-Err g c =
       exact = rw (c.at.ensures, ← whole)
           (stopped-eval_from (kind_at decls c.loop-var.var) d (drop (suc c.loop-var.var) decls) done sources c.in-Err.refused c.loop-var.var refl (length-contents c.loop-var.states ∙ c.loop-var.invariant.long) c.loop-var.invariant.small c.in-Err.ensures.content);
       shapes = tt;
+      numbers = tt;
     }
 
 pub loop-var-preserved : goal.loop-var-preserved
@@ -56,4 +57,5 @@ loop-var-preserved g c =
       long = rw (more, length-append, c.loop-var.invariant.long) refl;
       small = rw contents (small-push done h.content c.loop-var.invariant.small c.in-Ok.ensures.content.1);
       shapes = rw more (shapes-push c.loop-var.var decls c.args.sources.now c.loop-var.states h c.loop-var.invariant.long c.loop-var.invariant.shapes c.in-Ok.ensures.shape);
+      numbers = rw more (numbers-push c.loop-var.var decls c.loop-var.states h c.loop-var.invariant.long c.loop-var.invariant.numbers c.in-Ok.ensures.number);
     }

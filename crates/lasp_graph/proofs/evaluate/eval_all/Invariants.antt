@@ -1,7 +1,7 @@
 use Rattle.std.proofs.Common.{◌≡◌, length, drop}
 use Rattle.model_graph.specs.Evaluation.{eval, eval_from}
 use Rattle.lasp_graph.specs.States.{contents_of}
-use Rattle.lasp_graph.specs.Evaluated.{AreSmall, KeepShapes}
+use Rattle.lasp_graph.specs.Evaluated.{AreSmall, KeepShapes, KeepNumbers}
 use Rattle.lasp_graph.proofs.evaluate.eval_all.Given as goal
 
 abbrev pub invariant-loop-var : goal.invariant-loop-var
@@ -10,4 +10,5 @@ invariant-loop-var g l = record {
   long : length l.states ≡ l.var;
   small : AreSmall (contents_of l.states);
   shapes : KeepShapes l.var l.g l.sources l.states;
+  numbers : KeepNumbers l.var l.g l.states;
 }

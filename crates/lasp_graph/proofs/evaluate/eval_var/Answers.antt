@@ -10,7 +10,7 @@ use Rattle.lasp_graph.specs.Kind.{kind_of}
 use Rattle.lasp_graph.specs.Decl.{decl_of}
 use Rattle.lasp_graph.specs.States.{held_of, held_at, contents_of}
 use Rattle.lasp_graph.specs.Evaluated.{inputs_of, process, Becomes, seen}
-use Rattle.lasp_graph.proofs.Evaluation.{inputs_before, earlier-shape, derived-inputs, source-inputs, content-held, shape-held, evaluated-source, evaluated-process, small-at, source-shape, shape-as}
+use Rattle.lasp_graph.proofs.Evaluation.{inputs_before, earlier-shape, derived-inputs, source-inputs, content-held, shape-held, evaluated-source, evaluated-process, small-at, source-shape, shape-as, kind-sound}
 use Rattle.lasp_graph.proofs.evaluate.eval_var.Goals as goal
 
 pub at-first-requires : goal.at-first-requires
@@ -67,3 +67,6 @@ returns-in-Some-clause-content g c =
     ∙ (λ n. process (c.at.ensures.kind n) (first n) (second n))
     ))
     c.eval_derived.ensures.content
+
+pub eval_derived-requires-clause-sound : goal.eval_derived-requires-clause-sound
+eval_derived-requires-clause-sound g c = kind-sound c.args.g.now c.args.var (decl_of c.at.result.now) c.recall.ensures c.at.ensures.decl

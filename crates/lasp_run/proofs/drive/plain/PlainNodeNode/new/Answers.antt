@@ -5,7 +5,7 @@ use Rattle.model_graph.specs.Graph.{Decl}
 use Rattle.lasp_graph.specs.States.{Held, contents_of}
 use Rattle.lasp_graph.specs.Evaluated.{AreNarrow}
 use Rattle.lasp_run.specs.Plain.{fresh_state, AreShaped}
-use Rattle.lasp_run.proofs.PlainLaws.{fresh-shaped, fresh-narrow, fresh-contents, nothing-kept, length-same}
+use Rattle.lasp_run.proofs.PlainLaws.{fresh-shaped, fresh-narrow, fresh-contents, nothing-kept, nothing-numbered, length-same}
 use Rattle.lasp_run.proofs.drive.plain.PlainNodeNode.new.Goals as goal
 
 pub invariant_of-result-clause-sources_of_all : goal.invariant_of-result-clause-sources_of_all
@@ -32,6 +32,9 @@ invariant_of-result-clause-narrow c =
 
 pub invariant_of-result-clause-shapes : goal.invariant_of-result-clause-shapes
 invariant_of-result-clause-shapes c = nothing-kept (arc_value c.in_ok-try_clone.field-0) c.in_ok-least_states.field-0 c.new.result c.new.ensures
+
+pub invariant_of-result-clause-numbers : goal.invariant_of-result-clause-numbers
+invariant_of-result-clause-numbers c = nothing-numbered (arc_value c.in_ok-try_clone.field-0) c.new.result c.new.ensures
 
 pub returns-clause-peer : goal.returns-clause-peer
 returns-clause-peer c =

@@ -5,7 +5,7 @@ use Rattle.model_states.specs.Content.{Content}
 use Rattle.model_graph.specs.Graph.{Decl}
 use Rattle.model_graph.specs.Evaluation.{eval, first_large}
 use Rattle.lasp_graph.specs.States.{contents_of}
-use Rattle.lasp_graph.specs.Evaluated.{AreSmall, Evaluates, KeepShapes}
+use Rattle.lasp_graph.specs.Evaluated.{AreSmall, Evaluates, KeepShapes, KeepNumbers}
 use Rattle.lasp_graph.proofs.Evaluation.{first_large-small, length-contents}
 use Rattle.lasp_run.proofs.PlainLaws.{stopped-eval, length-eval}
 use Rattle.lasp_run.proofs.drive.plain.PlainNodeNode.settle.Goals as goal
@@ -26,6 +26,8 @@ invariant_of-self g c =
       small = λ _. first_large-small 0 (contents_of c.in-Ok.states) (subst (λ (cs : List Content). AreSmall cs) is.0 is.1);
       shapes = subst (λ (n : ℕ). KeepShapes n decls c.args.self.now.sources c.in-Ok.states) long
           (subst (λ (g : List Decl). KeepShapes (length g) g c.args.self.now.sources c.in-Ok.states) c.deref.ensures c.in-Ok.ensures.shapes);
+      numbers = subst (λ (n : ℕ). KeepNumbers n decls c.in-Ok.states) long
+          (subst (λ (g : List Decl). KeepNumbers (length g) g c.in-Ok.states) c.deref.ensures c.in-Ok.ensures.numbers);
     }
 
 pub returns-in-Err-TooLarge-clause-done : goal.returns-in-Err-TooLarge-clause-done

@@ -9,7 +9,7 @@ use Rattle.model_graph.specs.Evaluation.{content_at}
 use Rattle.lasp_state.specs.State.{content_of, op_of}
 use Rattle.lasp_graph.specs.States.{held_of, contents_of}
 use Rattle.lasp_run.specs.Plain.{AreShaped}
-use Rattle.lasp_run.proofs.PlainLaws.{op-within, shaped-joined, narrow-updated, nothing-kept, count-read, content-joined}
+use Rattle.lasp_run.proofs.PlainLaws.{op-within, shaped-joined, narrow-updated, nothing-kept, nothing-numbered, count-read, content-joined}
 use Rattle.lasp_run.proofs.drive.plain.PlainNodeNode.update.Goals as goal
 
 pub invariant_of-self-2-clause-sources_of_all : goal.invariant_of-self-2-clause-sources_of_all
@@ -28,6 +28,9 @@ invariant_of-self-2-clause-narrow c =
 
 pub invariant_of-self-2-clause-shapes : goal.invariant_of-self-2-clause-shapes
 invariant_of-self-2-clause-shapes c = nothing-kept (arc_value c.args.self.now.graph) c.join_update.new.sources c.new.result c.new.ensures
+
+pub invariant_of-self-2-clause-numbers : goal.invariant_of-self-2-clause-numbers
+invariant_of-self-2-clause-numbers c = nothing-numbered (arc_value c.args.self.now.graph) c.new.result c.new.ensures
 
 pub at-requires : goal.at-requires
 at-requires c = omega (arith, op-within (op_of c.args.op.now) (arc_value c.args.self.now.graph) c.args.x c.requires.source, c.in_ok-join_update.ensures.ok.long, c.args.self.now.sources_of_all)

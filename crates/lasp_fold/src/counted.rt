@@ -1,0 +1,96 @@
+//! The number of a set that grew, through a library that counts its calls.
+
+ghost use Rattle.std.specs.Prelude.{◌≡◌, ◌+◌, ◌*◌, ◌^◌, ◌<◌, ◌≤◌, IsTrue, fold, length};
+ghost use Rattle.model_sets.specs.Rows.{IsAtMost};
+ghost use Rattle.model_sets.specs.Values.{visible, row_values};
+ghost use Rattle.model_sets.specs.Equations.{changed};
+ghost use Rattle.model_sets.specs.Folds.{fold_set};
+ghost use Rattle.model_graph.specs.Increment.{IsChange};
+ghost use Rattle.lasp_fns.specs.Library.{lifts_of, lift_op_at};
+ghost use Rattle.lasp_fns.specs.Steps.{library_of, ticks_of};
+ghost use Rattle.lasp_fold.specs.Fold.{AreSized, IsWithinLimits, taken_lift};
+ghost use Rattle.lasp_fold.specs.Turns.{turned, turns};
+
+use super::group::FoldGroup;
+use super::step;
+use super::turns::Turns;
+use lasp_fns::StepLib;
+use lasp_orset::OrSet;
+
+/// The fold of `after` by the lift at a place, from that of `before`. It calls the lift at most once for each row that changed between the two.
+/// It costs two searches for each value of `after`, and no memory.
+pub fn fold_counted<G: FoldGroup>(
+    g: &G,
+    lib: &mut StepLib,
+    lift: u32,
+    old: i128,
+    before: &OrSet,
+    after: &OrSet,
+) -> i128
+    requires place { lift < length (lifts_of (library_of lib.old)) }
+    requires more { IsAtMost before.now after.now }
+    requires limits { IsWithinLimits after.now }
+    requires old { old ≡ fold_set (G.combined g.now) (G.unit g.now) (taken_lift (G.taken g.now) (lift_op_at (library_of lib.old) lift)) before.now }
+    ensures exact { result ≡ fold_set (G.combined g.now) (G.unit g.now) (taken_lift (G.taken g.now) (lift_op_at (library_of lib.old) lift)) after.now }
+    ensures library { library_of lib.new ≡ library_of lib.old }
+    ensures ticks { ticks_of lib.new ≤ ticks_of lib.old + length (changed before.now after.now) }
+{
+    g.known();
+    before.ascends();
+    after.ascends();
+    after.recall_ints();
+    along(g, lib, lift, old, before, after, after)
+}
+
+/// The same from the rows that changed: any rows that joined into `before` give `after`. It costs two searches and at most one call for each of them, and no memory.
+pub fn fold_increment<G: FoldGroup>(
+    g: &G,
+    lib: &mut StepLib,
+    lift: u32,
+    old: i128,
+    before: &OrSet,
+    change: &OrSet,
+    after: &OrSet,
+) -> i128
+    requires place { lift < length (lifts_of (library_of lib.old)) }
+    requires change { IsChange before.now change.now after.now }
+    requires limits { IsWithinLimits after.now }
+    requires old { old ≡ fold_set (G.combined g.now) (G.unit g.now) (taken_lift (G.taken g.now) (lift_op_at (library_of lib.old) lift)) before.now }
+    ensures exact { result ≡ fold_set (G.combined g.now) (G.unit g.now) (taken_lift (G.taken g.now) (lift_op_at (library_of lib.old) lift)) after.now }
+    ensures library { library_of lib.new ≡ library_of lib.old }
+    ensures ticks { ticks_of lib.new ≤ ticks_of lib.old + length change.now }
+{
+    g.known();
+    before.ascends();
+    after.ascends();
+    after.recall_ints();
+    along(g, lib, lift, old, before, after, change)
+}
+
+/// Corrects a number for each value of a set's rows that came or went.
+fn along<G: FoldGroup>(
+    g: &G,
+    lib: &mut StepLib,
+    lift: u32,
+    old: i128,
+    before: &OrSet,
+    after: &OrSet,
+    among: &OrSet,
+) -> i128
+    requires place { lift < length (lifts_of (library_of lib.old)) }
+    requires sized { AreSized among.now }
+    requires in_group { IsTrue (G.is_member g.now old) }
+    requires small { G.size g.now old + 2 ^ 63 * length among.now ≤ 2 ^ 99 }
+    ensures exact { result ≡ fold (turned (G.combined g.now) (G.undone g.now) (taken_lift (G.taken g.now) (lift_op_at (library_of lib.old) lift))) old (turns (visible before.now) (visible after.now) (row_values among.now)) }
+    ensures library { library_of lib.new ≡ library_of lib.old }
+    ensures ticks { ticks_of lib.new ≤ ticks_of lib.old + length (turns (visible before.now) (visible after.now) (row_values among.now)) }
+{
+    among.ascends();
+    let mut total = old;
+    let mut pass = Turns::among(among);
+    while let Some(turn) = pass.next(before, after) {
+        let n = lib.call_lift(lift, turn.value);
+        total = step::turned(g, total, n, turn.came);
+    }
+    total
+}

@@ -1,0 +1,45 @@
+//! The number of a whole set.
+
+ghost use Rattle.std.specs.Prelude.{◌≡◌, ◌||◌};
+ghost use Rattle.std.specs.Option.{option_map};
+ghost use Rattle.model_sets.specs.Folds.{fold_set};
+ghost use Rattle.lasp_value.specs.Value.{val_of};
+ghost use Rattle.lasp_orset.specs.Shown.{is_last};
+ghost use Rattle.lasp_fns.specs.Stored.{lift_of};
+ghost use Rattle.lasp_fold.specs.Fold.{IsWithinLimits, taken_lift};
+
+use super::group::FoldGroup;
+use super::step::turned;
+use super::turns::is_same;
+use lasp_fns::StoredLift;
+use lasp_orset::{Entry, OrSet};
+use lasp_value::Value;
+
+/// The fold of the visible values, each value once. It costs a call for each visible value, and no memory.
+pub fn fold_all<G: FoldGroup>(g: &G, lift: &StoredLift, x: &OrSet) -> i128
+    requires { IsWithinLimits x.now }
+    ensures { result ≡ fold_set (G.combined g.now) (G.unit g.now) (taken_lift (G.taken g.now) (lift_of lift.now)) x.now }
+{
+    g.known();
+    x.recall_ints();
+    let mut total = g.neutral();
+    let mut last: Option<&Value> = None;
+    let mut rows = x.iter();
+    while let Some(row) = rows.next() {
+        if is_passed(last, row) {
+            continue;
+        }
+        let value = row.value();
+        let n = lift.call(value);
+        total = turned(g, total, n, true);
+        last = Some(value);
+    }
+    total
+}
+
+/// Whether the row shows no value, or the one that was taken last.
+fn is_passed(last: Option<&Value>, row: &Entry) -> bool
+    ensures { result ≡ (row.now.1 || is_last (option_map (λ v. val_of v.now) last.entry) row.now.0.0) }
+{
+    row.is_dead() || is_same(last, row.value())
+}

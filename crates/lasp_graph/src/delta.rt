@@ -1,0 +1,128 @@
+//! One process after its inputs changed: from its state before and the changed rows.
+
+ghost use Rattle.std.specs.Prelude.{◌≡◌, ◌+◌, ◌<◌, ◌≤◌, IfOk, IsFalse, length};
+ghost use Rattle.std.specs.Arc.{arc_value};
+ghost use Rattle.model_sets.specs.Equations.{changed};
+ghost use Rattle.model_states.specs.Content.{of_set, size_of, row_limit, IsContentAtMost};
+ghost use Rattle.model_states.specs.Threshold.{set};
+ghost use Rattle.model_graph.specs.Graph.{kind_at, is_source};
+ghost use Rattle.model_graph.specs.Increment.{IsChange};
+ghost use Rattle.model_graph.specs.Width.{HasWidth};
+ghost use Rattle.model_readings.specs.Lawful.{FitsAll};
+ghost use Rattle.lasp_fns.specs.Steps as counted;
+ghost use Rattle.lasp_state.specs.State.{content_of, shape_of, number_of};
+ghost use Rattle.lasp_graph.specs.Library.{library_of};
+ghost use Rattle.lasp_graph.specs.Evaluated.{process, Becomes, seen, derived_shape, number_by, second_of};
+ghost use Rattle.lasp_graph.specs.Delta.{IsStateOf, IsStateBefore, IsForMemory};
+
+use super::graph::Graph;
+use super::increment::eval_increment;
+use super::inputs::{EvalRefused, Inputs};
+use lasp_fns::StepLib;
+use lasp_orset::{OrSet, changed};
+use lasp_state::State;
+use std::alloc::Global;
+
+/// The state of a process on its inputs, from its state on inputs that were at most these. It answers and refuses as `eval_node`.
+/// It finds the changed rows by a search for each row of the inputs, and then costs what `node_increment` costs.
+pub fn node_delta(
+    alloc: Global,
+    g: &Graph,
+    lib: &mut StepLib,
+    var: u8,
+    base: &Inputs,
+    old: &State,
+    inputs: &Inputs,
+) -> Result<State, EvalRefused>
+    requires declared { var < length g.now }
+    requires derived { IsFalse (is_source (kind_at g.now var)) }
+    requires fits { FitsAll (library_of (counted.library_of lib.old)) g.now }
+    requires sets { (shape_of (arc_value inputs.now.first) ≡ set) × (shape_of (second_of inputs.now) ≡ set) }
+    requires base_sets { (shape_of (arc_value base.now.first) ≡ set) × (shape_of (second_of base.now) ≡ set) }
+    requires more { IsContentAtMost (content_of (arc_value base.now.first)) (content_of (arc_value inputs.now.first)) × IsContentAtMost (content_of (second_of base.now)) (content_of (second_of inputs.now)) }
+    requires old { IsStateOf (kind_at g.now var) (content_of (arc_value base.now.first)) (content_of (second_of base.now)) old.now }
+    requires width { HasWidth 16 (content_of (arc_value inputs.now.first)) }
+    requires small { size_of (content_of (arc_value inputs.now.first)) ≤ row_limit }
+    ensures content { Becomes (seen content_of result) (process (kind_at g.now var) (content_of (arc_value inputs.now.first)) (content_of (second_of inputs.now))) }
+    ensures shape { IfOk result (λ s. shape_of s ≡ derived_shape (kind_at g.now var)) }
+    ensures number { IfOk result (λ s. number_of s ≡ number_by (kind_at g.now var) (content_of s)) }
+    ensures library { counted.library_of lib.new ≡ counted.library_of lib.old }
+    ensures ticks { counted.ticks_of lib.new ≤ counted.ticks_of lib.old + length (changed (content_of (arc_value base.now.first)).rows (content_of (arc_value inputs.now.first)).rows) }
+{
+    let first = changed_between(alloc, &base.first, &inputs.first)?;
+    match (&base.second, &inputs.second) {
+        (None, None) => node_increment(alloc, g, lib, var, old, inputs, &first, &first),
+        (_, _) => {
+            let second = changed_between(alloc, second_of(base), second_of(inputs))?;
+            node_increment(alloc, g, lib, var, old, inputs, &first, &second)
+        }
+    }
+}
+
+/// The state of a process on its inputs, from its state before and the rows that changed in each of them since: any rows that make the difference.
+/// It costs the changed rows and the rows that they give, and a share for each 64 to 128 rows of the result. It calls a stored function at most once for each changed row of the first input.
+pub fn node_increment(
+    alloc: Global,
+    g: &Graph,
+    lib: &mut StepLib,
+    var: u8,
+    old: &State,
+    inputs: &Inputs,
+    first: &OrSet,
+    second: &OrSet,
+) -> Result<State, EvalRefused>
+    requires declared { var < length g.now }
+    requires derived { IsFalse (is_source (kind_at g.now var)) }
+    requires fits { FitsAll (library_of (counted.library_of lib.old)) g.now }
+    requires sets { (shape_of (arc_value inputs.now.first) ≡ set) × (shape_of (second_of inputs.now) ≡ set) }
+    requires old { IsStateBefore (kind_at g.now var) first.now (content_of (arc_value inputs.now.first)).rows second.now (content_of (second_of inputs.now)).rows old.now }
+    requires width { HasWidth 16 (content_of (arc_value inputs.now.first)) }
+    requires small { size_of (content_of (arc_value inputs.now.first)) ≤ row_limit }
+    ensures content { Becomes (seen content_of result) (process (kind_at g.now var) (content_of (arc_value inputs.now.first)) (content_of (second_of inputs.now))) }
+    ensures shape { IfOk result (λ s. shape_of s ≡ derived_shape (kind_at g.now var)) }
+    ensures number { IfOk result (λ s. number_of s ≡ number_by (kind_at g.now var) (content_of s)) }
+    ensures library { counted.library_of lib.new ≡ counted.library_of lib.old }
+    ensures ticks { counted.ticks_of lib.new ≤ counted.ticks_of lib.old + length first.now }
+{
+    g.recall();
+    let kind = &g.at(var as u64).kind;
+    let x = set_of(&inputs.first);
+    let y = set_of(second_of(inputs));
+    eval_increment(alloc, kind, lib, old, x, first, y, second)
+}
+
+/// The second input, or the first one where there is no second.
+pub(crate) fn second_of(inputs: &Inputs) -> &State
+    ensures { result.now ≡ second_of inputs.now }
+{
+    match &inputs.second {
+        Some(second) => second,
+        None => &inputs.first,
+    }
+}
+
+/// The rows of a set.
+fn set_of(state: &State) -> &OrSet
+    requires { shape_of state.now ≡ set }
+    ensures { content_of state.now ≡ of_set result.now }
+{
+    match state {
+        State::Set(rows) => rows,
+        _ => unreachable!(),
+    }
+}
+
+/// The rows that changed from one set to another.
+fn changed_between(alloc: Global, before: &State, after: &State) -> Result<OrSet, EvalRefused>
+    requires before { shape_of before.now ≡ set }
+    requires after { shape_of after.now ≡ set }
+    ensures ok { IfOk result (λ s. s ≡ changed (content_of before.now).rows (content_of after.now).rows) }
+    ensures change { IfOk result (λ s. IsContentAtMost (content_of before.now) (content_of after.now) → IsChange (content_of before.now).rows s (content_of after.now).rows) }
+    ensures memory { IsForMemory result }
+{
+    let old = set_of(before);
+    let new = set_of(after);
+    old.ascends();
+    new.ascends();
+    Ok(changed(alloc, old, new)?)
+}
