@@ -96,6 +96,7 @@ fn a_lift_is_called_through_its_closure_and_counted(rt: HostRuntime) -> Result<(
 }
 
 #[test]
+#[tactic(auto, unfolding(model_functions::specs::Predicate::passes))]
 fn a_kind_takes_a_name_once(rt: HostRuntime) -> Result<(), Fail> {
     let alloc = rt.alloc();
     let first = |_v: &Value| -> Result<Value, AllocError> { Err(AllocError) };
@@ -109,6 +110,11 @@ fn a_kind_takes_a_name_once(rt: HostRuntime) -> Result<(), Fail> {
     assert!(rt; matches!(taken, Err(LibraryRefused::NameTaken)));
     assert!(rt; library.find_map("abs") == Some(0));
     assert!(rt; library.map_ops(1).is_none());
+    // the sorts have names of their own
+    let test = |_v: &Value| -> bool { true };
+    let predicate = StoredPred::new(PredOps::new(alloc), Box::new(alloc, test)?);
+    library.add_pred("abs", predicate)?;
+    assert!(rt; library.find_pred("abs") == Some(0));
     Ok(())
 }
 
