@@ -13,6 +13,3 @@ pub use counter::{COUNT_MAX, GCount};
 pub use elements::Elements;
 pub use gset::GSet;
 pub use register::MaxReg;
-
-#[cfg(test)]
-mod tests;

@@ -34,6 +34,3 @@ pub use std_sink::StdSink;
 pub use sure_files::SureFiles;
 pub use sure_sink::SureSink;
 pub use write::write_whole;
-
-#[cfg(test)]
-mod tests;

@@ -17,6 +17,3 @@ pub use predicate::{PredOp, PredOps, apply_pred};
 pub use refused::LibraryRefused;
 pub use steps::StepLib;
 pub use stored::{LiftFn, MapFn, PredFn, StoredLift, StoredMap, StoredPred};
-
-#[cfg(test)]
-mod tests;

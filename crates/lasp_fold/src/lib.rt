@@ -19,6 +19,3 @@ pub use modulo::Modulo;
 pub use sum::Sum;
 pub use whole::fold_all;
 pub use xor::Xor;
-
-#[cfg(test)]
-mod tests;

@@ -92,7 +92,7 @@ pub fn node_increment(
 }
 
 /// The second input, or the first one where there is no second.
-pub(crate) fn second_of(inputs: &Inputs) -> &State
+fn second_of(inputs: &Inputs) -> &State
     ensures { result.now ≡ second_of inputs.now }
 {
     match &inputs.second {

@@ -29,6 +29,3 @@ pub use read::{read_decl, read_graph};
 pub use refused::{DeclRefused, GraphRefused};
 pub use states::States;
 pub use tree::{has_items, is_word_at, number_at, text_at};
-
-#[cfg(test)]
-mod tests;

@@ -39,6 +39,3 @@ pub use held::Held;
 pub use kept::Kept;
 pub use lock::HistLock;
 pub use pass::Pass;
-
-#[cfg(test)]
-mod tests;

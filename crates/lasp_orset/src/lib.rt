@@ -24,6 +24,3 @@ pub use entry::Entry;
 pub use rows::Rows;
 pub use set::OrSet;
 pub use updates::add_delta;
-
-#[cfg(test)]
-mod tests;

@@ -9,6 +9,3 @@ mod program;
 
 pub use drive::{Halt, Node, NodeStop, PlainNode, drive_on};
 pub use program::one_thread;
-
-#[cfg(test)]
-mod tests;

@@ -18,6 +18,3 @@ pub use model_readings::ScriptWhy;
 pub use read::read_script;
 pub use refused::ScriptRefused;
 pub use script::Script;
-
-#[cfg(test)]
-mod tests;

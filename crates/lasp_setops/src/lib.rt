@@ -23,6 +23,3 @@ pub use map::map_set;
 pub use product::product_sets;
 pub use refused::SetRefused;
 pub use union::union_sets;
-
-#[cfg(test)]
-mod tests;

@@ -18,6 +18,3 @@ pub use op::Op;
 pub use print::print_state;
 pub use state::State;
 pub use threshold::Threshold;
-
-#[cfg(test)]
-mod tests;

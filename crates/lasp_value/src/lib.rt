@@ -20,8 +20,3 @@ pub use text::Text;
 pub use token::Token;
 pub use value::Value;
 pub use values::Values;
-
-#[cfg(test)]
-mod json_tests;
-#[cfg(test)]
-mod tests;

@@ -14,6 +14,3 @@ pub use content::Content;
 pub use entry::{Act, Decl, Entry, Frame, Kind, Message, Op, Sent};
 pub use functions::{Condition, MapStep};
 pub use journal::{Journal, Refused};
-
-#[cfg(test)]
-mod tests;

@@ -14,6 +14,3 @@ pub use row::Row;
 pub use rules::{Mapping, Predicate};
 pub use shown::visible;
 pub use states::{join, remove_delta};
-
-#[cfg(test)]
-mod tests;

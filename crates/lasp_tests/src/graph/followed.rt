@@ -1,0 +1,216 @@
+//! A variable after a change of its inputs, by the changed rows and from scratch.
+
+ghost use Rattle.std.specs.Prelude.{◌≡◌, ◌<◌, ◌≤◌, IfOk, OnOk, length};
+ghost use Rattle.std.specs.Arc.{arc_value};
+ghost use Rattle.model_states.specs.Content.{size_of, row_limit};
+ghost use Rattle.model_states.specs.Threshold.{set};
+ghost use Rattle.model_graph.specs.Width.{HasWidth};
+ghost use Rattle.model_readings.specs.Lawful.{FitsAll};
+ghost use Rattle.lasp_value.specs.Value.{val_of};
+ghost use Rattle.model_values.specs.Size.{IsSized};
+ghost use Rattle.model_functions.specs.Predicate.{passes};
+ghost use Rattle.model_functions.specs.Lift as lift;
+ghost use Rattle.model_functions.specs.Lift.{lifted};
+ghost use Rattle.lasp_fns.specs.Answers.{Answers};
+ghost use Rattle.lasp_fns.specs.Steps as counted;
+ghost use Rattle.lasp_setops.specs.Width.{IsSetOfWidth};
+ghost use Rattle.lasp_state.specs.State.{content_of, shape_of};
+ghost use Rattle.lasp_graph.specs.Library.{library_of};
+ghost use Rattle.lasp_graph.specs.Evaluated as evaluated;
+
+use lasp_fns::{
+    Library, LiftOp, MapOp, MapOps, PredOp, PredOps, StepLib, StoredLift, StoredMap, StoredPred,
+    apply_lift, apply_map, apply_pred,
+};
+use lasp_graph::{EvalRefused, Graph, Inputs, eval_node, node_delta, read_graph};
+use lasp_orset::{Entry, OrSet};
+use lasp_state::State;
+use lasp_value::{Token, Value};
+use std::alloc::{AllocError, Global};
+use std::sync::Arc;
+use std::test::Fail;
+
+/// The most rows that a set variable may have.
+const MOST_ROWS: u64 = 65_536;
+
+/// Joins rows of numbers in, each with the number of its token and whether it is dead.
+fn add_rows(alloc: Global, set: &mut OrSet, rows: &[(i64, u64, bool)]) -> Result<(), AllocError>
+    requires { IsSetOfWidth 16 set.old }
+    ensures { OnOk result (IsSetOfWidth 16 set.new) }
+{
+    for (n, k, dead) in rows {
+        let row = Entry::new(alloc, Value::Int(*n), Token::Base(0, *k), *dead)?;
+        set.add(row)?;
+    }
+    Ok(())
+}
+
+/// The state of a set of numbers, each with the number of its token and whether it is dead, with more rows joined in.
+fn state_of(
+    alloc: Global,
+    rows: &[(i64, u64, bool)],
+    more: &[(i64, u64, bool)],
+) -> Result<Arc<State>, AllocError>
+    ensures shape { IfOk result (λ s. shape_of (arc_value s) ≡ set) }
+    ensures width { IfOk result (λ s. HasWidth 16 (content_of (arc_value s))) }
+    ensures small { IfOk result (λ s. size_of (content_of (arc_value s)) ≤ row_limit) }
+{
+    let mut set = OrSet::new(alloc);
+    add_rows(alloc, &mut set, rows)?;
+    add_rows(alloc, &mut set, more)?;
+    if set.rows() > MOST_ROWS {
+        return Err(AllocError);
+    }
+    Ok(Arc::new(alloc, State::Set(set))?)
+}
+
+/// Shares of two states.
+fn inputs_of(first: &Arc<State>, second: &Arc<State>) -> Result<Inputs, AllocError>
+    ensures first { IfOk result (λ i. arc_value i.first ≡ arc_value first.now) }
+    ensures second { IfOk result (λ i. evaluated.second_of i ≡ arc_value second.now) }
+{
+    Ok(Inputs {
+        first: Arc::try_clone(first)?,
+        second: Some(Arc::try_clone(second)?),
+    })
+}
+
+/// The second input, or the first one where there is no second.
+fn second_of(inputs: &Inputs) -> &State
+    ensures { result.now ≡ evaluated.second_of inputs.now }
+{
+    match &inputs.second {
+        Some(second) => second,
+        None => &inputs.first,
+    }
+}
+
+/// Whether a derived variable has the same state by the changed rows as from scratch.
+fn is_followed(
+    alloc: Global,
+    g: &Graph,
+    lib: &mut StepLib,
+    var: u8,
+    base: &Inputs,
+    inputs: &Inputs,
+) -> Result<bool, EvalRefused>
+    requires declared { var < length g.now }
+    requires fits { FitsAll (library_of (counted.library_of lib.old)) g.now }
+    requires sets { (shape_of (arc_value inputs.now.first) ≡ set) × (shape_of (evaluated.second_of inputs.now) ≡ set) }
+    requires base_sets { (shape_of (arc_value base.now.first) ≡ set) × (shape_of (evaluated.second_of base.now) ≡ set) }
+    requires width { HasWidth 16 (content_of (arc_value inputs.now.first)) }
+    requires base_width { HasWidth 16 (content_of (arc_value base.now.first)) }
+    requires small { size_of (content_of (arc_value inputs.now.first)) ≤ row_limit }
+    requires base_small { size_of (content_of (arc_value base.now.first)) ≤ row_limit }
+    ensures library { counted.library_of lib.new ≡ counted.library_of lib.old }
+{
+    if g.at(var as u64).kind.is_source() {
+        return Ok(true);
+    }
+    let is_more = base.first.le(&inputs.first) && second_of(base).le(second_of(inputs));
+    if !is_more {
+        return Ok(false);
+    }
+    let old = eval_node(alloc, g, lib.library(), var, base)?;
+    let whole = eval_node(alloc, g, lib.library(), var, inputs)?;
+    let followed = node_delta(alloc, g, lib, var, base, &old, inputs)?;
+    Ok(is_same(&followed, &whole))
+}
+
+/// Whether two states are of one kind, and equal.
+fn is_same(state: &State, other: &State) -> bool {
+    match (state, other) {
+        (State::Set(rows), State::Set(others)) => rows.le(others) && others.le(rows),
+        (State::Fold(rows, number), State::Fold(others, wanted)) => {
+            rows.le(others) && others.le(rows) && number == wanted
+        }
+        (_, _) => false,
+    }
+}
+
+const GRAPH: &str =
+    "[[\"a\",\"orset\"],[\"b\",\"orset\"],[\"u\",\"union\",\"a\",\"b\"],[\"p\",\"product\",\"a\",\"b\"],[\"i\",\"intersection\",\"a\",\"b\"],[\"m\",\"map\",\"a\",\"abs\"],[\"f\",\"filter\",\"a\",\"even\"],[\"s\",\"fold\",\"a\",\"sum\",\"itself\"],[\"x\",\"fold\",\"a\",\"xor\",\"itself\"],[\"r\",\"fold\",\"a\",[\"modulo\",4],\"itself\"]]";
+
+/// The rows of the first input and what is joined into them, and the same of the second.
+const CHANGES: [[&[(i64, u64, bool)]; 4]; 6] = [
+    // nothing changes
+    [&[(-1, 1, false), (2, 2, false)], &[], &[(2, 3, false)], &[]],
+    // both were empty
+    [&[], &[(-2, 1, false), (2, 2, false)], &[], &[(2, 3, false)]],
+    // an old row dies, and its value is still there under another token
+    [
+        &[(2, 1, false), (2, 2, false), (5, 3, false)],
+        &[(2, 1, true)],
+        &[(2, 4, false)],
+        &[(5, 5, false)],
+    ],
+    // the last row of a value dies
+    [
+        &[(-2, 1, false), (2, 2, false)],
+        &[(-2, 1, true)],
+        &[(-2, 3, false)],
+        &[],
+    ],
+    // a value comes again, while the other set loses it
+    [
+        &[(4, 1, true), (3, 2, false)],
+        &[(4, 5, false), (3, 2, true)],
+        &[(4, 3, false)],
+        &[(4, 3, true), (7, 4, false)],
+    ],
+    // the second set alone changes
+    [
+        &[(1, 1, false), (2, 2, false)],
+        &[],
+        &[(2, 3, false)],
+        &[(1, 4, false), (2, 3, true)],
+    ],
+];
+
+#[test]
+fn a_variable_by_its_changed_rows_is_the_same_as_from_scratch(rt: HostRuntime) -> Result<(), Fail> {
+    let alloc = rt.alloc();
+    let mut steps = MapOps::new(alloc);
+    steps.push(MapOp::Abs)?;
+    let mine = steps.try_clone()?;
+    let f = move |v: &Value| -> Result<Value, AllocError>
+        requires { IsSized (val_of v.now) }
+        ensures { Answers mine (val_of v.entry.now) result }
+    { apply_map(alloc, &mine, v) };
+    let mut conditions = PredOps::new(alloc);
+    conditions.push(PredOp::Even)?;
+    let own = conditions.try_clone()?;
+    let p = move |v: &Value| -> bool
+        requires { IsSized (val_of v.now) }
+        ensures { result ≡ passes own (val_of v.entry.now) }
+    { apply_pred(&own, v) };
+    let l = |v: &Value| -> i64
+        requires { IsSized (val_of v.now) }
+        ensures { result ≡ lifted lift.Itself (val_of v.entry.now) }
+    { apply_lift(&LiftOp::Itself, v) };
+    let mut lib = Library::new(alloc);
+    lib.add_map("abs", StoredMap::new(steps, Box::new(alloc, f)?))?;
+    lib.add_pred("even", StoredPred::new(conditions, Box::new(alloc, p)?))?;
+    lib.add_lift(
+        "itself",
+        StoredLift::new(LiftOp::Itself, Box::new(alloc, l)?),
+    )?;
+    let graph = read_graph(alloc, GRAPH.as_bytes(), &lib)?;
+    assert!(rt; graph.fits(&lib));
+    for [rows, more, others, more_others] in &CHANGES {
+        let first = state_of(alloc, rows, &[])?;
+        let second = state_of(alloc, others, &[])?;
+        let base = inputs_of(&first, &second)?;
+        let first = state_of(alloc, rows, more)?;
+        let second = state_of(alloc, others, more_others)?;
+        let inputs = inputs_of(&first, &second)?;
+        for var in 0..graph.len() {
+            let mut counted = StepLib::new(&lib);
+            assert!(rt;
+                is_followed(alloc, &graph, &mut counted, var as u8, &base, &inputs)?,
+                "{var}"
+            );
+        }
+    }
+    Ok(())
+}
