@@ -14,19 +14,19 @@ mod graph;
 #[cfg(test)]
 mod histlock;
 #[cfg(test)]
+mod journals;
+#[cfg(test)]
 mod json;
 #[cfg(test)]
 mod orset;
-#[cfg(test)]
-mod plain_journals;
-#[cfg(test)]
-mod plain_sets;
 #[cfg(test)]
 mod run;
 #[cfg(test)]
 mod script;
 #[cfg(test)]
 mod setops;
+#[cfg(test)]
+mod sets;
 #[cfg(test)]
 mod state;
 #[cfg(test)]
