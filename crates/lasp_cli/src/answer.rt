@@ -56,6 +56,11 @@ pub fn answer_words<F: Files, O: Sink, E: Sink>(
     ensures complete { IfOk result (λ status. (text : List ℕ) → told_answer (F.content files.old) (words_of words.now) (plan program_library (words_of words.now)) ≡ Some (Ok text)
         → NoFault (words_of words.now) (view (F.content files.old) (F.faults files.old) (F.faults files.new)) (plan program_library (words_of words.now)) → ¬ Rose (O.faults out.old) (O.faults out.new)
         → ((status ≡ 0) × Appends (O.written out.old) text (O.written out.new)) ⊎ (status ≡ 7)) }
+    // contents of files stay, and no count of faults falls
+    ensures same { IfOk result (λ _. (name : List ℕ) → F.content files.new name ≡ F.content files.old name) }
+    ensures later { IfOk result (λ _. (name : List ℕ) → F.faults files.old name ≤ F.faults files.new name) }
+    ensures out_later { IfOk result (λ _. O.faults out.old ≤ O.faults out.new) }
+    ensures err_later { IfOk result (λ _. E.faults err.old ≤ E.faults err.new) }
     // words of no listed form: no file is read
     ensures unread { form (words_of words.now) ≡ Form.Wrong → files.new ≡ files.old }
     // with another status than 0 and 5 nothing is written to `out`

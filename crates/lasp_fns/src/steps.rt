@@ -35,13 +35,6 @@ impl<'a> StepLib<'a> {
         StepLib { library, ticks: 0 }
     }
 
-    /// The library whose calls are counted.
-    pub fn library(&self) -> &Library
-        ensures { result.now ≡ library_of self.now }
-    {
-        self.library
-    }
-
     /// The number of calls so far.
     pub fn ticks(&self) -> u64
         ensures { result ≡ ticks_of self.now }

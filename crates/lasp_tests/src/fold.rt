@@ -55,20 +55,22 @@ fn grown(before: &OrSet, change: &OrSet) -> Result<OrSet, AllocError>
 /// The number after a change, where it is the same in every way.
 fn number_after<G: FoldGroup>(
     g: &G,
+    library: &Library,
     lib: &mut StepLib,
     before: &OrSet,
     change: &OrSet,
     after: &OrSet,
 ) -> Option<i128>
+    requires same { library_of lib.old ≡ library.now }
     requires place { 0 < length (lifts_of (library_of lib.old)) }
     requires change { IsChange before.now change.now after.now }
     requires before { IsWithinLimits before.now }
     requires after { IsWithinLimits after.now }
     ensures library { library_of lib.new ≡ library_of lib.old }
 {
-    let old = fold_all(g, lib.library().lift_at(0), before);
-    let whole = fold_all(g, lib.library().lift_at(0), after);
-    let followed = fold_change(g, lib.library().lift_at(0), old, before, after);
+    let old = fold_all(g, library.lift_at(0), before);
+    let whole = fold_all(g, library.lift_at(0), after);
+    let followed = fold_change(g, library.lift_at(0), old, before, after);
     let counted = fold_counted(g, lib, 0, old, before, after);
     let grown = fold_increment(g, lib, 0, old, before, change, after);
     if whole == followed && whole == counted && whole == grown && g.member(whole) {
@@ -130,15 +132,22 @@ fn a_fold_follows_additions_and_removals(rt: HostRuntime) -> Result<(), Fail> {
         let change = numbers(alloc, more)?;
         let after = grown(&before, &change)?;
         assert_eq!(rt;
-            number_after(&Sum, &mut steps, &before, &change, &after),
+            number_after(&Sum, &library, &mut steps, &before, &change, &after),
             Some(*sum)
         );
         assert_eq!(rt;
-            number_after(&Xor, &mut steps, &before, &change, &after),
+            number_after(&Xor, &library, &mut steps, &before, &change, &after),
             Some(*xor)
         );
         assert_eq!(rt;
-            number_after(&Modulo::new(4), &mut steps, &before, &change, &after),
+            number_after(
+                &Modulo::new(4),
+                &library,
+                &mut steps,
+                &before,
+                &change,
+                &after
+            ),
             Some(*rest)
         );
         assert_eq!(rt; steps.ticks(), *calls);

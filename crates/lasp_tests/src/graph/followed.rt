@@ -89,13 +89,15 @@ fn second_of(inputs: &Inputs) -> &State
 fn is_followed(
     alloc: Global,
     g: &Graph,
+    library: &Library,
     lib: &mut StepLib,
     var: u8,
     base: &Inputs,
     inputs: &Inputs,
 ) -> Result<bool, EvalRefused>
     requires declared { var < length g.now }
-    requires fits { FitsAll (library_of (counted.library_of lib.old)) g.now }
+    requires same { counted.library_of lib.old ≡ library.now }
+    requires fits { FitsAll (library_of library.now) g.now }
     requires sets { (shape_of (arc_value inputs.now.first) ≡ set) × (shape_of (evaluated.second_of inputs.now) ≡ set) }
     requires base_sets { (shape_of (arc_value base.now.first) ≡ set) × (shape_of (evaluated.second_of base.now) ≡ set) }
     requires width { HasWidth 16 (content_of (arc_value inputs.now.first)) }
@@ -111,8 +113,8 @@ fn is_followed(
     if !is_more {
         return Ok(false);
     }
-    let old = eval_node(alloc, g, lib.library(), var, base)?;
-    let whole = eval_node(alloc, g, lib.library(), var, inputs)?;
+    let old = eval_node(alloc, g, library, var, base)?;
+    let whole = eval_node(alloc, g, library, var, inputs)?;
     let followed = node_delta(alloc, g, lib, var, base, &old, inputs)?;
     Ok(is_same(&followed, &whole))
 }
@@ -180,7 +182,7 @@ fn first_other(alloc: Global, graph: &Graph, lib: &Library) -> Result<Option<u64
         let inputs = inputs_of(&first, &second)?;
         for var in 0..graph.len() {
             let mut counted = StepLib::new(lib);
-            if !is_followed(alloc, graph, &mut counted, var as u8, &base, &inputs)?
+            if !is_followed(alloc, graph, lib, &mut counted, var as u8, &base, &inputs)?
                 || counted.ticks() > more.len() as u64
             {
                 return Ok(Some(var));
