@@ -225,3 +225,76 @@ fn a_variable_by_its_changed_rows_is_the_same_as_from_scratch(rt: HostRuntime) -
     assert_eq!(rt; first_other(alloc, &graph, &lib)?, None);
     Ok(())
 }
+
+/// Rows of so many numbers from 0 on, each under its own token.
+fn rows_up_to(alloc: Global, most: u64) -> Result<Vec<(i64, u64, bool)>, AllocError> {
+    let mut rows = Vec::new(alloc);
+    for k in 0..most {
+        rows.push((k as i64, k, false))?;
+    }
+    Ok(rows)
+}
+
+/// How often variable 1 calls its function where its input changes so, if it then is as from scratch.
+fn calls_of_change(
+    alloc: Global,
+    graph: &Graph,
+    lib: &Library,
+    before: &Arc<State>,
+    after: &Arc<State>,
+) -> Result<Option<u64>, Fail>
+    requires fits { FitsAll (library_of lib.now) graph.now }
+    requires sets { (shape_of (arc_value before.now) ≡ set) × (shape_of (arc_value after.now) ≡ set) }
+    requires width { HasWidth 16 (content_of (arc_value before.now)) × HasWidth 16 (content_of (arc_value after.now)) }
+    requires small { (size_of (content_of (arc_value before.now)) ≤ row_limit) × (size_of (content_of (arc_value after.now)) ≤ row_limit) }
+{
+    if graph.len() < 2 {
+        return Ok(None);
+    }
+    let base = inputs_of(before, before)?;
+    let inputs = inputs_of(after, after)?;
+    let mut counted = StepLib::new(lib);
+    if is_followed(alloc, graph, lib, &mut counted, 1, &base, &inputs)? {
+        Ok(Some(counted.ticks()))
+    } else {
+        Ok(None)
+    }
+}
+
+/// The calls for a hundred additions at once, for one more, and for its removal.
+fn calls_of_three(alloc: Global, graph: &Graph, lib: &Library) -> Result<[Option<u64>; 3], Fail>
+    requires { FitsAll (library_of lib.now) graph.now }
+{
+    let rows = rows_up_to(alloc, 100)?;
+    let none = state_of(alloc, &[], &[])?;
+    let hundred = state_of(alloc, &rows, &[])?;
+    let more = state_of(alloc, &rows, &[(1000, 100, false)])?;
+    let less = state_of(alloc, &rows, &[(1000, 100, true)])?;
+    Ok([
+        calls_of_change(alloc, graph, lib, &none, &hundred)?,
+        calls_of_change(alloc, graph, lib, &hundred, &more)?,
+        calls_of_change(alloc, graph, lib, &more, &less)?,
+    ])
+}
+
+#[test]
+fn a_function_is_called_once_for_each_changed_row(rt: HostRuntime) -> Result<(), Fail> {
+    let alloc = rt.alloc();
+    let mut steps = MapOps::new(alloc);
+    steps.push(MapOp::Abs)?;
+    let mine = steps.try_clone()?;
+    let f = move |v: &Value| -> Result<Value, AllocError>
+        requires { IsSized (val_of v.now) }
+        ensures { Answers mine (val_of v.entry.now) result }
+    { apply_map(alloc, &mine, v) };
+    let mut lib = Library::new(alloc);
+    lib.add_map("abs", StoredMap::new(steps, Box::new(alloc, f)?))?;
+    let text = "[[\"a\",\"orset\"],[\"m\",\"map\",\"a\",\"abs\"]]";
+    let graph = read_graph(alloc, text.as_bytes(), &lib)?;
+    assert!(rt; graph.fits(&lib));
+    assert_eq!(rt;
+        calls_of_three(alloc, &graph, &lib)?,
+        [Some(100), Some(1), Some(1)]
+    );
+    Ok(())
+}
