@@ -262,13 +262,13 @@ fn a_delivery_that_comes_twice_adds_nothing(rt: HostRuntime) -> Result<(), Fail>
         &mut journal,
         alloc,
         0,
-        Act::Deliver(sent_by_another(alloc)?),
+        Act::Deliver(0, sent_by_another(alloc)?),
     )?;
     take(
         &mut journal,
         alloc,
         0,
-        Act::Deliver(sent_by_another(alloc)?),
+        Act::Deliver(0, sent_by_another(alloc)?),
     )?;
     assert_eq!(rt; shown(&journal, alloc, 0)?.as_str(), "1@0.1 7@1.1 ");
     assert_eq!(rt; shown(&journal, alloc, 3)?.as_str(), "3 4 ");
@@ -301,7 +301,7 @@ fn a_replica_makes_no_more_updates_than_it_may(rt: HostRuntime) -> Result<(), Fa
         &mut journal,
         alloc,
         0,
-        Act::Deliver(Message { counts, sources }),
+        Act::Deliver(0, Message { counts, sources }),
     )?;
     assert!(rt; !add(&mut journal, alloc, 0, 1)?);
     assert_eq!(rt; shown(&journal, alloc, 0)?.as_str(), "");

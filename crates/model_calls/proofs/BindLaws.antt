@@ -32,7 +32,7 @@ told-legal X h legal = record { opening = legal.opening; member = legal.member; 
 
 may-make : (a : Act) → MayMake (if is_bind a then 1 else 0) a
 may-make (Update x op) = refl
-may-make (Deliver m) = refl
+may-make (Deliver i m) = refl
 may-make (Bind y n) = tt
 may-make (Extend d) = refl
 

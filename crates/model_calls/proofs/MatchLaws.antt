@@ -58,11 +58,11 @@ module _ (X : Frame) (h : List Entry) (g : List Decl) (r : Peer) (legal : IsLega
   }
 
   -- a delivery to it
-  pub deliver-matches : (m : Message) → Matches X (h ++ fed (Deliver m) ∷ []) g (delivered g m r)
-  deliver-matches m = record {
-    graph_is = ap (λ (j : Journal). j.now.graph) (journal-push X h (fed (Deliver m))) ∙ same.graph_is;
-    contents_are = ap (λ (j : Journal). j.now.contents) (journal-push X h (fed (Deliver m))) ∙ append-nothing (gained (brought (graph X h) m) 0 (vals X h)) ∙ (λ i. gained (brought (same.graph_is i) m) 0 (same.contents_are i));
-    counts_are = ap (λ (j : Journal). j.now.counts) (journal-push X h (fed (Deliver m))) ∙ ap (λ (cs : List ℕ). larger cs m.counts) same.counts_are;
+  pub deliver-matches : (number : ℕ) (m : Message) → Matches X (h ++ fed (Deliver number m) ∷ []) g (delivered g m r)
+  deliver-matches number m = record {
+    graph_is = ap (λ (j : Journal). j.now.graph) (journal-push X h (fed (Deliver number m))) ∙ same.graph_is;
+    contents_are = ap (λ (j : Journal). j.now.contents) (journal-push X h (fed (Deliver number m))) ∙ append-nothing (gained (brought (graph X h) m) 0 (vals X h)) ∙ (λ i. gained (brought (same.graph_is i) m) 0 (same.contents_are i));
+    counts_are = ap (λ (j : Journal). j.now.counts) (journal-push X h (fed (Deliver number m))) ∙ ap (λ (cs : List ℕ). larger cs m.counts) same.counts_are;
   }
 
   -- a declaration
@@ -90,5 +90,5 @@ module _ (X : Frame) (h : List Entry) (g : List Decl) (r : Peer) (legal : IsLega
     wide = wide;
     others = [];
     first = append-nothing (map (λ s. s.decl) (sent_from g r.contents)) ∙ sent-among g r.contents long;
-    valid = subst (λ (m : Message). AreValidSources X.nodes m.sources) (λ i. message_of (same.graph_is i) (same.contents_are i) (same.counts_are i)) (message-valid X h legal);
+    valid = subst (λ (m : Message). AreValidSources X.nodes m.sources) (λ i. message_of (same.graph_is i) (same.contents_are i) (same.counts_are i)) (message-valid X h 0 legal);
   }

@@ -105,7 +105,7 @@ module _ (opening : List Decl) (nodes done : ℕ) (h : ℕ → List Entry) (f : 
       → Tied opening nodes done (λ q. h q ++ call_of f.run q (world.Take p i)) (followed f (world.Take p i))
   tied-take c p i next made e limit = record {
     sound = sound;
-    ties = each-node (λ q k r. Ties (frame_of opening nodes q) k f.run.graph r) nodes h f.run.peers p (fed (Deliver (sent_number f.run.sent i))) after t.sound.many t.ties new;
+    ties = each-node (λ q k r. Ties (frame_of opening nodes q) k f.run.graph r) nodes h f.run.peers p (fed (Deliver i (sent_number f.run.sent i))) after t.sound.many t.ties new;
     sent = t.sent;
     marks = t.marks;
     few = t.few;
@@ -125,13 +125,13 @@ module _ (opening : List Decl) (nodes done : ℕ) (h : ℕ → List Entry) (f : 
     long : p < nodes → length (delivered f.run.graph (sent_number f.run.sent i) (peer_at f.run.peers p)).contents ≡ length f.run.graph
     long low = ap (λ (r : Peer). length r.contents) (sym (there low)) ∙ (sound.holds p low).long
 
-    new : p < nodes → Ties (frame_of opening nodes p) (h p ++ fed (Deliver (sent_number f.run.sent i)) ∷ []) f.run.graph (delivered f.run.graph (sent_number f.run.sent i) (peer_at f.run.peers p))
+    new : p < nodes → Ties (frame_of opening nodes p) (h p ++ fed (Deliver i (sent_number f.run.sent i)) ∷ []) f.run.graph (delivered f.run.graph (sent_number f.run.sent i) (peer_at f.run.peers p))
     new low =
         let X = frame_of opening nodes p in
         let tie = t.ties p low in
         let r = peer_at f.run.peers p in
         let come = t.sent i made in
-        ties-step X (h p) (Deliver m) f.run.graph f.run.graph r after tie (deliver-matches X (h p) f.run.graph r tie.legal tie.same m)
+        ties-step X (h p) (Deliver i m) f.run.graph f.run.graph r after tie (deliver-matches X (h p) f.run.graph r tie.legal tie.same i m)
         (come.wide, (come.others, come.first ∙ ap sources_among (sym tie.same.graph_is))) come.valid
         (λ x small. none-large 0 after.contents (delivery-small (first_large 0 after.contents) c p _ next e) x (omega (arith, small, long low)))
         (λ q. subst (λ (z : Peer). count_at z.counts q ≤ count_limit) (there low) (few-counts nodes done (followed f (world.Take p i)) sound t.few limit p low q))

@@ -18,7 +18,7 @@ fed a = record { by = 0; act = a }
 -- what an act of the run is at node p: its own updates, the deliveries to it, and every declaration
 abbrev pub call_of : Run → ℕ → world.Act → List Entry
 call_of run p (world.Update q x op) = if q == p then fed (Update x op) ∷ [] else []
-call_of run p (world.Take q i) = if q == p then fed (Deliver (sent_number run.sent i)) ∷ [] else []
+call_of run p (world.Take q i) = if q == p then fed (Deliver i (sent_number run.sent i)) ∷ [] else []
 call_of run p (world.Extend d) = fed (Extend d) ∷ []
 call_of run p _ = []
 
@@ -38,7 +38,7 @@ calls c run p (k ∷ rest) = calls_of_acts c run p (acts run k) ++ when_done (st
 
 abbrev pub is_bind : Act → Bool
 is_bind (Update x op) = false
-is_bind (Deliver m) = false
+is_bind (Deliver i m) = false
 is_bind (Bind y n) = true
 is_bind (Extend d) = false
 

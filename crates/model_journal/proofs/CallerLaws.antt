@@ -21,13 +21,13 @@ use Rattle.model_journal.proofs.NextLaws.{op-of-source, next-good}
 -- only binds are anybody's
 may-words : (by : ℕ) (act : Act) → MayMake by act → (by ≡ 0) ⊎ ((y : ℕ) × (n : ℕ) × (act ≡ Bind y n))
 may-words by (Update y op) may = inl may
-may-words by (Deliver m) may = inl may
+may-words by (Deliver i m) may = inl may
 may-words by (Bind y n) may = inr (y, n, refl)
 may-words by (Extend d) may = inl may
 
 words-may : (by : ℕ) (act : Act) → (by ≡ 0) ⊎ ((y : ℕ) × (n : ℕ) × (act ≡ Bind y n)) → MayMake by act
 words-may by (Update y op) (inl e) = e
-words-may by (Deliver m) (inl e) = e
+words-may by (Deliver i m) (inl e) = e
 words-may by (Bind y n) (inl e) = tt
 words-may by (Extend d) (inl e) = e
 words-may by act (inr is) = subst (λ (a : Act). MayMake by a) (sym is.2) tt
@@ -65,7 +65,7 @@ gain-agrees : (X : Frame) (j k : Journal) → IsGood X j → (act : Act) → IsL
 gain-agrees X j k good (Update y op) lawful agree x source =
     let same = agree.sources y (op-of-source (kind_at j.now.graph y) op lawful.1) in
     λ i. if x == y then Some (delta op (same i) X.replica (count_at (agree.counts i) X.replica + 1)) else None
-gain-agrees X j k good (Deliver m) lawful agree x source = λ i. brought (agree.graph i) m x
+gain-agrees X j k good (Deliver number m) lawful agree x source = λ i. brought (agree.graph i) m x
 gain-agrees X j k good (Bind y n) lawful agree x source =
     bind-none X j good y n lawful (equation (kind_at j.now.graph y) (snapshot_at j n).contents) x source
     ∙ sym (bind-none X j good y n lawful (equation (kind_at k.now.graph y) (snapshot_at k n).contents) x source)
@@ -115,7 +115,7 @@ bind-agrees X j b good y n lawful agree = record {
 
 other-agrees : (X : Frame) (j : Journal) (b : Snapshot) (by : ℕ) (act : Act) → IsGood X j → IsLawful X j act → MayMake by act → (by == 0) ≡ false → Agree j.now b → Agree (snapshot_after X j act) b
 other-agrees X j b by (Update y op) good lawful may other agree = absurd (grind (arith, nat_tests, may, other))
-other-agrees X j b by (Deliver m) good lawful may other agree = absurd (grind (arith, nat_tests, may, other))
+other-agrees X j b by (Deliver i m) good lawful may other agree = absurd (grind (arith, nat_tests, may, other))
 other-agrees X j b by (Extend d) good lawful may other agree = absurd (grind (arith, nat_tests, may, other))
 other-agrees X j b by (Bind y n) good lawful may other agree = bind-agrees X j b good y n lawful agree
 

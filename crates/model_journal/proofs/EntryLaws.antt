@@ -63,21 +63,21 @@ bind-vals X h legal e y n is low =
 pub bind-counts : (X : Frame) (h : List Entry) (e : Entry) (y n : ℕ) → e.act ≡ Bind y n → counts X (h ++ e ∷ []) ≡ counts X h
 bind-counts X h e y n is = ap (λ (s : Snapshot). s.counts) (pushed X h e (Bind y n) is)
 
-pub deliver-source : (X : Frame) (h : List Entry) → IsLegal X h → (e : Entry) (m : Message) → e.act ≡ Deliver m → (x : ℕ) → x < length (graph X h) → IsTrue (is_source (kind_at (graph X h) x))
+pub deliver-source : (X : Frame) (h : List Entry) → IsLegal X h → (e : Entry) (i : ℕ) (m : Message) → e.act ≡ Deliver i m → (x : ℕ) → x < length (graph X h) → IsTrue (is_source (kind_at (graph X h) x))
     → val X (h ++ e ∷ []) x ≡ join_contents (val X h x) (sent_at m.sources (source_number (graph X h) x))
-deliver-source X h legal e m is x low source =
-    ap (λ (s : Snapshot). content_at s.contents x) (pushed X h e (Deliver m) is)
-    ∙ after-at X (journal X h) (Deliver m) x (omega (arith, low, (journal-good X h legal).shape))
+deliver-source X h legal e i m is x low source =
+    ap (λ (s : Snapshot). content_at s.contents x) (pushed X h e (Deliver i m) is)
+    ∙ after-at X (journal X h) (Deliver i m) x (omega (arith, low, (journal-good X h legal).shape))
     ∙ ap (λ (b : Bool). with_gain (val X h x) (if b then Some (sent_at m.sources (source_number (graph X h) x)) else None)) source
 
-pub deliver-derived : (X : Frame) (h : List Entry) → IsLegal X h → (e : Entry) (m : Message) → e.act ≡ Deliver m → (x : ℕ) → IsDerived (graph X h) x → val X (h ++ e ∷ []) x ≡ val X h x
-deliver-derived X h legal e m is x d =
-    ap (λ (s : Snapshot). content_at s.contents x) (pushed X h e (Deliver m) is)
-    ∙ after-at X (journal X h) (Deliver m) x (omega (arith, d.declared, (journal-good X h legal).shape))
+pub deliver-derived : (X : Frame) (h : List Entry) → IsLegal X h → (e : Entry) (i : ℕ) (m : Message) → e.act ≡ Deliver i m → (x : ℕ) → IsDerived (graph X h) x → val X (h ++ e ∷ []) x ≡ val X h x
+deliver-derived X h legal e i m is x d =
+    ap (λ (s : Snapshot). content_at s.contents x) (pushed X h e (Deliver i m) is)
+    ∙ after-at X (journal X h) (Deliver i m) x (omega (arith, d.declared, (journal-good X h legal).shape))
     ∙ ap (λ (b : Bool). with_gain (val X h x) (if b then Some (sent_at m.sources (source_number (graph X h) x)) else None)) d.process
 
-pub deliver-counts : (X : Frame) (h : List Entry) (e : Entry) (m : Message) → e.act ≡ Deliver m → counts X (h ++ e ∷ []) ≡ larger (counts X h) m.counts
-deliver-counts X h e m is = ap (λ (s : Snapshot). s.counts) (pushed X h e (Deliver m) is)
+pub deliver-counts : (X : Frame) (h : List Entry) (e : Entry) (i : ℕ) (m : Message) → e.act ≡ Deliver i m → counts X (h ++ e ∷ []) ≡ larger (counts X h) m.counts
+deliver-counts X h e i m is = ap (λ (s : Snapshot). s.counts) (pushed X h e (Deliver i m) is)
 
 pub extend-vals : (X : Frame) (h : List Entry) (e : Entry) (d : Decl) → e.act ≡ Extend d → vals X (h ++ e ∷ []) ≡ vals X h ++ least_of X.nodes d.kind ∷ []
 extend-vals X h e d is = ap (λ (s : Snapshot). s.contents) (pushed X h e (Extend d) is) ∙ ap (λ (ss : List Content). ss ++ least_of X.nodes d.kind ∷ []) (none-gained 0 (vals X h))
@@ -89,7 +89,7 @@ extend-counts X h e d is = ap (λ (s : Snapshot). s.counts) (pushed X h e (Exten
 
 graph-next : (g : List Decl) (act : Act) → graph_after g act ≡ g ++ declared_by act
 graph-next g (Update y op) = sym (append-nil g)
-graph-next g (Deliver m) = sym (append-nil g)
+graph-next g (Deliver i m) = sym (append-nil g)
 graph-next g (Bind y n) = sym (append-nil g)
 graph-next g (Extend d) = refl
 

@@ -35,12 +35,12 @@ input-set g ok y x i = choose (below-or-not y (length g)) where
 
 pub graph-keeps : (g : List Decl) (act : Act) (y : ℕ) → y < length g → decl_at (graph_after g act) y ≡ decl_at g y
 graph-keeps g (Update z op) y h = refl
-graph-keeps g (Deliver m) y h = refl
+graph-keeps g (Deliver i m) y h = refl
 graph-keeps g (Bind z n) y h = refl
 graph-keeps g (Extend d) y h = at-append g (d ∷ []) y no_decl h
 
 pub graph-longer : (g : List Decl) (act : Act) → length g ≤ length (graph_after g act)
 graph-longer g (Update z op) = omega arith
-graph-longer g (Deliver m) = omega arith
+graph-longer g (Deliver i m) = omega arith
 graph-longer g (Bind z n) = omega arith
 graph-longer g (Extend d) = omega (arith, length-append g (d ∷ []))

@@ -68,7 +68,7 @@ journal-graph X h legal = (journal-good X h legal).graph
 
 after-length : (X : Frame) (cs : List ℕ) (j : Journal) (act : Act) → IsLawful X j act → length cs ≡ X.nodes → length (counts_after X cs act) ≡ X.nodes
 after-length X cs j (Update y op) lawful e = length-set cs X.replica (count_at cs X.replica + 1) ∙ e
-after-length X cs j (Deliver m) lawful e = omega (arith, length-larger cs m.counts, lawful.0, e)
+after-length X cs j (Deliver i m) lawful e = omega (arith, length-larger cs m.counts, lawful.0, e)
 after-length X cs j (Bind y n) lawful e = e
 after-length X cs j (Extend d) lawful e = e
 
@@ -88,7 +88,7 @@ raised (c ∷ cs) (suc replica) (suc q) = raised cs replica q
 
 after-counts : (X : Frame) (cs : List ℕ) (act : Act) → AreCountsAtMost cs (counts_after X cs act)
 after-counts X cs (Update y op) q = raised cs X.replica q
-after-counts X cs (Deliver m) q = omega (arith, count_at-larger cs m.counts q)
+after-counts X cs (Deliver i m) q = omega (arith, count_at-larger cs m.counts q)
 after-counts X cs (Bind y n) q = omega arith
 after-counts X cs (Extend d) q = omega arith
 

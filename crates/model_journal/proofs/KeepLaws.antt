@@ -127,7 +127,7 @@ gain-valid X h legal (Update y op) lawful brings room x low = choose (x == y) re
       let t = delta op (val X h y) X.replica (count_at (counts X h) X.replica + 1) in
       valid-join X.nodes (kind_at (graph X h) x) (width_at (widths (graph X h)) x) (val X h x) t ((journal-valid X h legal).contents x low)
       (subst (λ (z : ℕ). IsValidAt X h z t) (sym (equal-numbers x y e)) (update-valid X h legal y op lawful room)) small
-gain-valid X h legal (Deliver m) lawful brings room x low = choose (is_source (kind_at (graph X h) x)) refl where
+gain-valid X h legal (Deliver i m) lawful brings room x low = choose (is_source (kind_at (graph X h) x)) refl where
   sent : Content
   sent = sent_at m.sources (source_number (graph X h) x)
 

@@ -38,7 +38,7 @@ legal-push X h e legal lawful small = record {
 
 bound-kept : (j : Journal) (act : Act) (y : ℕ) → ((n : ℕ) → act ≡ Bind y n → ⊥) → greatest_bound (binds_after j.binds act) y ≡ greatest_bound j.binds y
 bound-kept j (Update z op) y other = refl
-bound-kept j (Deliver m) y other = refl
+bound-kept j (Deliver i m) y other = refl
 bound-kept j (Extend d) y other = refl
 bound-kept j (Bind z n) y other = choose (z == y) refl where
   choose : (b : Bool) → (z == y) ≡ b → (if b then max n (greatest_bound j.binds y) else greatest_bound j.binds y) ≡ greatest_bound j.binds y

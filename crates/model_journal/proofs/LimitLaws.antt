@@ -22,7 +22,7 @@ use Rattle.model_journal.proofs.KeepLaws.{gain-valid}
 -- a variable that is declared has what its kind has before anything happened
 new-valid : (X : Frame) (h : List Entry) → IsLegal X h → (act : Act) (x w : ℕ) → length (graph X h) ≤ x → x < length (graph_after (graph X h) act) → IsValid X.nodes (kind_at (graph_after (graph X h) act) x) w (content_at (contents_after X (journal X h) act) x)
 new-valid X h legal (Update y op) x w past low = absurd (omega (arith, past, low))
-new-valid X h legal (Deliver m) x w past low = absurd (omega (arith, past, low))
+new-valid X h legal (Deliver i m) x w past low = absurd (omega (arith, past, low))
 new-valid X h legal (Bind y n) x w past low = absurd (omega (arith, past, low))
 new-valid X h legal (Extend d) x w past low = subst (λ (c : Decl). IsValid X.nodes c.kind w (content_at (contents_after X (journal X h) (Extend d)) x)) (sym kind) (subst (λ (s : Content). IsValid X.nodes d.kind w s) (sym content) (valid-least_of X.nodes d.kind w)) where
   old : List Content

@@ -27,14 +27,14 @@ sent-all nodes (d ∷ g) (s ∷ ss) valid = choose (is_source d.kind) refl (sent
   choose false e rest = rest
 
 -- what a message brings is valid
-pub message-valid : (X : Frame) (h : List Entry) → IsLegal X h → BringsValid X.nodes (Deliver (message X h))
-message-valid X h legal = sent-all X.nodes (graph X h) (vals X h) (λ x low e.
+pub message-valid : (X : Frame) (h : List Entry) (i : ℕ) → IsLegal X h → BringsValid X.nodes (Deliver i (message X h))
+message-valid X h i legal = sent-all X.nodes (graph X h) (vals X h) (λ x low e.
     let one : width_at (widths (graph X h)) x ≡ 1 = widths-at (graph X h) (journal-good X h legal).graph x low ∙ width-source (kind_at (graph X h) x) (widths (graph X h)) e in
     subst (λ (w : ℕ). IsValid X.nodes (kind_at (graph X h) x) w (val X h x)) one ((journal-valid X h legal).contents x low))
 
 -- a replica may take in what another one knows, where its graph goes on from the other's
-pub message-lawful : (X Z : Frame) (h k : List Entry) (more : List Decl) → IsLegal X h → X.nodes ≡ Z.nodes → graph X h ++ more ≡ graph Z k → IsLawful Z (journal Z k) (Deliver (message X h))
-message-lawful X Z h k more legal nodes grown = (
+pub message-lawful : (X Z : Frame) (h k : List Entry) (more : List Decl) (i : ℕ) → IsLegal X h → X.nodes ≡ Z.nodes → graph X h ++ more ≡ graph Z k → IsLawful Z (journal Z k) (Deliver i (message X h))
+message-lawful X Z h k more i legal nodes grown = (
   counts-length X h legal ∙ nodes,
   (
     sources_among more,
@@ -44,4 +44,4 @@ message-lawful X Z h k more legal nodes grown = (
   ),
 )
 
-pub ruleset messages = (message-source, message-valid)
+pub ruleset messages = (message-source)

@@ -35,13 +35,13 @@ next-shape X j act good = omega (arith, good.shape, length-append (gained (gain 
 
 pub next-graph : (X : Frame) (j : Journal) (act : Act) → IsGood X j → IsLawful X j act → IsGraph (graph_after j.now.graph act)
 next-graph X j (Update z op) good lawful = good.graph
-next-graph X j (Deliver m) good lawful = good.graph
+next-graph X j (Deliver i m) good lawful = good.graph
 next-graph X j (Bind z n) good lawful = good.graph
 next-graph X j (Extend d) good lawful = graph-push j.now.graph d good.graph lawful
 
 next-within : (X : Frame) (j : Journal) (act : Act) → IsGood X j → IsLawful X j act → (y : ℕ) → greatest_bound (binds_after j.binds act) y ≤ length j.past + 1
 next-within X j (Update z op) good lawful y = omega (arith, good.within y)
-next-within X j (Deliver m) good lawful y = omega (arith, good.within y)
+next-within X j (Deliver i m) good lawful y = omega (arith, good.within y)
 next-within X j (Extend d) good lawful y = omega (arith, good.within y)
 next-within X j (Bind z n) good lawful y = choose (z == y) where
   choose : (b : Bool) → (if b then max n (greatest_bound j.binds y) else greatest_bound j.binds y) ≤ length j.past + 1
@@ -50,7 +50,7 @@ next-within X j (Bind z n) good lawful y = choose (z == y) where
 
 next-unbound : (X : Frame) (j : Journal) (act : Act) → IsGood X j → IsLawful X j act → (y : ℕ) → length (graph_after j.now.graph act) ≤ y → greatest_bound (binds_after j.binds act) y ≡ 0
 next-unbound X j (Update z op) good lawful y h = good.unbound y h
-next-unbound X j (Deliver m) good lawful y h = good.unbound y h
+next-unbound X j (Deliver i m) good lawful y h = good.unbound y h
 next-unbound X j (Extend d) good lawful y h = good.unbound y (omega (arith, h, length-append j.now.graph (d ∷ [])))
 next-unbound X j (Bind z n) good lawful y h = choose (z == y) refl where
   choose : (b : Bool) → (z == y) ≡ b → (if b then max n (greatest_bound j.binds y) else greatest_bound j.binds y) ≡ 0
@@ -172,7 +172,7 @@ next-based X j by (Update z op) good lawful y d = kept-based X j (record { by = 
       let process : is_source (kind_at j.now.graph y) ≡ false = d.process in
       absurd cc
   choose c false e = refl
-next-based X j by (Deliver m) good lawful y d = kept-based X j (record { by = by; act = Deliver m }) good y d (none _ (is_source (kind_at j.now.graph y)) d.process) refl where
+next-based X j by (Deliver i m) good lawful y d = kept-based X j (record { by = by; act = Deliver i m }) good y d (none _ (is_source (kind_at j.now.graph y)) d.process) refl where
   none : (c : Content) (b : Bool) → b ≡ false → (if b then Some c else None) ≡ None
   none c b e = ap (λ (a : Bool). if a then Some c else None) e
 next-based X j by (Extend c) good lawful y d = choose (below-or-not y (length j.now.graph)) where

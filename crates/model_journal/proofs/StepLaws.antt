@@ -16,7 +16,7 @@ use Rattle.model_journal.proofs.GraphLaws.{graph-keeps, graph-longer}
 
 opened-ordered : (nodes : ℕ) (act : Act) (x : ℕ) → IsOrdered (content_at (opened nodes act) x)
 opened-ordered nodes (Update y op) x = record { rows = refl; values = refl }
-opened-ordered nodes (Deliver m) x = record { rows = refl; values = refl }
+opened-ordered nodes (Deliver i m) x = record { rows = refl; values = refl }
 opened-ordered nodes (Bind y n) x = record { rows = refl; values = refl }
 opened-ordered nodes (Extend d) zero = least_of-ordered nodes d.kind
 opened-ordered nodes (Extend d) (suc x) = record { rows = refl; values = refl }
@@ -53,7 +53,7 @@ after-ordered X j act up = after-each (λ (x : ℕ) (s : Content). IsOrdered s) 
 
 pub opened-length : (nodes : ℕ) (g : List Decl) (act : Act) → length (graph_after g act) ≡ length g + length (opened nodes act)
 opened-length nodes g (Update z op) = omega arith
-opened-length nodes g (Deliver m) = omega arith
+opened-length nodes g (Deliver i m) = omega arith
 opened-length nodes g (Bind z n) = omega arith
 opened-length nodes g (Extend d) = length-append g (d ∷ [])
 

@@ -24,14 +24,14 @@ IsKept (b ∷ binds) y n = (b ≡ (y, n)) ⊎ IsKept binds y n
 
 kept-after : (binds : List (ℕ × ℕ)) (act : Act) (y n : ℕ) → IsKept (binds_after binds act) y n → IsKept binds y n ⊎ (act ≡ Bind y n)
 kept-after binds (Update z op) y n k = inl k
-kept-after binds (Deliver m) y n k = inl k
+kept-after binds (Deliver i m) y n k = inl k
 kept-after binds (Extend d) y n k = inl k
 kept-after binds (Bind z m) y n (inl e) = inr (ap (λ (b : ℕ × ℕ). Bind b.0 b.1) e)
 kept-after binds (Bind z m) y n (inr k) = inl k
 
 kept-before : (binds : List (ℕ × ℕ)) (act : Act) (y n : ℕ) → IsKept binds y n → IsKept (binds_after binds act) y n
 kept-before binds (Update z op) y n k = k
-kept-before binds (Deliver m) y n k = k
+kept-before binds (Deliver i m) y n k = k
 kept-before binds (Extend d) y n k = k
 kept-before binds (Bind z m) y n k = inr k
 

@@ -5,7 +5,7 @@ use Rattle.model_journal.specs.Entry.{Act, Update, Deliver, Bind, Extend, Entry}
 -- the caller with the number may make the entry
 abbrev pub MayMake : ℕ → Act → Type 0
 MayMake by (Update x op) = by ≡ 0
-MayMake by (Deliver m) = by ≡ 0
+MayMake by (Deliver i m) = by ≡ 0
 MayMake by (Bind y n) = Unit {0}
 MayMake by (Extend d) = by ≡ 0
 

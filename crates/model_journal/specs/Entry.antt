@@ -7,8 +7,8 @@ use Rattle.model_messages.specs.Message.{Message}
 pub data Act : Type 0 where
   -- an update of a source
   Update : ℕ → Op → Act
-  -- a message is joined in
-  Deliver : Message → Act
+  -- a message is joined in: its number among those sent, counted from 0, and the message
+  Deliver : ℕ → Message → Act
   -- a derived variable takes in its equation on the contents that stood after the first so many entries
   Bind : ℕ → ℕ → Act
   -- a variable is declared

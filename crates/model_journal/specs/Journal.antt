@@ -29,14 +29,14 @@ snapshot_at j n = slice_index_or j.past n j.now
 -- what an act joins into variable x, if anything
 abbrev pub gain : Frame → Journal → Act → ℕ → Option Content
 gain X j (Update y op) x = if x == y then Some (delta op (content_at j.now.contents y) X.replica (count_at j.now.counts X.replica + 1)) else None
-gain X j (Deliver m) x = brought j.now.graph m x
+gain X j (Deliver i m) x = brought j.now.graph m x
 gain X j (Bind y n) x = if x == y then Some (equation (kind_at j.now.graph y) (snapshot_at j n).contents) else None
 gain X j (Extend d) x = None
 
 -- the contents that an act adds at the end: what a declared variable has before anything happened
 abbrev pub opened : ℕ → Act → List Content
 opened nodes (Update y op) = []
-opened nodes (Deliver m) = []
+opened nodes (Deliver i m) = []
 opened nodes (Bind y n) = []
 opened nodes (Extend d) = least_of nodes d.kind ∷ []
 
@@ -47,14 +47,14 @@ contents_after X j act = gained (gain X j act) 0 j.now.contents ++ opened X.node
 -- the graph after an act
 abbrev pub graph_after : List Decl → Act → List Decl
 graph_after g (Update y op) = g
-graph_after g (Deliver m) = g
+graph_after g (Deliver i m) = g
 graph_after g (Bind y n) = g
 graph_after g (Extend d) = g ++ d ∷ []
 
 -- the counts after an act: an update is counted at its replica
 abbrev pub counts_after : Frame → List ℕ → Act → List ℕ
 counts_after X counts (Update y op) = slice_set counts X.replica (count_at counts X.replica + 1)
-counts_after X counts (Deliver m) = larger counts m.counts
+counts_after X counts (Deliver i m) = larger counts m.counts
 counts_after X counts (Bind y n) = counts
 counts_after X counts (Extend d) = counts
 
@@ -65,7 +65,7 @@ version_after version old new = if is_content_at_most new old then version else 
 -- the binds after an act
 abbrev pub binds_after : List (ℕ × ℕ) → Act → List (ℕ × ℕ)
 binds_after binds (Update y op) = binds
-binds_after binds (Deliver m) = binds
+binds_after binds (Deliver i m) = binds
 binds_after binds (Bind y n) = (y, n) ∷ binds
 binds_after binds (Extend d) = binds
 
@@ -128,7 +128,7 @@ sources X entries = sources_from (graph X entries) (vals X entries)
 -- what entries declare, in order
 abbrev pub declared_by : Act → List Decl
 declared_by (Update y op) = []
-declared_by (Deliver m) = []
+declared_by (Deliver i m) = []
 declared_by (Bind y n) = []
 declared_by (Extend d) = d ∷ []
 

@@ -82,7 +82,7 @@ IsSmallOp nodes k (Join t) = IsValid nodes k 1 t
 -- what an entry may do after a journal
 abbrev pub IsLawful : Frame → Journal → Act → Type 0
 IsLawful X j (Update x op) = (x < length j.now.graph) × IsOpOf (kind_at j.now.graph x) op × IsSmallOp X.nodes (kind_at j.now.graph x) op
-IsLawful X j (Deliver m) = (length m.counts ≡ X.nodes) × ((more : List Decl) × (map (λ s. s.decl) m.sources ++ more ≡ sources_among j.now.graph))
+IsLawful X j (Deliver i m) = (length m.counts ≡ X.nodes) × ((more : List Decl) × (map (λ s. s.decl) m.sources ++ more ≡ sources_among j.now.graph))
 IsLawful X j (Bind y n) = (n ≤ length j.past) × IsDerived (snapshot_at j n).graph y
 IsLawful X j (Extend d) = MayFollow j.now.graph d
 
@@ -94,7 +94,7 @@ AreValidSources nodes (s ∷ sent) = IsValid nodes s.decl.kind 1 s.content × Ar
 -- what an entry brings from elsewhere is valid
 abbrev pub BringsValid : ℕ → Act → Type 0
 BringsValid nodes (Update x op) = Unit {0}
-BringsValid nodes (Deliver m) = AreValidSources nodes m.sources
+BringsValid nodes (Deliver i m) = AreValidSources nodes m.sources
 BringsValid nodes (Bind y n) = Unit {0}
 BringsValid nodes (Extend d) = Unit {0}
 

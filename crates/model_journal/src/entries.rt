@@ -21,13 +21,13 @@ pub fn an_update_changes_its_variable()
     ensures counts { (X : Frame) (entries : List Entry) (e : Entry) (y : ℕ) (op : Op) → e.act ≡ Update y op → counts X (entries ++ e ∷ []) ≡ slice_set (counts X entries) X.replica (count_at (counts X entries) X.replica + 1) }
 {}
 
-/// A delivery joins the message's sources into the sources, place by place, and takes the greater counts.
+/// A delivery joins the message's sources into the sources, place by place, and takes the greater counts, whatever the message's number is.
 #[tactic(auto, using(crate::proofs::EntryLaws::deliveries))]
 pub fn a_delivery_changes_sources()
-    ensures source { (X : Frame) (entries : List Entry) → IsLegal X entries → (e : Entry) (m : Message) → e.act ≡ Deliver m → (x : ℕ) → x < length (graph X entries) → IsTrue (is_source (kind_at (graph X entries) x))
+    ensures source { (X : Frame) (entries : List Entry) → IsLegal X entries → (e : Entry) (i : ℕ) (m : Message) → e.act ≡ Deliver i m → (x : ℕ) → x < length (graph X entries) → IsTrue (is_source (kind_at (graph X entries) x))
         → val X (entries ++ e ∷ []) x ≡ join_contents (val X entries x) (sent_at m.sources (source_number (graph X entries) x)) }
-    ensures derived { (X : Frame) (entries : List Entry) → IsLegal X entries → (e : Entry) (m : Message) → e.act ≡ Deliver m → (x : ℕ) → IsDerived (graph X entries) x → val X (entries ++ e ∷ []) x ≡ val X entries x }
-    ensures counts { (X : Frame) (entries : List Entry) (e : Entry) (m : Message) → e.act ≡ Deliver m → counts X (entries ++ e ∷ []) ≡ larger (counts X entries) m.counts }
+    ensures derived { (X : Frame) (entries : List Entry) → IsLegal X entries → (e : Entry) (i : ℕ) (m : Message) → e.act ≡ Deliver i m → (x : ℕ) → IsDerived (graph X entries) x → val X (entries ++ e ∷ []) x ≡ val X entries x }
+    ensures counts { (X : Frame) (entries : List Entry) (e : Entry) (i : ℕ) (m : Message) → e.act ≡ Deliver i m → counts X (entries ++ e ∷ []) ≡ larger (counts X entries) m.counts }
 {}
 
 /// A bind joins the variable's equation on what stood after the first n entries into the variable.

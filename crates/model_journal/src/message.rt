@@ -12,6 +12,6 @@ ghost use Rattle.model_journal.specs.Legal.{IsLawful, BringsValid, IsLegal};
 #[tactic(auto, using(crate::proofs::MessageLaws::messages))]
 pub fn messages_may_be_delivered()
     ensures sources { (X : Frame) (entries : List Entry) → IsLegal X entries → (x : ℕ) → x < length (graph X entries) → IsTrue (is_source (kind_at (graph X entries) x)) → sent_at (message X entries).sources (source_number (graph X entries) x) ≡ val X entries x }
-    ensures valid { (X : Frame) (entries : List Entry) → IsLegal X entries → BringsValid X.nodes (Deliver (message X entries)) }
-    ensures lawful { (X Z : Frame) (entries others : List Entry) (more : List Decl) → IsLegal X entries → X.nodes ≡ Z.nodes → graph X entries ++ more ≡ graph Z others → IsLawful Z (journal Z others) (Deliver (message X entries)) }
+    ensures valid { (X : Frame) (entries : List Entry) (i : ℕ) → IsLegal X entries → BringsValid X.nodes (Deliver i (message X entries)) }
+    ensures lawful { (X Z : Frame) (entries others : List Entry) (more : List Decl) (i : ℕ) → IsLegal X entries → X.nodes ≡ Z.nodes → graph X entries ++ more ≡ graph Z others → IsLawful Z (journal Z others) (Deliver i (message X entries)) }
 {}

@@ -27,13 +27,13 @@ stood-is X j n = stood-in j.past j.now n
 
 now-same : (X : Frame) (j : Journal) (act : Act) → contents_after X j act ≡ gained (kept_gain (kept_of X j) act) 0 j.now.contents ++ opened X.nodes act
 now-same X j (Update y op) = refl
-now-same X j (Deliver m) = refl
+now-same X j (Deliver i m) = refl
 now-same X j (Bind y n) = ap (λ (ss : List Content). gained (λ x. if x == y then Some (equation (kind_at j.now.graph y) ss) else None) 0 j.now.contents ++ []) (sym (stood-is X j n))
 now-same X j (Extend d) = refl
 
 counts-same : (X : Frame) (j : Journal) (act : Act) → counts_after X j.now.counts act ≡ kept_counts (kept_of X j) act
 counts-same X j (Update y op) = refl
-counts-same X j (Deliver m) = refl
+counts-same X j (Deliver i m) = refl
 counts-same X j (Bind y n) = refl
 counts-same X j (Extend d) = refl
 

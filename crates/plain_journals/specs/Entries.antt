@@ -49,7 +49,7 @@ message_of m = record { counts = m.counts.items; sources = map sent_of m.sources
 
 abbrev pub act_of : Act → entry.Act
 act_of (Update x o) = entry.Update x (op_of o)
-act_of (Deliver m) = entry.Deliver (message_of m)
+act_of (Deliver i m) = entry.Deliver i (message_of m)
 act_of (Bind y n) = entry.Bind y n
 act_of (Extend d) = entry.Extend (decl_of d)
 

@@ -45,13 +45,13 @@ stood k n = slice_index_or k.past n k.now
 -- what an act joins into variable x
 abbrev pub kept_gain : Kept → Act → ℕ → Option Content
 kept_gain k (Update y op) x = if x == y then Some (delta op (content_at k.now y) k.replica (count_at k.counts k.replica + 1)) else None
-kept_gain k (Deliver m) x = brought k.graph m x
+kept_gain k (Deliver i m) x = brought k.graph m x
 kept_gain k (Bind y n) x = if x == y then Some (equation (kind_at k.graph y) (stood k n)) else None
 kept_gain k (Extend d) x = None
 
 abbrev pub kept_counts : Kept → Act → List ℕ
 kept_counts k (Update y op) = slice_set k.counts k.replica (count_at k.counts k.replica + 1)
-kept_counts k (Deliver m) = larger k.counts m.counts
+kept_counts k (Deliver i m) = larger k.counts m.counts
 kept_counts k (Bind y n) = k.counts
 kept_counts k (Extend d) = k.counts
 
@@ -70,7 +70,7 @@ kept_next k act = record {
 -- the act is an update, and the replica made as many as it may
 abbrev pub IsFull : Act → ℕ → Type 0
 IsFull (Update y op) count = count_limit ≤ count
-IsFull (Deliver m) count = ⊥
+IsFull (Deliver i m) count = ⊥
 IsFull (Bind y n) count = ⊥
 IsFull (Extend d) count = ⊥
 

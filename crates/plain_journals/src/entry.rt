@@ -68,8 +68,8 @@ pub struct Message {
 pub enum Act {
     /// A source is updated.
     Update(usize, Op),
-    /// A message is joined in.
-    Deliver(Message),
+    /// A message is joined in: its number among those sent, counted from 0, and the message.
+    Deliver(usize, Message),
     /// A process takes in its equation on what stood after the first so many entries.
     Bind(usize, usize),
     /// A variable is declared.

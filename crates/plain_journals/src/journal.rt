@@ -103,7 +103,7 @@ impl Journal {
     {
         match act {
             Act::Update(_, _) => count_at(&self.counts, self.replica as usize) >= COUNT_LIMIT,
-            Act::Deliver(_) => false,
+            Act::Deliver(_, _) => false,
             Act::Bind(_, _) => false,
             Act::Extend(_) => false,
         }
@@ -115,7 +115,7 @@ impl Journal {
     {
         match act {
             Act::Update(x, op) => self.update(alloc, *x, op),
-            Act::Deliver(message) => self.deliver(alloc, message),
+            Act::Deliver(_, message) => self.deliver(alloc, message),
             Act::Bind(y, n) => self.bind(alloc, *y, *n),
             Act::Extend(decl) => self.extend(alloc, *decl),
         }
@@ -136,7 +136,7 @@ impl Journal {
     }
 
     fn deliver(&mut self, alloc: Global, message: &Message) -> Result<(), AllocError>
-        ensures { OnOk result (has self.new ≡ kept_next (has self.old) (Deliver (message_of message.now))) }
+        ensures { (i : ℕ) → OnOk result (has self.new ≡ kept_next (has self.old) (Deliver i (message_of message.now))) }
     {
         let now = delivered(alloc, &self.graph, &self.present, message)?;
         let counts = larger(alloc, &self.counts, &message.counts)?;
