@@ -1,6 +1,7 @@
 -- A reader beside the spelling that it reads: what is read is spelled so, and what is spelled so is read again. One lemma for each way to put readers together.
 use Rattle.std.proofs.Common.{◌≡◌, ℕ, zero, suc, ◌+◌, ◌^◌, ◌<◌, ◌≤◌, Bool, true, false, cond, ltb, leb, List, [], ◌∷◌, ◌++◌, length, get_or, take, drop, Result, Ok, Err, refl, sym, ap, subst, ◌∙◌, append_assoc, arith, inl, inr}
 use Rattle.std.specs.Prelude.{IsTrue, IsFalse, ◌&&◌}
+use Rattle.std.specs.List.{flat_map}
 use Rattle.std.specs.Int.{Width, w8, w16, w32, w64, byte_len, from_be_bytes, to_be_bytes}
 use Rattle.std.proofs.lemmas.Bool.{cases_lt, ltb-false, le-ltb}
 use Rattle.std.proofs.lemmas.List.{take_at, drop_at, take-append-drop, length-append, length-take, get_or-drop, get_or-take, get_or_past}
@@ -240,8 +241,7 @@ abbrev pub HasMany : (S X : Type 0) → (S → X → Type 0) → (S → X → S)
 HasMany S X Has next n s xs = (length xs ≡ n) × AllHave S X Has next s xs
 
 abbrev pub spell_all : (X : Type 0) → (X → List ℕ) → List X → List ℕ
-spell_all X spell [] = []
-spell_all X spell (x ∷ xs) = spell x ++ spell_all X spell xs
+spell_all X spell xs = flat_map spell xs
 
 list_took : (S X : Type 0) (Has : S → X → Type 0) (spell : X → List ℕ) (read : S → Reader X) (next : S → X → S) → ((s : S) → IsCodec X (Has s) spell (read s))
     → (n : ℕ) (s : S) (bytes : List ℕ) (xs : List X × List ℕ) → IsBytes bytes → list_at read next n s bytes ≡ Ok xs → Takes bytes (spell_all X spell xs.0) xs.1 × HasMany S X Has next n s xs.0

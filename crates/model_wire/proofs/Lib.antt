@@ -1,1 +1,5 @@
 pub mod Codecs
+pub mod ValueLaws
+pub mod RowLaws
+pub mod OrderLaws
+pub mod SetLaws

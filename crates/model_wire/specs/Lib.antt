@@ -1,3 +1,4 @@
 pub mod Reader
 pub mod Value
 pub mod Message
+pub mod Lawful

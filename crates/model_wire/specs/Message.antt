@@ -1,9 +1,9 @@
 -- Sets, sources and whole messages from bytes, in both versions: version 1 has a value in every row, version 2 has it once before its tokens.
 use Rattle.std.specs.Prelude.{ℕ, ℤ, ◌+◌, ◌-◌, ◌==◌, ◌||◌, Bool, if◌then◌else◌, List, [], ◌∷◌, length, map, flat_map, Option, Some, None, Result, Ok, Err}
 use Rattle.std.specs.Int.{w8, w32, w64}
-use Rattle.model_values.specs.Value.{Val}
+use Rattle.model_values.specs.Value.{Val, val_cmp}
 use Rattle.model_values.specs.Token.{Tok}
-use Rattle.model_values.specs.Row.{Row}
+use Rattle.model_values.specs.Row.{Row, row_cmp}
 use Rattle.model_states.specs.Counts.{count_max}
 use Rattle.model_states.specs.Content.{Content, of_set, of_grow, of_counts, of_top}
 use Rattle.model_graph.specs.Chain.{◌>>=◌}
@@ -14,7 +14,7 @@ use Rattle.lasp_value.specs.Name.{is_name}
 use Rattle.model_wire.specs.declared.wire_why.WireWhy.{WireWhy}
 use Rattle.model_wire.specs.declared.wire_why.WireWhy.TheVariants as why
 use Rattle.model_wire.specs.Reader.{Reading, Reader, bytes_at, nothing_at, tested, both_at, counted, made, list_at, number_at, ranged_at, kind_at, magic_at}
-use Rattle.model_wire.specs.Value.{signed_at, value_at, token_at, row_at, is_row_above, is_value_above, is_token_above, latest}
+use Rattle.model_wire.specs.Value.{signed_at, value_at, token_at, row_at, is_above, mark_cmp, latest}
 
 -- the most rows of a set
 abbrev pub row_limit : ℕ
@@ -30,14 +30,14 @@ source_limit = 64
 
 -- version 1: so many rows, ascending
 abbrev pub row_after_at : ℕ → Option Row → Reader Row
-row_after_at nodes before = tested (row_at nodes) (is_row_above before) why.Order
+row_after_at nodes before = tested (row_at nodes) (is_above row_cmp before) why.Order
 
 unfoldable pub single_rows_at : ℕ → Reader (List Row)
 single_rows_at nodes = counted (ranged_at w32 0 row_limit) (λ n. list_at (row_after_at nodes) latest n None)
 
 -- version 2: the tokens of one value, ascending
 abbrev pub token_after_at : ℕ → Option (Tok × Bool) → Reader (Tok × Bool)
-token_after_at nodes before = tested (token_at nodes) (is_token_above before) why.Order
+token_after_at nodes before = tested (token_at nodes) (is_above mark_cmp before) why.Order
 
 unfoldable pub tokens_at : ℕ → ℕ → Reader (List (Tok × Bool))
 tokens_at nodes n = list_at (token_after_at nodes) latest n None
@@ -47,7 +47,7 @@ abbrev pub Before : Type 0
 Before = Option Val × ℕ
 
 abbrev pub value_after_at : Option Val → Reader Val
-value_after_at before = tested value_at (is_value_above before) why.Order
+value_after_at before = tested value_at (is_above val_cmp before) why.Order
 
 abbrev pub group_made : Val × List (Tok × Bool) → Group
 group_made p = record { value = p.0; tokens = p.1 }

@@ -3,9 +3,10 @@ use Rattle.std.specs.Prelude.{ℕ, zero, suc, ℤ, ◌+◌, ◌-◌, ◌==◌, B
 use Rattle.std.specs.Int.{cast_signed, w8, w16, w64}
 use Rattle.std.specs.Str.{is_utf8}
 use Rattle.std.specs.Ordering.{is_lt}
-use Rattle.model_values.specs.Value.{Val, int, text, pair, val_cmp}
+use Rattle.std.specs.declared.cmp.Ordering.{Ordering}
+use Rattle.model_values.specs.Value.{Val, int, text, pair}
 use Rattle.model_values.specs.Token.{Tok, single, tok_cmp}
-use Rattle.model_values.specs.Row.{Row, row_cmp}
+use Rattle.model_values.specs.Row.{Row}
 use Rattle.model_graph.specs.Chain.{◌>>=◌}
 use Rattle.model_wire.specs.declared.wire_why.WireWhy.TheVariants as why
 use Rattle.model_wire.specs.Reader.{Reading, Reader, bytes_at, tested, both_at, counted, made, list_at, number_at, ranged_at, kind_at}
@@ -69,18 +70,14 @@ row_made p = ((p.0, p.1.0), p.1.1)
 unfoldable pub row_at : ℕ → Reader Row
 row_at nodes = made row_made (both_at value_at (λ _. token_at nodes))
 
--- the item before it, if any, is below it
-abbrev pub is_row_above : Option Row → Row → Bool
-is_row_above None r = true
-is_row_above (Some q) r = is_lt (row_cmp q r)
+-- what stands before it, if anything, is below it
+abbrev pub is_above : {X : Type 0} → (X → X → Ordering) → Option X → X → Bool
+is_above cmp None x = true
+is_above cmp (Some y) x = is_lt (cmp y x)
 
-abbrev pub is_value_above : Option Val → Val → Bool
-is_value_above None v = true
-is_value_above (Some u) v = is_lt (val_cmp u v)
-
-abbrev pub is_token_above : Option (Tok × Bool) → Tok × Bool → Bool
-is_token_above None t = true
-is_token_above (Some s) t = is_lt (tok_cmp s.0 t.0)
+-- the order of tokens, whether dead or not
+abbrev pub mark_cmp : Tok × Bool → Tok × Bool → Ordering
+mark_cmp s t = tok_cmp s.0 t.0
 
 -- the item itself becomes what is known of those before the next
 abbrev pub latest : {X : Type 0} → Option X → X → Option X

@@ -1,0 +1,51 @@
+-- What has a spelling: the values, rows, sources and messages whose parts are in their ranges.
+use Rattle.std.specs.Prelude.{◌≡◌, ℕ, ℤ, ◌<◌, ◌≤◌, Bool, true, List, [], ◌∷◌, length, Option, Some, None, FitsSigned}
+use Rattle.std.specs.List.{AllByRecursion}
+use Rattle.std.specs.Str.{is_utf8}
+use mir.Syntax.{w64}
+use Rattle.model_values.specs.Value.{Val, int, text, pair}
+use Rattle.model_values.specs.Size.{IsOfWidth}
+use Rattle.model_values.specs.Token.{Tok, single, both}
+use Rattle.model_values.specs.Row.{Row}
+use Rattle.model_sets.specs.Rows.{IsAscending}
+use Rattle.model_sets.specs.Values.{AreAscending}
+
+-- each number of the value has 64 bits, and each text is UTF-8
+abbrev pub IsSpellable : Val → Type 0
+IsSpellable (int n) = FitsSigned w64 n
+IsSpellable (text t) = is_utf8 t ≡ true
+IsSpellable (pair a b) = IsSpellable a × IsSpellable b
+
+-- a value of a source, in a message
+pub record IsSourceValue (v : Val) : Type 0 where
+  pub size : IsOfWidth 1 v
+  pub parts : IsSpellable v
+
+-- how many nodes a message may be of
+pub record IsNodes (nodes : ℕ) : Type 0 where
+  pub some : 1 ≤ nodes
+  pub few : nodes ≤ 8
+
+-- a token of a source: the number of an update of one of the nodes
+abbrev pub IsBase : ℕ → Tok → Type 0
+IsBase nodes (single q k) = (q < nodes) × (1 ≤ k) × (k ≤ 100000)
+IsBase nodes (both t s) = ⊥
+
+abbrev pub IsToken : ℕ → Tok × Bool → Type 0
+IsToken nodes t = IsBase nodes t.0
+
+-- a row of a source
+abbrev pub IsRow : ℕ → Row → Type 0
+IsRow nodes r = IsSourceValue r.0.0 × IsBase nodes r.0.1
+
+-- the rows of an observed-remove set: at most 65,536, ascending
+pub record AreRows (nodes : ℕ) (rows : List Row) : Type 0 where
+  pub ascending : IsAscending rows
+  pub few : length rows ≤ 65536
+  pub each : AllByRecursion (IsRow nodes) rows
+
+-- the elements of a grow-only set: at most 65,536, ascending
+pub record AreElements (values : List Val) : Type 0 where
+  pub ascending : AreAscending values
+  pub few : length values ≤ 65536
+  pub each : AllByRecursion IsSourceValue values
