@@ -3,3 +3,4 @@ pub mod ValueLaws
 pub mod RowLaws
 pub mod OrderLaws
 pub mod SetLaws
+pub mod GroupLaws

@@ -38,14 +38,14 @@ same_row r = r
 abbrev pub spelled_single_rows : List Row → List ℕ
 spelled_single_rows = spell_counted ℕ (List Row) (to_be_bytes w32) length (spell_all Row spelled_row)
 
-rows_known : (nodes : ℕ) (before : Option Row) (rows : List Row) → length rows ≤ 65536 → RowsRise nodes before rows → AreRows nodes rows
+pub rows_known : (nodes : ℕ) (before : Option Row) (rows : List Row) → length rows ≤ 65536 → RowsRise nodes before rows → AreRows nodes rows
 rows_known nodes before rows few rise = record {
   ascending = ap (is_sorted key_cmp) (sym (map-id rows)) ∙ rise_sorted Row Key Bool same_row key_cmp key_total (IsRow nodes) before rows rise;
   few = few;
   each = rise_each Row Key Bool same_row key_cmp key_total (IsRow nodes) before rows rise;
 }
 
-rows_rise : (nodes : ℕ) (rows : List Row) → AreRows nodes rows → RowsRise nodes None rows
+pub rows_rise : (nodes : ℕ) (rows : List Row) → AreRows nodes rows → RowsRise nodes None rows
 rows_rise nodes rows h = sorted_rise Row Key Bool same_row key_cmp key_total (IsRow nodes) rows (ap (is_sorted key_cmp) (map-id rows) ∙ h.ascending) h.each
 
 pub single_rows_codec : (nodes : ℕ) → IsNodes nodes → IsCodec (List Row) (AreRows nodes) spelled_single_rows (single_rows_at nodes)
