@@ -230,6 +230,13 @@ has_codec X Has Known spell read codec there back = record {
   again = λ x rest h. codec.again x rest (back x h);
 }
 
+-- the spelling, said otherwise
+pub spelled_codec : (X : Type 0) (Has : X → Type 0) (spell told : X → List ℕ) (read : Reader X) → IsCodec X Has spell read → ((x : X) → Has x → spell x ≡ told x) → IsCodec X Has told read
+spelled_codec X Has spell told read codec same = record {
+  took = λ bytes x fits e. let t = codec.took bytes x fits e in (subst (λ (text : List ℕ). Takes bytes text x.1) (same x.0 t.1) t.0, t.1);
+  again = λ x rest h. ap (λ (text : List ℕ). read (text ++ rest)) (sym (same x h)) ∙ codec.again x rest h;
+}
+
 -- ---- lists
 
 -- so many items, each of which those before it allow

@@ -4,3 +4,4 @@ pub mod RowLaws
 pub mod OrderLaws
 pub mod SetLaws
 pub mod GroupLaws
+pub mod SourceLaws

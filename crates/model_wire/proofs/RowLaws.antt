@@ -10,6 +10,7 @@ use Rattle.model_wire.specs.declared.wire_why.WireWhy.TheVariants as why
 use Rattle.model_wire.specs.Reader.{Reading, Reader, both_at, counted, made, list_at, ranged_at, kind_at}
 use Rattle.model_wire.specs.Value.{value_at, token_parts_at, token_made, token_at, row_made, row_at}
 use Rattle.model_wire.specs.Message.{row_limit, row_after_at, single_rows_at, token_after_at, tokens_at}
+use Rattle.model_wire.specs.Spelling.{spelled_row}
 use Rattle.model_wire.specs.Lawful.{IsSourceValue, IsNodes, IsBase, IsToken, IsRow}
 use Rattle.model_wire.proofs.Codecs.{IsCodec, wide8, wide32, wide64, IsBelow, HasTested, tested_codec, HasBoth, spell_both, both_codec, spell_counted, HasCounted, counted_codec, IsRemade, made_codec, HasMany, spell_all, list_codec}
 use Rattle.model_wire.proofs.ValueLaws.{HasRange, ranged_codec, kind_codec, within_range, in_range, value_codec}
@@ -85,10 +86,6 @@ unfolding token_at
 token_codec nodes n =
     made_codec Parts (Tok × Bool) (HasParts nodes) (IsToken nodes) spell_parts spelled_mark token_made token_parts (token_parts_at nodes) (parts_codec nodes)
     (record { has = token_has nodes n; spelled = token_spelled nodes; has_parts = token_has_parts nodes n; remakes = token_remakes nodes })
-
--- a row with its value, as version 1 has it
-abbrev pub spelled_row : Row → List ℕ
-spelled_row r = spelled_value r.0.0 ++ spelled_mark (r.0.1, r.1)
 
 abbrev row_parts : Row → Val × (Tok × Bool)
 row_parts r = (r.0.0, (r.0.1, r.1))

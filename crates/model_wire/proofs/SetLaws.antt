@@ -17,10 +17,11 @@ use Rattle.model_wire.specs.declared.wire_why.WireWhy.TheVariants as why
 use Rattle.model_wire.specs.Reader.{Reading, Reader, both_at, counted, made, list_at, ranged_at}
 use Rattle.model_wire.specs.Value.{value_at, token_at, row_at, is_above, mark_cmp, latest}
 use Rattle.model_wire.specs.Message.{row_after_at, single_rows_at, token_after_at, tokens_at, Before, value_after_at, group_made, group_at, after_group, row_of, rows_of_group, rows_of, groups_at, grouped_rows_at, elements_at}
+use Rattle.model_wire.specs.Spelling.{spelled_row, spelled_single_rows}
 use Rattle.model_wire.specs.Lawful.{IsSourceValue, IsNodes, IsToken, IsRow, AreRows, AreElements}
 use Rattle.model_wire.proofs.Codecs.{IsCodec, wide32, HasTested, tested_codec, HasBoth, spell_both, both_codec, spell_counted, HasCounted, counted_codec, IsRemade, made_codec, has_codec, AllHave, HasMany, spell_all, list_codec}
 use Rattle.model_wire.proofs.ValueLaws.{HasRange, ranged_codec, within_range, in_range, value_codec}
-use Rattle.model_wire.proofs.RowLaws.{spelled_mark, token_codec, spelled_row, row_codec}
+use Rattle.model_wire.proofs.RowLaws.{row_codec}
 use Rattle.model_wire.proofs.OrderLaws.{rise_sorted, rise_each, sorted_rise}
 
 -- ---- version 1
@@ -33,10 +34,6 @@ RowsHad nodes = HasCounted ℕ (List Row) (HasRange 4294967296 0 65536) length (
 
 abbrev same_row : Row → Row
 same_row r = r
-
--- the rows of a set, each with its value
-abbrev pub spelled_single_rows : List Row → List ℕ
-spelled_single_rows = spell_counted ℕ (List Row) (to_be_bytes w32) length (spell_all Row spelled_row)
 
 pub rows_known : (nodes : ℕ) (before : Option Row) (rows : List Row) → length rows ≤ 65536 → RowsRise nodes before rows → AreRows nodes rows
 rows_known nodes before rows few rise = record {

@@ -8,6 +8,11 @@ use Rattle.model_values.specs.Size.{IsOfWidth}
 use Rattle.model_values.specs.Token.{Tok, single, both}
 use Rattle.model_values.specs.Row.{Row}
 use Rattle.model_sets.specs.Rows.{IsAscending}
+use Rattle.model_states.specs.Counts.{count_max}
+use Rattle.model_states.specs.Content.{Content, of_set, of_grow, of_counts, of_top}
+use Rattle.model_graph.specs.Graph.{Kind, OrSet, GSet, Counter, MaxReg}
+use Rattle.model_messages.specs.Message.{Sent, Message}
+use Rattle.lasp_value.specs.Name.{is_name}
 use Rattle.model_sets.specs.Values.{AreAscending}
 
 -- each number of the value has 64 bits, and each text is UTF-8
@@ -49,3 +54,31 @@ pub record AreElements (values : List Val) : Type 0 where
   pub ascending : AreAscending values
   pub few : length values ≤ 65536
   pub each : AllByRecursion IsSourceValue values
+
+-- no count is above the most
+abbrev pub AreAtMost : ℕ → List ℕ → Type 0
+AreAtMost most counts = AllByRecursion (λ c. c ≤ most) counts
+
+-- a register's number, if there is one, has 64 bits
+abbrev pub FitsTop : Option ℤ → Type 0
+FitsTop None = Unit {0}
+FitsTop (Some n) = FitsSigned w64 n
+
+-- what a source of a kind may hold; nothing but the part of its kind
+abbrev pub IsSource : ℕ → Kind → Content → Type 0
+IsSource nodes OrSet s = AreRows nodes s.rows × (s ≡ of_set s.rows)
+IsSource nodes GSet s = AreElements s.values × (s ≡ of_grow s.values)
+IsSource nodes Counter s = ((length s.counts ≡ nodes) × AreAtMost count_max s.counts) × (s ≡ of_counts s.counts)
+IsSource nodes MaxReg s = FitsTop s.top × (s ≡ of_top s.top)
+IsSource nodes _ s = ⊥
+
+-- a source of a message: its name is of a name's shape
+abbrev pub IsSent : ℕ → Sent → Type 0
+IsSent nodes s = (is_name s.decl.name ≡ true) × IsSource nodes s.decl.kind s.content
+
+-- a message: 1 to 8 nodes with counts of at most 100,000, and at most 64 sources
+pub record IsMessage (m : Message) : Type 0 where
+  pub nodes : IsNodes (length m.counts)
+  pub counts : AreAtMost 100000 m.counts
+  pub few : length m.sources ≤ 64
+  pub sources : AllByRecursion (IsSent (length m.counts)) m.sources

@@ -2,3 +2,4 @@ pub mod Reader
 pub mod Value
 pub mod Message
 pub mod Lawful
+pub mod Spelling

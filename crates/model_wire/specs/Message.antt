@@ -174,12 +174,13 @@ is_version n = n == 1 || n == 2
 unfoldable pub version_at : Reader ℕ
 version_at = counted (magic_at 76) (λ _. counted (magic_at 65) (λ _. counted (magic_at 83) (λ _. counted (magic_at 80) (λ _. tested (number_at w8) is_version why.Magic))))
 
-unfoldable pub message_at : Reader Message
-message_at = counted version_at body_at
+-- the version and the message
+unfoldable pub message_at : Reader (ℕ × Message)
+message_at = both_at version_at body_at
 
 -- the message that all of the bytes are
-abbrev pub nothing_behind : Message × List ℕ → Result Message (ℕ × WireWhy)
-nothing_behind m = if length m.1 == 0 then Ok m.0 else Err (length m.1, why.Rest)
+abbrev pub nothing_behind : (ℕ × Message) × List ℕ → Result Message (ℕ × WireWhy)
+nothing_behind m = if length m.1 == 0 then Ok m.0.1 else Err (length m.1, why.Rest)
 
 unfoldable pub read_message : List ℕ → Result Message (ℕ × WireWhy)
 read_message bytes = message_at bytes >>= nothing_behind
