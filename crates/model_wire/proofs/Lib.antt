@@ -5,3 +5,5 @@ pub mod OrderLaws
 pub mod SetLaws
 pub mod GroupLaws
 pub mod SourceLaws
+pub mod MessageLaws
+pub mod Within
