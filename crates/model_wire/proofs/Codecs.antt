@@ -9,10 +9,8 @@ use Rattle.std.proofs.lemmas.Nat.{be_bytes_2, be_bytes_4, be_bytes_8, from_be_by
 use Rattle.model_graph.specs.Chain.{◌>>=◌}
 use Rattle.model_wire.specs.declared.wire_why.WireWhy.{WireWhy}
 use Rattle.model_wire.specs.declared.wire_why.WireWhy.TheVariants as why
+pub use Rattle.model_wire.specs.Lawful.{IsBytes}
 use Rattle.model_wire.specs.Reader.{Reading, Reader, bytes_at, nothing_at, if_passes, tested, paired, both_at, counted, remade, made, onto, list_at, between, number_at, ranged_at, kind_at, magic_at}
-
-abbrev pub IsBytes : List ℕ → Type 0
-IsBytes bytes = (i : ℕ) → get_or bytes i 0 < 256
 
 pub behind_drop : (n : ℕ) (bytes : List ℕ) → IsBytes bytes → IsBytes (drop n bytes)
 behind_drop n bytes h i = rw get_or-drop (h (n + i))

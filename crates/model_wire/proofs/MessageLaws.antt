@@ -15,7 +15,7 @@ use Rattle.model_wire.specs.declared.wire_why.WireWhy.TheVariants as why
 use Rattle.model_wire.specs.Reader.{Reading, Reader, tested, paired, both_at, counted, made, list_at, number_at, ranged_at, magic_at}
 use Rattle.model_wire.specs.Message.{update_limit, source_limit, numbers_at, source_at, any_source_at, nothing_of_sources, sources_at, nodes_at, counts_at, message_made, body_at, is_version, version_at, message_at, nothing_behind, read_message, placed, decoded_from, decoded}
 use Rattle.model_wire.specs.Spelling.{spelled_content_in, spelled_source_in, spelled_in}
-use Rattle.model_wire.specs.Lawful.{IsNodes, AreAtMost, IsSent, IsMessage}
+use Rattle.model_wire.specs.Lawful.{IsNodes, AreAtMost, IsSent, IsMessage, IsSpelledSo}
 use Rattle.model_wire.proofs.Codecs.{IsBytes, Takes, takes_both, IsCodec, wide8, IsBelow, number_codec, HasTested, tested_codec, HasBoth, spell_both, both_codec, spell_counted, HasCounted, counted_codec, IsRemade, made_codec, has_codec, spelled_codec, AllHave, HasMany, spell_all, list_codec, Passed, passed, test_passed}
 use Rattle.model_wire.proofs.ValueLaws.{HasRange, ranged_codec, within_range, in_range}
 use Rattle.model_wire.proofs.SourceLaws.{HasNumbers, numbers_codec, source_codec}
@@ -202,10 +202,7 @@ written m = ap (λ (t : List ℕ). ((((beginning 2) ++ number 1 (length m.counts
 
 -- ---- all of the bytes
 
-abbrev pub Known : Message → List ℕ → Type 0
-Known m bytes = (v : ℕ) × (is_version v ≡ true) × (bytes ≡ spelled_in v m)
-
-read_known : (bytes : List ℕ) (m : Message) → IsBytes bytes → read_message bytes ≡ Ok m → IsMessage m × Known m bytes
+read_known : (bytes : List ℕ) (m : Message) → IsBytes bytes → read_message bytes ≡ Ok m → IsMessage m × IsSpelledSo m bytes
 unfolding read_message
 read_known bytes m fits e =
     let a = passed (message_at bytes) nothing_behind m e in
@@ -213,7 +210,7 @@ read_known bytes m fits e =
     let g = test_passed (eqb (length a.value.1) 0) (length a.value.1, why.Rest) a.value.0.1 m a.then in
     let none : a.value.1 ≡ [] = nil_from_length a.value.1 (eqb-true (length a.value.1) 0 g.0) in
     let all : bytes ≡ spelled_letter a.value.0 = t.0.parts ∙ ap (λ (r : List ℕ). spelled_letter a.value.0 ++ r) none ∙ append-nil (spelled_letter a.value.0) in
-    subst (λ (n : Message). IsMessage n × Known n bytes) g.1 (t.1.1, (a.value.0.0, t.1.0, all ∙ sym (letter_spelled a.value.0.0 a.value.0.1 t.1.0)))
+    subst (λ (n : Message). IsMessage n × IsSpelledSo n bytes) g.1 (t.1.1, record { version = a.value.0.0; known = t.1.0; bytes_are = all ∙ sym (letter_spelled a.value.0.0 a.value.0.1 t.1.0) })
 
 known_read : (v : ℕ) (m : Message) → is_version v ≡ true → IsMessage m → read_message (spelled_in v m) ≡ Ok m
 unfolding read_message
@@ -225,7 +222,7 @@ kept : (bytes : List ℕ) (r : Result Message (ℕ × WireWhy)) (m : Message) �
 kept bytes (Ok n) m e = e
 kept bytes (Err x) m e = absurd cc
 
-pub decoded_known : (bytes : List ℕ) (m : Message) → IsBytes bytes → decoded bytes ≡ Ok m → IsMessage m × Known m bytes
+pub decoded_known : (bytes : List ℕ) (m : Message) → IsBytes bytes → decoded bytes ≡ Ok m → IsMessage m × IsSpelledSo m bytes
 unfolding decoded
 decoded_known bytes m fits e = read_known bytes m fits (kept bytes (read_message bytes) m e)
 

@@ -1,5 +1,5 @@
 -- What has a spelling: the values, rows, sources and messages whose parts are in their ranges.
-use Rattle.std.specs.Prelude.{◌≡◌, ℕ, ℤ, ◌<◌, ◌≤◌, Bool, true, List, [], ◌∷◌, length, Option, Some, None, FitsSigned}
+use Rattle.std.specs.Prelude.{◌≡◌, ℕ, ℤ, ◌<◌, ◌≤◌, Bool, true, List, [], ◌∷◌, length, get_or, Option, Some, None, FitsSigned}
 use Rattle.std.specs.List.{AllByRecursion}
 use Rattle.std.specs.Str.{is_utf8}
 use mir.Syntax.{w64}
@@ -13,7 +13,13 @@ use Rattle.model_states.specs.Content.{Content, of_set, of_grow, of_counts, of_t
 use Rattle.model_graph.specs.Graph.{Kind, OrSet, GSet, Counter, MaxReg}
 use Rattle.model_messages.specs.Message.{Sent, Message}
 use Rattle.lasp_value.specs.Name.{is_name}
+use Rattle.model_wire.specs.Message.{is_version}
+use Rattle.model_wire.specs.Spelling.{spelled_in}
 use Rattle.model_sets.specs.Values.{AreAscending}
+
+-- numbers that are bytes
+abbrev pub IsBytes : List ℕ → Type 0
+IsBytes bytes = (i : ℕ) → get_or bytes i 0 < 256
 
 -- each number of the value has 64 bits, and each text is UTF-8
 abbrev pub IsSpellable : Val → Type 0
@@ -82,3 +88,9 @@ pub record IsMessage (m : Message) : Type 0 where
   pub counts : AreAtMost 100000 m.counts
   pub few : length m.sources ≤ 64
   pub sources : AllByRecursion (IsSent (length m.counts)) m.sources
+
+-- the bytes are the message's spelling in a version that there is
+pub record IsSpelledSo (m : Message) (bytes : List ℕ) : Type 0 where
+  pub version : ℕ
+  pub known : is_version version ≡ true
+  pub bytes_are : bytes ≡ spelled_in version m
