@@ -7,6 +7,7 @@ use Rattle.model_graph.specs.Graph.{Decl, is_source, kind_at}
 use Rattle.model_graph.specs.Evaluation.{least_of, content_at}
 use Rattle.model_graph.specs.Lawful.{width_at, widths, sources_among}
 use Rattle.model_messages.specs.Message.{Message, message_of, sent_from, gained, brought}
+use Rattle.model_graph.proofs.WidthLaws.{width-source}
 use Rattle.model_messages.proofs.MessageLaws.{sent-among}
 use Rattle.model_world.specs.World.{Peer, updated, delivered, extended, message_at}
 use Rattle.model_journal.specs.Entry.{Update, Deliver, Extend, Entry, Frame}
@@ -16,7 +17,7 @@ use Rattle.model_journal.proofs.JournalLaws.{journal-push, journal-graph}
 use Rattle.model_journal.proofs.StandLaws.{journal-valid}
 use Rattle.model_journal.proofs.EntryLaws.{update-vals, update-counts, extend-vals, extend-counts}
 use Rattle.model_journal.proofs.MessageLaws.{message-valid}
-use Rattle.model_journal.proofs.WidthLaws.{width-source, widths-at}
+use Rattle.model_journal.proofs.WidthLaws.{widths-at}
 use Rattle.model_calls.specs.Calls.{fed}
 
 -- a journal and a replica of the world have the same

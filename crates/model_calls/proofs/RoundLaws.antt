@@ -7,6 +7,7 @@ use Rattle.model_world.specs.World.{Peer, Run, fresh_peer, no_peer, peer_at, mar
 use Rattle.model_known.specs.Follow.{Followed}
 use Rattle.model_known.proofs.EffectLaws.{followed}
 use Rattle.model_calls.proofs.StepLaws.{FitsLawfully, updates}
+use Rattle.model_known.proofs.RoundLaws.{range-length}
 
 abbrev pub AllFit : ℕ → Followed → List world.Act → Type 0
 AllFit nodes f [] = Unit {0}
@@ -82,10 +83,6 @@ all-round : (nodes sent i : ℕ) (ps : List ℕ) → i + nodes ≤ sent → IsRo
 all-round nodes sent i [] low = tt
 all-round nodes sent i (p ∷ ps) low =
     takes-round nodes sent p i (filter (λ q. not (q == p)) (range_with_len 0 nodes)) (flat_map (takes nodes i) ps) (below-filter (λ q. not (q == p)) nodes (range_with_len 0 nodes) (below-nodes nodes)) low (all-round nodes sent i ps low)
-
-range-length : (a n : ℕ) → length (range_with_len a n) ≡ n
-range-length a zero = refl
-range-length a (suc n) = omega (arith, range-length (a + 1) n)
 
 pub sync-round : (nodes sent : ℕ) → IsRound nodes sent (sync_acts nodes sent)
 sync-round nodes sent =

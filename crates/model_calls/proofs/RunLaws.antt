@@ -82,9 +82,9 @@ update-fits : (nodes : ℕ) (f : Followed) (p x : ℕ) (op : Op) → FitsLawfull
 update-fits nodes f p x op h = record { all = (h, tt); one = omega arith }
 
 command-fits : (opening : List Decl) (nodes done : ℕ) (h : ℕ → List Entry) (f : Followed) (k : Command) → Tied opening nodes done h f → MayBeDone nodes (stage_of f) k → CommandFits nodes f (acts f.run k)
-command-fits opening nodes done h f (command.Add p x v) t m = update-fits nodes f p x (Add v) (m.0.0, m.0.1, source-of f.run.graph x graph.OrSet refl m.1, λ s e. absurd cc, m.1, m.2.0)
-command-fits opening nodes done h f (command.Remove p x v) t m = update-fits nodes f p x (Remove v) (m.0.0, m.0.1, source-of f.run.graph x graph.OrSet refl m.1, λ s e. absurd cc, m.1, m.2.0)
-command-fits opening nodes done h f (command.Insert p x v) t m = update-fits nodes f p x (Insert v) (m.0.0, m.0.1, source-of f.run.graph x graph.GSet refl m.1, λ s e. absurd cc, m.1, m.2.0)
+command-fits opening nodes done h f (command.Add p x v) t m = update-fits nodes f p x (Add v) (m.0.0, m.0.1, source-of f.run.graph x graph.OrSet refl m.1, λ s e. absurd cc, m.1, m.2)
+command-fits opening nodes done h f (command.Remove p x v) t m = update-fits nodes f p x (Remove v) (m.0.0, m.0.1, source-of f.run.graph x graph.OrSet refl m.1, λ s e. absurd cc, m.1, m.2)
+command-fits opening nodes done h f (command.Insert p x v) t m = update-fits nodes f p x (Insert v) (m.0.0, m.0.1, source-of f.run.graph x graph.GSet refl m.1, λ s e. absurd cc, m.1, m.2)
 command-fits opening nodes done h f (command.Inc p x n) t m = update-fits nodes f p x (Inc n) (m.0.0, m.0.1, source-of f.run.graph x graph.Counter refl m.1, λ s e. absurd cc, m.1, tt)
 command-fits opening nodes done h f (command.Max p x n) t m = update-fits nodes f p x (Max n) (m.0.0, m.0.1, source-of f.run.graph x graph.MaxReg refl m.1, λ s e. absurd cc, m.1, m.2)
 command-fits opening nodes done h f (command.Mark p x) t m = record { all = ((m.0.0, m.0.1), tt); one = omega arith }

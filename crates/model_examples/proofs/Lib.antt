@@ -6,3 +6,4 @@ pub mod SourceLaws
 pub mod GrowthLaws
 pub mod AdvertisementLaws
 pub mod BindLaws
+pub mod MapLaws

@@ -11,7 +11,7 @@ mod reads;
 mod sources;
 
 pub use advertisements::advertisements_under_contract_are_shown;
-pub use binds::binds_may_come_out_of_order;
+pub use binds::{a_map_is_clean_after_two_binds_out_of_order, binds_may_come_out_of_order};
 pub use deliveries::messages_may_cross_come_late_and_come_twice;
 pub use folds::folds_count_each_visible_value_once;
 pub use growth::a_graph_may_grow_while_messages_are_on_their_way;

@@ -1,5 +1,5 @@
 -- A fold's combine makes a commutative group of the numbers that it works on.
-use Rattle.std.proofs.Common.{◌≡◌, ℕ, zero, suc, ◌+◌, ◌-◌, ◌%◌, ◌^◌, ◌≤◌, ◌<◌, nat_lt, ℤ, pos, negsuc, ◌+ℤ◌, neg_ℤ, FitsSigned, IsTrue, refl, sym, ap, ◌∙◌, arith}
+use Rattle.std.proofs.Common.{◌≡◌, ℕ, zero, suc, ◌+◌, ◌-◌, ◌%◌, ◌^◌, ◌≤◌, ◌<◌, nat_lt, ℤ, pos, negsuc, ◌+ℤ◌, neg_ℤ, FitsSigned, IsTrue, List, fold, refl, sym, ap, ◌∙◌, arith}
 use Rattle.std.proofs.lemmas.Bool.Decides.{nat_tests}
 use Rattle.std.proofs.Math.IntN.{+ℤ_assoc, +ℤ_comm, +ℤ_idr, +ℤ_invr}
 use Rattle.std.proofs.Math.Nat.{mod-lt, mod-eq_of_lt, mod_self, mod-add-mod, add-mod-mod, add_assoc}
@@ -11,10 +11,15 @@ use Rattle.std.specs.Int.{cast_signed, cast_unsigned, int_bit_xor, int_rem_eucli
 use mir.Syntax.{w128}
 use Rattle.model_values.specs.Value.{Val}
 use Rattle.model_functions.specs.Lift.{LiftOp, lifted}
-use Rattle.model_sets.specs.Folds.{IsFoldGroup}
+use Rattle.model_values.specs.Row.{Row}
+use Rattle.model_sets.specs.Rows.{IsAscending, IsAtMost}
+use Rattle.model_sets.specs.Values.{visible, row_values}
+use Rattle.model_sets.specs.Equations.{changed}
+use Rattle.model_sets.specs.Folds.{IsFoldGroup, corrected}
+use Rattle.model_sets.proofs.FoldLaws.{fold-rows}
 use Rattle.model_graph.specs.Graph.{FoldOp, Sum, Xor, Modulo}
 use Rattle.model_graph.specs.Lawful.{IsFoldOp}
-use Rattle.model_graph.specs.Fold.{taken, combined, inverse, is_of_128_bits, is_remainder, is_member}
+use Rattle.model_graph.specs.Fold.{taken, combined, inverse, is_of_128_bits, is_remainder, is_member, fold_rows}
 
 -- ---- sums
 
@@ -121,3 +126,8 @@ pub lifts-member : (op : FoldOp) → IsFoldOp op → (lift : LiftOp) (v : Val) �
 lifts-member op h lift v = taken-member op h (lifted lift v)
 
 pub ruleset fold_groups = (lifts-member)
+
+-- the number of a fold over a set that grew, corrected for the values of the changed rows
+pub fold-changed : (op : FoldOp) → IsFoldOp op → (lift : LiftOp) (s t : List Row) → IsAscending s → IsAscending t → IsAtMost s t
+    → fold (corrected (combined op) (inverse op) (λ v. taken op (lifted lift v)) (visible s) (visible t)) (fold_rows op lift s) (row_values (changed s t)) ≡ fold_rows op lift t
+fold-changed op h lift s t = fold-rows (fold-group op h) (λ v. taken op (lifted lift v)) s t (λ v k. lifts-member op h lift v) (λ v k. lifts-member op h lift v)

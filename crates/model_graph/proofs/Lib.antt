@@ -4,3 +4,5 @@ pub mod EvalLaws
 pub mod ShownLaws
 pub mod WidthLaws
 pub mod GroupLaws
+pub mod IncrementLaws
+pub mod LimitLaws

@@ -85,22 +85,22 @@ module _ (ws : List ℕ) (done : List Content) (old : (x : ℕ) → HasWidth (wi
   wide-equation (Fold x op place lift) = record { values = λ v t h. (old x).values v t h; tokens = λ v t h. (old x).tokens v t h }
 
 -- a source's width is 1
-source-width : (k : Kind) (ws : List ℕ) → is_source k ≡ true → width_of k ws ≡ 1
-source-width OrSet ws e = refl
-source-width GSet ws e = refl
-source-width Counter ws e = refl
-source-width MaxReg ws e = refl
-source-width (Union x y) ws e = cc
-source-width (Product x y) ws e = cc
-source-width (Intersection x y) ws e = cc
-source-width (Map x place ops) ws e = cc
-source-width (Filter x place ops) ws e = cc
-source-width (Fold x op place lift) ws e = cc
+pub width-source : (k : Kind) (ws : List ℕ) → is_source k ≡ true → width_of k ws ≡ 1
+width-source OrSet ws e = refl
+width-source GSet ws e = refl
+width-source Counter ws e = refl
+width-source MaxReg ws e = refl
+width-source (Union x y) ws e = cc
+width-source (Product x y) ws e = cc
+width-source (Intersection x y) ws e = cc
+width-source (Map x place ops) ws e = cc
+width-source (Filter x place ops) ws e = cc
+width-source (Fold x op place lift) ws e = cc
 
 wide-evaluated : (k : Kind) (ws : List ℕ) (done ss : List Content) → ((x : ℕ) → HasWidth (width_at ws x) (content_at done x)) → (is_source k ≡ true → HasWidth 1 (content_at ss (length done))) → HasWidth (width_of k ws) (evaluated k done ss)
 wide-evaluated k ws done ss old given = choose (is_source k) refl where
   choose : (b : Bool) → is_source k ≡ b → HasWidth (width_of k ws) (if b then content_at ss (length done) else equation k done)
-  choose true e = subst (λ (w : ℕ). HasWidth w (content_at ss (length done))) (sym (source-width k ws e)) (given e)
+  choose true e = subst (λ (w : ℕ). HasWidth w (content_at ss (length done))) (sym (width-source k ws e)) (given e)
   choose false e = wide-equation ws done old k
 
 wide-from : (g : List Decl) (ws : List ℕ) (done ss : List Content) → length ws ≡ length done → ((x : ℕ) → HasWidth (width_at ws x) (content_at done x))

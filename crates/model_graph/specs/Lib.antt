@@ -6,3 +6,5 @@ pub mod Order
 pub mod Lawful
 pub mod Width
 pub mod Algebra
+pub mod Increment
+pub mod Limit

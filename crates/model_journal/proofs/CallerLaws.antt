@@ -12,7 +12,7 @@ use Rattle.model_journal.specs.Entry.{Act, Update, Deliver, Bind, Extend, Entry,
 use Rattle.model_journal.specs.Journal.{Snapshot, Journal, snapshot_at, gain, opened, contents_after, graph_after, counts_after, snapshot_after, next, run, start, journal, graph, val, counts}
 use Rattle.model_journal.specs.Callers.{MayMake, AreMadeByTheirCallers, made_by}
 use Rattle.model_journal.specs.Legal.{IsLawful, IsLegalFrom, IsLegal}
-use Rattle.model_journal.proofs.GainLaws.{gained-length}
+use Rattle.model_messages.proofs.MessageLaws.{gained-length}
 use Rattle.model_journal.proofs.GraphLaws.{graph-keeps}
 use Rattle.model_journal.proofs.StepLaws.{after-at}
 use Rattle.model_journal.proofs.GoodLaws.{IsGood, to-now, start-good}

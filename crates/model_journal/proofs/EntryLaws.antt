@@ -15,7 +15,7 @@ use Rattle.model_journal.specs.Entry.{Act, Update, Deliver, Bind, Extend, Entry,
 use Rattle.model_journal.specs.Journal.{Snapshot, Journal, snapshot_at, gain, graph_after, version_after, snapshot_after, next, run, start, journal, graph, vals, val, counts, declared_by, declared}
 use Rattle.model_journal.specs.Clean.{version}
 use Rattle.model_journal.specs.Legal.{IsLegal}
-use Rattle.model_journal.proofs.GainLaws.{gained-length, gained-at}
+use Rattle.model_messages.proofs.MessageLaws.{gained-length, gained-at}
 use Rattle.model_journal.proofs.StepLaws.{after-at}
 use Rattle.model_journal.proofs.JournalLaws.{journal-push, journal-good}
 use Rattle.model_journal.proofs.CleanLaws.{snapshot-take}

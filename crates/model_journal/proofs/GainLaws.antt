@@ -1,10 +1,10 @@
 -- What a content gains: it grows, keeps its order, and has no fewer counts. And what a variable has before anything happened.
-use Rattle.std.proofs.Common.{◌≡◌, ℕ, zero, suc, ◌+◌, ◌≤◌, ◌<◌, IsTrue, IsFalse, List, [], ◌∷◌, length, Option, Some, None, refl, ap, ◌∙◌, arith}
+use Rattle.std.proofs.Common.{◌≡◌, ℕ, ◌≤◌, IsTrue, IsFalse, length, Option, Some, None, refl, arith}
 use Rattle.model_states.specs.Content.{Content, least, IsContentAtMost, IsOrdered}
 use Rattle.model_states.proofs.ContentLaws.{at_most-itself, join-left, ordered-join, counts-join}
 use Rattle.model_graph.specs.Graph.{Kind, OrSet, GSet, Counter, MaxReg, Union, Product, Intersection, Map, Filter, Fold, is_source, is_set}
-use Rattle.model_graph.specs.Evaluation.{least_of, content_at}
-use Rattle.model_messages.specs.Message.{with_gain, gained}
+use Rattle.model_graph.specs.Evaluation.{least_of}
+use Rattle.model_messages.specs.Message.{with_gain}
 
 pub gain-grows : (s : Content) (gain : Option Content) → IsContentAtMost s (with_gain s gain)
 gain-grows s None = at_most-itself s
@@ -17,17 +17,6 @@ gain-ordered s (Some t) up = ordered-join s t
 pub gain-wider : (s : Content) (gain : Option Content) → length s.counts ≤ length (with_gain s gain).counts
 gain-wider s None = omega arith
 gain-wider s (Some t) = omega (arith, counts-join s t)
-
-pub gained-length : (gains : ℕ → Option Content) (n : ℕ) (ss : List Content) → length (gained gains n ss) ≡ length ss
-gained-length gains n [] = refl
-gained-length gains n (s ∷ ss) = omega (arith, gained-length gains (n + 1) ss)
-
-pub gained-at : (gains : ℕ → Option Content) (n : ℕ) (ss : List Content) (x : ℕ) → x < length ss → content_at (gained gains n ss) x ≡ with_gain (content_at ss x) (gains (n + x))
-gained-at gains n [] x h = absurd (omega (arith, h))
-gained-at gains n (s ∷ ss) zero h = let here : n ≡ n + 0 = omega arith in ap (λ (i : ℕ). with_gain s (gains i)) here
-gained-at gains n (s ∷ ss) (suc x) h =
-    let there : (n + 1) + x ≡ n + suc x = omega arith in
-    gained-at gains (n + 1) ss x (omega (arith, h)) ∙ ap (λ (i : ℕ). with_gain (content_at ss x) (gains i)) there
 
 -- ---- before anything happened
 

@@ -8,9 +8,10 @@ use Rattle.model_states.proofs.ContentLaws.{ordered-join, join-right, join-nothi
 use Rattle.model_states.proofs.SizeLaws.{size-grows}
 use Rattle.model_graph.specs.Graph.{Kind, Decl, decl_at, is_source, kind_at, IsInput}
 use Rattle.model_graph.specs.Evaluation.{equation}
-use Rattle.model_graph.specs.Lawful.{width_at, width_of, widths, IsGraph, sources_among}
+use Rattle.model_graph.specs.Lawful.{width_limit, width_at, width_of, widths, IsGraph, sources_among}
 use Rattle.model_graph.proofs.EquationLaws.{equation-ordered}
 use Rattle.model_graph.proofs.PlaceLaws.{equal-numbers}
+use Rattle.model_graph.proofs.WidthLaws.{width-source}
 use Rattle.model_messages.specs.Message.{Sent, sent_at, source_number, with_gain}
 use Rattle.model_journal.specs.Entry.{Act, Update, Deliver, Bind, Extend, Entry, Frame}
 use Rattle.model_journal.specs.Journal.{Snapshot, snapshot_at, gain, counts_after, journal, graph, val, counts}
@@ -19,7 +20,7 @@ use Rattle.model_journal.proofs.GraphLaws.{input-declared}
 use Rattle.model_journal.proofs.GoodLaws.{to-now}
 use Rattle.model_journal.proofs.NextLaws.{op-of-source}
 use Rattle.model_journal.proofs.JournalLaws.{journal-good, counts-length}
-use Rattle.model_journal.proofs.WidthLaws.{width-source, widths-at, widths-same}
+use Rattle.model_journal.proofs.WidthLaws.{widths-at, widths-same, narrow-at}
 use Rattle.model_journal.proofs.ValidLaws.{valid-join, valid-delta}
 use Rattle.model_journal.proofs.EquationLaws.{valid-equation}
 use Rattle.model_journal.proofs.StandLaws.{journal-valid}
@@ -87,6 +88,7 @@ bind-valid : (X : Frame) (h : List Entry) → IsLegal X h → (y n : ℕ) → Is
 bind-valid X h legal y n lawful small =
     subst (λ (w : ℕ). IsValid X.nodes k w (equation k old.contents)) width
     (valid-equation X.nodes (λ x. kind_at old.graph x) k (widths old.graph) old.contents (subst (λ (d : Decl). IsFalse (is_source d.kind)) (sym same) lawful.1.process)
+    narrow
     (λ x i. valid.contents x (input-declared old.graph ok y x (subst (λ (d : Decl). IsInput d.kind x) same i))) small) where
       k : Kind
       k = kind_at (graph X h) y
@@ -105,6 +107,9 @@ bind-valid X h legal y n lawful small =
 
       same : decl_at (graph X h) y ≡ decl_at old.graph y
       same = (to-now X (journal X h) (journal-good X h legal) n).kept y lawful.1.declared
+
+      narrow : width_of k (widths old.graph) ≤ width_limit
+      narrow = omega (arith, ap (λ (d : Decl). width_of d.kind (widths old.graph)) same, widths-at old.graph ok y lawful.1.declared, narrow-at old.graph ok y lawful.1.declared)
 
       width : width_of k (widths old.graph) ≡ width_at (widths (graph X h)) y
       width = ap (λ (d : Decl). width_of d.kind (widths old.graph)) same

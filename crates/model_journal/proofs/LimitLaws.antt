@@ -9,7 +9,7 @@ use Rattle.model_messages.specs.Message.{with_gain, gained}
 use Rattle.model_journal.specs.Entry.{Act, Update, Deliver, Bind, Extend, Entry, Frame}
 use Rattle.model_journal.specs.Journal.{Snapshot, Journal, gain, contents_after, graph_after, snapshot_after, journal, graph, vals, val}
 use Rattle.model_journal.specs.Legal.{IsValid, IsValidSnapshot, IsWithinLimits, IsLawful, BringsValid, IsLegal}
-use Rattle.model_journal.proofs.GainLaws.{gained-length}
+use Rattle.model_messages.proofs.MessageLaws.{gained-length}
 use Rattle.model_journal.proofs.GraphLaws.{graph-keeps, graph-longer}
 use Rattle.model_journal.proofs.StepLaws.{after-at}
 use Rattle.model_journal.proofs.NextLaws.{next-graph}

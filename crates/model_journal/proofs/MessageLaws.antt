@@ -1,50 +1,19 @@
 -- What a replica's message has, and that it may be delivered where the graph begins as the sender's.
-use Rattle.std.proofs.Common.{◌≡◌, ℕ, zero, suc, ◌+◌, ◌<◌, Bool, true, false, if◌then◌else◌, IsTrue, List, [], ◌∷◌, ◌++◌, length, map, cond, refl, sym, ap, subst, ◌∙◌, arith}
+use Rattle.std.proofs.Common.{◌≡◌, ℕ, suc, ◌<◌, Bool, true, false, if◌then◌else◌, IsTrue, List, [], ◌∷◌, ◌++◌, length, refl, sym, ap, subst, ◌∙◌, arith}
 use Rattle.model_states.specs.Content.{Content}
 use Rattle.model_graph.specs.Graph.{Decl, is_source, kind_at}
 use Rattle.model_graph.specs.Evaluation.{content_at}
 use Rattle.model_graph.specs.Lawful.{width_at, widths, sources_among}
-use Rattle.model_messages.specs.Message.{Sent, sent_at, source_number, sent_from}
+use Rattle.model_graph.proofs.WidthLaws.{width-source}
+use Rattle.model_messages.specs.Message.{sent_at, source_number, sent_from}
+use Rattle.model_messages.proofs.MessageLaws.{sent-is, sent-among, among-append}
 use Rattle.model_journal.specs.Entry.{Deliver, Entry, Frame}
 use Rattle.model_journal.specs.Journal.{journal, graph, vals, val}
 use Rattle.model_journal.specs.Message.{message}
 use Rattle.model_journal.specs.Legal.{IsValid, IsLawful, AreValidSources, BringsValid, IsLegal}
 use Rattle.model_journal.proofs.JournalLaws.{journal-good, counts-length}
-use Rattle.model_journal.proofs.WidthLaws.{width-source, widths-at}
+use Rattle.model_journal.proofs.WidthLaws.{widths-at}
 use Rattle.model_journal.proofs.StandLaws.{journal-valid}
-
-pub sent-is : (g : List Decl) (ss : List Content) (x : ℕ) → x < length g → length ss ≡ length g → IsTrue (is_source (kind_at g x)) → sent_at (sent_from g ss) (source_number g x) ≡ content_at ss x
-sent-is [] ss x low long source = absurd (omega (arith, low))
-sent-is (d ∷ g) [] x low long source = absurd (omega (arith, long))
-sent-is (d ∷ g) (s ∷ ss) zero low long source = ap (λ (b : Bool). sent_at (if b then record { decl = d; content = s } ∷ sent_from g ss else sent_from g ss) 0) source
-sent-is (d ∷ g) (s ∷ ss) (suc x) low long source = choose (is_source d.kind) (sent-is g ss x (omega (arith, low)) (omega (arith, long)) source) where
-  first : Sent
-  first = record { decl = d; content = s }
-
-  choose : (b : Bool) → sent_at (sent_from g ss) (source_number g x) ≡ content_at ss x
-      → sent_at (if b then first ∷ sent_from g ss else sent_from g ss) (if b then source_number g x + 1 else source_number g x) ≡ content_at ss x
-  choose true rest = (let next : source_number g x + 1 ≡ suc (source_number g x) = omega arith in ap (λ (i : ℕ). sent_at (first ∷ sent_from g ss) i) next) ∙ rest
-  choose false rest = rest
-
-sent-among : (g : List Decl) (ss : List Content) → length ss ≡ length g → map (λ s. s.decl) (sent_from g ss) ≡ sources_among g
-sent-among [] ss long = refl
-sent-among (d ∷ g) [] long = absurd (omega (arith, long))
-sent-among (d ∷ g) (s ∷ ss) long = choose (is_source d.kind) (sent-among g ss (omega (arith, long))) where
-  first : Sent
-  first = record { decl = d; content = s }
-
-  choose : (b : Bool) → map (λ s. s.decl) (sent_from g ss) ≡ sources_among g
-      → map (λ s. s.decl) (if b then first ∷ sent_from g ss else sent_from g ss) ≡ cond b (d ∷ sources_among g) (sources_among g)
-  choose true rest = ap (λ (ds : List Decl). d ∷ ds) rest
-  choose false rest = rest
-
-among-append : (g more : List Decl) → sources_among (g ++ more) ≡ sources_among g ++ sources_among more
-among-append [] more = refl
-among-append (d ∷ g) more = choose (is_source d.kind) (among-append g more) where
-  choose : (b : Bool) → sources_among (g ++ more) ≡ sources_among g ++ sources_among more
-      → cond b (d ∷ sources_among (g ++ more)) (sources_among (g ++ more)) ≡ cond b (d ∷ sources_among g) (sources_among g) ++ sources_among more
-  choose true rest = ap (λ (ds : List Decl). d ∷ ds) rest
-  choose false rest = rest
 
 pub message-source : (X : Frame) (h : List Entry) → IsLegal X h → (x : ℕ) → x < length (graph X h) → IsTrue (is_source (kind_at (graph X h) x)) → sent_at (message X h).sources (source_number (graph X h) x) ≡ val X h x
 message-source X h legal x low source = sent-is (graph X h) (vals X h) x low (journal-good X h legal).shape source

@@ -16,7 +16,8 @@ use Rattle.model_journal.specs.Journal.{Snapshot, Journal, snapshot_at, gain, op
 use Rattle.model_journal.specs.Clean.{greatest_bound}
 use Rattle.model_journal.specs.Legal.{IsOpOf, IsLawful}
 use Rattle.model_journal.proofs.PlaceLaws.{at-more, at-kept}
-use Rattle.model_journal.proofs.GainLaws.{gained-length, least_of-derived}
+use Rattle.model_messages.proofs.MessageLaws.{gained-length}
+use Rattle.model_journal.proofs.GainLaws.{least_of-derived}
 use Rattle.model_journal.proofs.GraphLaws.{graph-push, input-set, graph-keeps}
 use Rattle.model_journal.proofs.StepLaws.{after-at, after-ordered, opened-length, IsLater, later-itself, later-chain, step-later}
 use Rattle.model_journal.proofs.GoodLaws.{IsGood, to-now, now-tidy, set-bottom}

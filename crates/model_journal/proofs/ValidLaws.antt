@@ -5,7 +5,7 @@ use mir.Syntax.{w64}
 use Rattle.model_values.specs.Value.{Val}
 use Rattle.model_values.specs.Token.{Tok}
 use Rattle.model_values.specs.Row.{Row}
-use Rattle.model_values.specs.Size.{IsOfWidth, IsTokenOfWidth}
+use Rattle.model_values.specs.Size.{IsSized, IsTokenOfWidth}
 use Rattle.model_sets.specs.Rows.{mark, HasRow, remove_delta, is_of, buried}
 use Rattle.model_sets.specs.Values.{held, IsHeld}
 use Rattle.model_sets.proofs.RowLaws.{mark-join}
@@ -20,9 +20,9 @@ use Rattle.model_states.proofs.ContentLaws.{ordered-join}
 use Rattle.model_states.proofs.DeltaLaws.{shape-join, add-row, remove-row, remove-shape, insert-value, inc-own, inc-others, inc-shape}
 use Rattle.model_graph.specs.Graph.{Kind, OrSet, GSet, Counter, MaxReg, Union, Product, Intersection, Map, Filter, Fold}
 use Rattle.model_graph.specs.Evaluation.{least_of}
-use Rattle.model_graph.specs.Lawful.{shape_of}
+use Rattle.model_graph.specs.Lawful.{width_limit, shape_of}
 use Rattle.model_graph.proofs.PlaceLaws.{below-or-not, equal-numbers}
-use Rattle.model_journal.specs.Legal.{IsTokenOf, FitsTop, IsValid, IsOpOf, IsSmallOp, count_limit}
+use Rattle.model_journal.specs.Legal.{IsTokenOf, IsValidValue, FitsTop, IsValid, IsOpOf, IsSmallOp, count_limit}
 
 positive-max : (a b : ℕ) → 0 < max a b → (0 < a) ⊎ (0 < b)
 positive-max a b h = choose (below-or-not 0 a) where
@@ -58,7 +58,7 @@ valid-join nodes k w s t p q small = record {
   counts = λ node. omega (arith, count_at-larger s.counts t.counts node, p.counts node, q.counts node);
   top = fits-later s.top t.top p.top q.top;
 } where
-  value : (v : Val) (u : Tok) → HasRow s.rows v u ⊎ HasRow t.rows v u → IsOfWidth w v
+  value : (v : Val) (u : Tok) → HasRow s.rows v u ⊎ HasRow t.rows v u → IsValidValue w v
   value v u (inl h) = p.values v u h
   value v u (inr h) = q.values v u h
 
@@ -66,7 +66,7 @@ valid-join nodes k w s t p q small = record {
   token v u (inl h) = p.tokens v u h
   token v u (inr h) = q.tokens v u h
 
-  element : (v : Val) → IsHeld s.values v ⊎ IsHeld t.values v → IsOfWidth w v
+  element : (v : Val) → IsHeld s.values v ⊎ IsHeld t.values v → IsValidValue w v
   element v (inl h) = p.elements v h
   element v (inr h) = q.elements v h
 
@@ -107,12 +107,12 @@ valid-least_of nodes Counter w = record {
 
 -- ---- the deltas of updates
 
-valid-add : (nodes replica number : ℕ) (v : Val) (s : Content) → IsOfWidth 1 v → replica < nodes → 1 ≤ number → number ≤ count_limit → IsValid nodes OrSet 1 (delta (Add v) s replica number)
+valid-add : (nodes replica number : ℕ) (v : Val) (s : Content) → IsValidValue 1 v → replica < nodes → 1 ≤ number → number ≤ count_limit → IsValid nodes OrSet 1 (delta (Add v) s replica number)
 valid-add nodes replica number v s ok member some most = record {
   ordered = record { rows = refl; values = refl };
   shape = refl;
   few = omega arith;
-  values = λ u t h. subst (λ (z : Val). IsOfWidth 1 z) (sym ((add-row v s replica number u t).0 h).0) ok;
+  values = λ u t h. subst (λ (z : Val). IsValidValue 1 z) (sym ((add-row v s replica number u t).0 h).0) ok;
   tokens = λ u t h. subst (λ (z : Tok). IsTokenOfWidth 1 z × IsTokenOf nodes z) (sym ((add-row v s replica number u t).0 h).1) (omega arith, (member, some, most));
   elements = λ u h. absurd (omega (arith, h));
   counts = λ q. omega arith;
@@ -132,21 +132,21 @@ valid-remove nodes replica number v s p = record {
   ordered = (remove-shape v s replica number p.ordered).0;
   shape = refl;
   few = omega (arith, removed-length v s.rows, p.few);
-  values = λ u t h. (let row = (remove-row v s replica number u t).0 h in subst (λ (z : Val). IsOfWidth 1 z) (sym row.0) (p.values v t row.1));
+  values = λ u t h. (let row = (remove-row v s replica number u t).0 h in subst (λ (z : Val). IsValidValue 1 z) (sym row.0) (p.values v t row.1));
   tokens = λ u t h. p.tokens v t ((remove-row v s replica number u t).0 h).1;
   elements = λ u h. absurd (omega (arith, h));
   counts = λ q. omega arith;
   top = tt;
 }
 
-valid-insert : (nodes replica number : ℕ) (v : Val) (s : Content) → IsOfWidth 1 v → IsValid nodes GSet 1 (delta (Insert v) s replica number)
+valid-insert : (nodes replica number : ℕ) (v : Val) (s : Content) → IsValidValue 1 v → IsValid nodes GSet 1 (delta (Insert v) s replica number)
 valid-insert nodes replica number v s ok = record {
   ordered = record { rows = refl; values = refl };
   shape = refl;
   few = omega arith;
   values = λ u t h. absurd (omega (arith, h));
   tokens = λ u t h. absurd (omega (arith, h));
-  elements = λ u h. subst (λ (z : Val). IsOfWidth 1 z) (sym ((insert-value v s replica number u).0 h)) ok;
+  elements = λ u h. subst (λ (z : Val). IsValidValue 1 z) (sym ((insert-value v s replica number u).0 h)) ok;
   counts = λ q. omega arith;
   top = tt;
 }
@@ -190,3 +190,7 @@ valid-delta nodes replica number k (Inc by) s p e ok member some most =
     subst (λ (c : Kind). IsValid nodes c 1 (delta (Inc by) s replica number)) (sym e) (valid-inc nodes replica number by s (subst (λ (c : Kind). IsValid nodes c 1 s) e p) member)
 valid-delta nodes replica number k (Max n) s p e ok member some most = subst (λ (c : Kind). IsValid nodes c 1 (delta (Max n) s replica number)) (sym e) (valid-max nodes replica number n s ok)
 valid-delta nodes replica number k (Join t) s p e ok member some most = ok
+
+-- a value of a valid content may be handed to a stored function
+pub valid-sized : (nodes : ℕ) (k : Kind) (w : ℕ) (s : Content) → IsValid nodes k w s → w ≤ width_limit → (v : Val) (t : Tok) → HasRow s.rows v t → IsSized v
+valid-sized nodes k w s p narrow v t h = let value = p.values v t h in record { leaves = omega (arith, value.0.leaves, narrow); bytes = omega (arith, value.0.bytes, narrow); ints = value.1 }

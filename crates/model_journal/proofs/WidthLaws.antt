@@ -1,9 +1,11 @@
 -- The widths of a graph: each is that of its declaration over the widths of all, and a graph that goes on keeps them.
-use Rattle.std.proofs.Common.{◌≡◌, ℕ, zero, suc, ◌+◌, ◌≤◌, ◌<◌, max, inl, inr, true, List, [], ◌∷◌, ◌++◌, length, refl, sym, ap, subst, ◌∙◌, arith}
-use Rattle.model_graph.specs.Graph.{Kind, OrSet, GSet, Counter, MaxReg, Union, Product, Intersection, Map, Filter, Fold, Decl, is_source, decl_at, kind_at, IsInput}
-use Rattle.model_graph.specs.Lawful.{width_at, width_of, widths_from, widths, IsGraph}
+use Rattle.std.proofs.Common.{◌≡◌, ℕ, zero, suc, ◌+◌, ◌≤◌, ◌<◌, max, inl, inr, List, [], ◌∷◌, ◌++◌, length, take, drop, refl, sym, ap, subst, ◌∙◌, arith}
+use Rattle.std.proofs.lemmas.List.{length-take, take-append-drop}
+use Rattle.model_graph.specs.Graph.{Kind, OrSet, GSet, Counter, MaxReg, Union, Product, Intersection, Map, Filter, Fold, Decl, decl_at, kind_at, IsInput}
+use Rattle.model_graph.specs.Lawful.{width_limit, width_at, width_of, widths_from, widths, IsGraph}
 use Rattle.model_graph.proofs.PlaceLaws.{at-append, at-last, length-append, from-nothing}
 use Rattle.model_graph.proofs.EvalLaws.{graph-earlier}
+use Rattle.model_graph.proofs.WidthLaws.{widths-length}
 
 -- a width looks at those of the inputs alone
 pub width-alike : (k : Kind) (us ws : List ℕ) → ((x : ℕ) → IsInput k x → width_at us x ≡ width_at ws x) → width_of k us ≡ width_of k ws
@@ -17,19 +19,6 @@ width-alike (Intersection x y) us ws h = λ i. h x (inl refl) i + h y (inr refl)
 width-alike (Map x place ops) us ws h = h x refl
 width-alike (Filter x place ops) us ws h = h x refl
 width-alike (Fold x op place lift) us ws h = h x refl
-
--- a source is of width 1
-pub width-source : (k : Kind) (ws : List ℕ) → is_source k ≡ true → width_of k ws ≡ 1
-width-source OrSet ws e = refl
-width-source GSet ws e = refl
-width-source Counter ws e = refl
-width-source MaxReg ws e = refl
-width-source (Union x y) ws e = cc
-width-source (Product x y) ws e = cc
-width-source (Intersection x y) ws e = cc
-width-source (Map x place ops) ws e = cc
-width-source (Filter x place ops) ws e = cc
-width-source (Fold x op place lift) ws e = cc
 
 widths-keep : (g : List Decl) (done : List ℕ) (x : ℕ) → x < length done → width_at (widths_from g done) x ≡ width_at done x
 widths-keep [] done x h = refl
@@ -72,3 +61,21 @@ same-below g h ok_g ok_h long same (suc n) x low small =
 
 pub widths-same : (g h : List Decl) → IsGraph g → IsGraph h → length g ≤ length h → ((y : ℕ) → y < length g → decl_at h y ≡ decl_at g y) → (x : ℕ) → x < length g → width_at (widths g) x ≡ width_at (widths h) x
 widths-same g h ok_g ok_h long same x small = same-below g h ok_g ok_h long same (suc x) x (omega arith) small
+
+widths-append : (g h : List Decl) (done : List ℕ) → widths_from (g ++ h) done ≡ widths_from h (widths_from g done)
+widths-append [] h done = refl
+widths-append (d ∷ g) h done = widths-append g h (done ++ width_of d.kind done ∷ [])
+
+-- the first declarations have the widths that they have in the whole
+widths-front : (g : List Decl) (y x : ℕ) → x < y → y ≤ length g → width_at (widths (take y g)) x ≡ width_at (widths g) x
+widths-front g y x low long =
+    sym (ap (λ (h : List Decl). width_at (widths h) x) (sym (take-append-drop y g))
+    ∙ ap (λ (ws : List ℕ). width_at ws x) (widths-append (take y g) (drop y g) [])
+    ∙ widths-keep (drop y g) (widths (take y g)) x (omega (arith, widths-length (take y g), length-take y g, low, long)))
+
+-- no variable of a graph is too wide
+pub narrow-at : (g : List Decl) → IsGraph g → (y : ℕ) → y < length g → width_at (widths g) y ≤ width_limit
+narrow-at g ok y low =
+    let same : width_at (widths g) y ≡ width_of (kind_at g y) (widths (take y g)) =
+    widths-at g ok y low ∙ sym (width-alike (kind_at g y) (widths (take y g)) (widths g) (λ x i. widths-front g y x (graph-earlier g ok y x i) (omega (arith, low)))) in
+    omega (arith, same, (ok y low).narrow)

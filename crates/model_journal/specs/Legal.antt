@@ -2,7 +2,7 @@
 use Rattle.std.specs.Prelude.{◌≡◌, ℕ, ℤ, ◌<◌, ◌≤◌, IsTrue, List, [], ◌∷◌, ◌++◌, length, map, Option, Some, None, FitsSigned}
 use mir.Syntax.{w64}
 use Rattle.model_values.specs.Value.{Val}
-use Rattle.model_values.specs.Size.{IsOfWidth, IsTokenOfWidth}
+use Rattle.model_values.specs.Size.{HasSmallInts, IsOfWidth, IsTokenOfWidth}
 use Rattle.model_values.specs.Token.{Tok, single, both}
 use Rattle.model_sets.specs.Rows.{HasRow}
 use Rattle.model_sets.specs.Values.{IsHeld}
@@ -28,6 +28,10 @@ abbrev pub IsTokenOf : ℕ → Tok → Type 0
 IsTokenOf nodes (single q k) = (q < nodes) × (1 ≤ k) × (k ≤ count_limit)
 IsTokenOf nodes (both t s) = IsTokenOf nodes t × IsTokenOf nodes s
 
+-- a value that a variable of width w may hold: not too large, and each number of 64 bits
+abbrev pub IsValidValue : ℕ → Val → Type 0
+IsValidValue w v = IsOfWidth w v × HasSmallInts v
+
 -- a register has a number of 64 bits, or none yet
 abbrev pub FitsTop : Option ℤ → Type 0
 FitsTop None = Unit {0}
@@ -39,9 +43,9 @@ pub record IsValid (nodes : ℕ) (k : Kind) (w : ℕ) (s : Content) : Type 0 whe
   -- only the part of its kind is more than least, and a counter has a count for each replica
   pub shape : HasShape (shape_of nodes k) s
   pub few : size_of s ≤ row_limit
-  pub values : (v : Val) (t : Tok) → HasRow s.rows v t → IsOfWidth w v
+  pub values : (v : Val) (t : Tok) → HasRow s.rows v t → IsValidValue w v
   pub tokens : (v : Val) (t : Tok) → HasRow s.rows v t → IsTokenOfWidth w t × IsTokenOf nodes t
-  pub elements : (v : Val) → IsHeld s.values v → IsOfWidth w v
+  pub elements : (v : Val) → IsHeld s.values v → IsValidValue w v
   pub counts : (q : ℕ) → count_at s.counts q ≤ count_max
   pub top : FitsTop s.top
 
@@ -66,11 +70,11 @@ IsOpOf k (Inc by) = k ≡ Counter
 IsOpOf k (Max n) = k ≡ MaxReg
 IsOpOf k (Join t) = IsTrue (is_source k)
 
--- what the operation has in it is small enough for a source: a value is of width 1, a number has 64 bits, and a joined content is valid for its kind
+-- what the operation has in it is small enough for a source: a value is one that width 1 may hold, a number has 64 bits, and a joined content is valid for its kind
 abbrev pub IsSmallOp : ℕ → Kind → Op → Type 0
-IsSmallOp nodes k (Add v) = IsOfWidth 1 v
-IsSmallOp nodes k (Remove v) = IsOfWidth 1 v
-IsSmallOp nodes k (Insert v) = IsOfWidth 1 v
+IsSmallOp nodes k (Add v) = IsValidValue 1 v
+IsSmallOp nodes k (Remove v) = IsValidValue 1 v
+IsSmallOp nodes k (Insert v) = IsValidValue 1 v
 IsSmallOp nodes k (Inc by) = Unit {0}
 IsSmallOp nodes k (Max n) = FitsSigned w64 n
 IsSmallOp nodes k (Join t) = IsValid nodes k 1 t

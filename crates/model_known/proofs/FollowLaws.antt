@@ -4,6 +4,7 @@ use Rattle.model_graph.specs.Chain.{◌>>=◌}
 use Rattle.model_world.specs.Command.{Command}
 use Rattle.model_world.specs.World.{Run, Act, Point, acts, act, each, play}
 use Rattle.model_world.specs.declared.stop.Stop.{Stop}
+use Rattle.model_world.proofs.StopLaws.{shifted}
 use Rattle.model_known.specs.Follow.{Followed, with_run, follow_act, follow_each, follow_step, follow}
 use Rattle.model_known.proofs.EffectLaws.{followed, follow-effect}
 
@@ -28,9 +29,6 @@ each-run c f (a ∷ rest) then =
     ∙ bind-alike (follow_act c f a) (λ next. follow_each c next rest >>= (λ last. then last.run)) (λ next. each c next.run rest >>= then) (λ next. each-run c next rest then)
     ∙ act-run c f a (act c f.run a) (λ next. each c next rest >>= then)
     ∙ sym (bind-again (act c f.run a) (λ next. each c next rest) then)
-
-pub shifted : (c n : ℕ) → (c + 1) + n ≡ c + suc n
-shifted c n = omega arith
 
 -- the point at the end of the script makes the followed run the run
 pub follow-play : (c : ℕ) (f : Followed) (commands : List Command) → (follow c f commands >>= (λ last. act (c + length commands) last.run Point)) ≡ play c f.run commands

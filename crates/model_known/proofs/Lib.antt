@@ -14,3 +14,4 @@ pub mod KnownLaws
 pub mod AlikeLaws
 pub mod ReportLaws
 pub mod ExampleLaws
+pub mod LimitLaws

@@ -23,10 +23,6 @@ use Rattle.model_known.proofs.PlayLaws.{place-sound}
 
 -- ---- what a replica holds, as a list
 
-pub range-length : (a n : ℕ) → length (range_with_len a n) ≡ n
-range-length a zero = refl
-range-length a (suc n) = omega (arith, range-length (a + 1) n)
-
 known-range : (f : ℕ → Content) (a n x : ℕ) → x < n → content_at (map f (range_with_len a n)) x ≡ f (a + x)
 known-range f a zero x h = absurd (omega (arith, h))
 known-range f a (suc n) zero h = ap f (let here : a ≡ a + 0 = omega arith in here)

@@ -57,7 +57,7 @@ posts-all : (nodes i : ℕ) (ps : List ℕ) → posts (flat_map (takes nodes i) 
 posts-all nodes i [] = refl
 posts-all nodes i (p ∷ ps) = omega (arith, posts-append (takes nodes i p) (flat_map (takes nodes i) ps), posts-takes p i (filter (λ q. not (q == p)) (range_with_len 0 nodes)), posts-all nodes i ps)
 
-range-length : (a n : ℕ) → length (range_with_len a n) ≡ n
+pub range-length : (a n : ℕ) → length (range_with_len a n) ≡ n
 range-length a zero = refl
 range-length a (suc n) = omega (arith, range-length (a + 1) n)
 

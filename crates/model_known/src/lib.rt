@@ -3,12 +3,14 @@
 
 mod example;
 mod known;
+mod limits;
 mod places;
 mod report;
 mod tokens;
 
 pub use example::a_lost_message_is_made_up_for_and_a_repeated_one_does_nothing;
 pub use known::{known_is_the_join_of_the_first_updates, replicas_hold_what_they_know};
+pub use limits::runs_keep_the_limits_of_their_scripts;
 pub use places::places_with_equal_counts_are_alike;
 pub use report::reports_can_be_told_from_what_is_known;
 pub use tokens::tokens_belong_to_one_add;

@@ -394,64 +394,80 @@ join-changed s t up a = same_from_mark (join s (changed s t)) t (ascending-join 
 pub ascending-changed : (s t : List Row) → IsAscending t → IsAscending (changed s t)
 ascending-changed s t up = ascending-kept (λ r. nat_lt (mark s r.0.0 r.0.1) (level r.1)) t up
 
--- ---- increments: a process over more is what it was, joined with what the changed rows give
+-- ---- increments: a process over more is what it was, joined with what the rows give by which its inputs came to be more
 
-pub filter-increment : (p : Val → Bool) (x x' : List Row) → IsAscending x → IsAscending x' → IsAtMost x x' → filter_set p x' ≡ join (filter_set p x) (filter_set p (changed x x'))
-filter-increment p x x' up up' a = ap (filter_set p) (sym (join-changed x x' up' a)) ∙ filter-join p x (changed x x') up (ascending-changed x x' up')
+pub filter-grown : (p : Val → Bool) (x c x' : List Row) → IsAscending x → IsAscending c → join x c ≡ x' → filter_set p x' ≡ join (filter_set p x) (filter_set p c)
+filter-grown p x c x' up up_c e = ap (filter_set p) (sym e) ∙ filter-join p x c up up_c
 
-pub map-increment : (f : Val → Val) (x x' : List Row) → IsAscending x' → IsAtMost x x' → map_set f x' ≡ join (map_set f x) (map_set f (changed x x'))
-map-increment f x x' up a = ap (map_set f) (sym (join-changed x x' up a)) ∙ map-join f x (changed x x')
+pub map-grown : (f : Val → Val) (x c x' : List Row) → join x c ≡ x' → map_set f x' ≡ join (map_set f x) (map_set f c)
+map-grown f x c x' e = ap (map_set f) (sym e) ∙ map-join f x c
 
-pub union-increment : (x x' y y' : List Row) → IsAscending x' → IsAscending y' → IsAtMost x x' → IsAtMost y y' → union_set x' y' ≡ join (union_set x y) (join (changed x x') (changed y y'))
-union-increment x x' y y' up_x up_y a b =
-    same_from_mark (join x' y') (join (join x y) (join (changed x x') (changed y y'))) (ascending-join x' y') (ascending-join (join x y) (join (changed x x') (changed y y')))
+pub union-grown : (x c x' y d y' : List Row) → join x c ≡ x' → join y d ≡ y' → union_set x' y' ≡ join (union_set x y) (join c d)
+union-grown x c x' y d y' e g =
+    same_from_mark (join x' y') (join (join x y) (join c d)) (ascending-join x' y') (ascending-join (join x y) (join c d))
     (λ v t. omega (
       arith,
-      ap (λ (z : List Row). mark z v t) (join-changed x x' up_x a),
-      ap (λ (z : List Row). mark z v t) (join-changed y y' up_y b),
+      ap (λ (z : List Row). mark z v t) e,
+      ap (λ (z : List Row). mark z v t) g,
       mark-join x' y' v t,
-      mark-join x (changed x x') v t,
-      mark-join y (changed y y') v t,
-      mark-join (join x y) (join (changed x x') (changed y y')) v t,
+      mark-join x c v t,
+      mark-join y d v t,
+      mark-join (join x y) (join c d) v t,
       mark-join x y v t,
-      mark-join (changed x x') (changed y y') v t,
+      mark-join c d v t,
     ))
 
 -- A process of two inputs that sends joins to joins, in each of them.
-increment-by : (F : List Row → List Row → List Row) → ((x x' y : List Row) → F (join x x') y ≡ join (F x y) (F x' y)) → ((x y y' : List Row) → F x (join y y') ≡ join (F x y) (F x y'))
-    → (x x' y y' : List Row) → IsAscending x' → IsAscending y' → IsAtMost x x' → IsAtMost y y' → F x' y' ≡ join (F x y) (join (F (changed x x') y') (F x' (changed y y')))
-increment-by F left right x x' y y' up_x up_y a b =
-    ap (F x') (sym (join-changed y y' up_y b)) ∙ right x' y (changed y y')
-    ∙ sym (same_from_mark (join (F x y) (join (F (changed x x') y') (F x' (changed y y')))) (join (F x' y) (F x' (changed y y'))) (ascending-join (F x y) (join (F (changed x x') y') (F x' (changed y y'))))
-    (ascending-join (F x' y) (F x' (changed y y'))) (λ v t.
+grown-by : (F : List Row → List Row → List Row) → ((x x' y : List Row) → F (join x x') y ≡ join (F x y) (F x' y)) → ((x y y' : List Row) → F x (join y y') ≡ join (F x y) (F x y'))
+    → (x c x' y d y' : List Row) → join x c ≡ x' → join y d ≡ y' → F x' y' ≡ join (F x y) (join (F c y') (F x' d))
+grown-by F left right x c x' y d y' e g =
+    ap (F x') (sym g) ∙ right x' y d
+    ∙ sym (same_from_mark (join (F x y) (join (F c y') (F x' d))) (join (F x' y) (F x' d)) (ascending-join (F x y) (join (F c y') (F x' d))) (ascending-join (F x' y) (F x' d)) (λ v t.
     omega (
       arith,
       ap (λ (z : List Row). mark z v t) less,
       ap (λ (z : List Row). mark z v t) more,
-      mark-join (F x y) (F (changed x x') y) v t,
-      mark-join (F (changed x x') y) (F (changed x x') (changed y y')) v t,
-      mark-join (F x y) (join (F (changed x x') y') (F x' (changed y y'))) v t,
-      mark-join (F (changed x x') y') (F x' (changed y y')) v t,
-      mark-join (F x' y) (F x' (changed y y')) v t,
+      mark-join (F x y) (F c y) v t,
+      mark-join (F c y) (F c d) v t,
+      mark-join (F x y) (join (F c y') (F x' d)) v t,
+      mark-join (F c y') (F x' d) v t,
+      mark-join (F x' y) (F x' d) v t,
       ap (λ (z : List Row). mark z v t) both_more,
-      mark-join (F x (changed y y')) (F (changed x x') (changed y y')) v t,
+      mark-join (F x d) (F c d) v t,
     ))) where
-      less : F x' y ≡ join (F x y) (F (changed x x') y)
-      less = ap (λ (z : List Row). F z y) (sym (join-changed x x' up_x a)) ∙ left x (changed x x') y
+      less : F x' y ≡ join (F x y) (F c y)
+      less = ap (λ (z : List Row). F z y) (sym e) ∙ left x c y
 
-      more : F (changed x x') y' ≡ join (F (changed x x') y) (F (changed x x') (changed y y'))
-      more = ap (F (changed x x')) (sym (join-changed y y' up_y b)) ∙ right (changed x x') y (changed y y')
+      more : F c y' ≡ join (F c y) (F c d)
+      more = ap (F c) (sym g) ∙ right c y d
 
-      both_more : F x' (changed y y') ≡ join (F x (changed y y')) (F (changed x x') (changed y y'))
-      both_more = ap (λ (z : List Row). F z (changed y y')) (sym (join-changed x x' up_x a)) ∙ left x (changed x x') (changed y y')
+      both_more : F x' d ≡ join (F x d) (F c d)
+      both_more = ap (λ (z : List Row). F z d) (sym e) ∙ left x c d
+
+pub product-grown : (x c x' y d y' : List Row) → join x c ≡ x' → join y d ≡ y' → product_set x' y' ≡ join (product_set x y) (join (product_set c y') (product_set x' d))
+product-grown = grown-by product_set product-join_left product-join_right
+
+pub intersect-grown : (x c x' y d y' : List Row) → join x c ≡ x' → join y d ≡ y' → intersect_set x' y' ≡ join (intersect_set x y) (join (intersect_set c y') (intersect_set x' d))
+intersect-grown = grown-by intersect_set intersect-join_left intersect-join_right
+
+-- by the changed rows
+
+pub filter-increment : (p : Val → Bool) (x x' : List Row) → IsAscending x → IsAscending x' → IsAtMost x x' → filter_set p x' ≡ join (filter_set p x) (filter_set p (changed x x'))
+filter-increment p x x' up up' a = filter-grown p x (changed x x') x' up (ascending-changed x x' up') (join-changed x x' up' a)
+
+pub map-increment : (f : Val → Val) (x x' : List Row) → IsAscending x' → IsAtMost x x' → map_set f x' ≡ join (map_set f x) (map_set f (changed x x'))
+map-increment f x x' up a = map-grown f x (changed x x') x' (join-changed x x' up a)
+
+pub union-increment : (x x' y y' : List Row) → IsAscending x' → IsAscending y' → IsAtMost x x' → IsAtMost y y' → union_set x' y' ≡ join (union_set x y) (join (changed x x') (changed y y'))
+union-increment x x' y y' up_x up_y a b = union-grown x (changed x x') x' y (changed y y') y' (join-changed x x' up_x a) (join-changed y y' up_y b)
 
 pub product-increment : (x x' y y' : List Row) → IsAscending x' → IsAscending y' → IsAtMost x x' → IsAtMost y y'
     → product_set x' y' ≡ join (product_set x y) (join (product_set (changed x x') y') (product_set x' (changed y y')))
-product-increment = increment-by product_set product-join_left product-join_right
+product-increment x x' y y' up_x up_y a b = product-grown x (changed x x') x' y (changed y y') y' (join-changed x x' up_x a) (join-changed y y' up_y b)
 
 pub intersect-increment : (x x' y y' : List Row) → IsAscending x' → IsAscending y' → IsAtMost x x' → IsAtMost y y'
     → intersect_set x' y' ≡ join (intersect_set x y) (join (intersect_set (changed x x') y') (intersect_set x' (changed y y')))
-intersect-increment = increment-by intersect_set intersect-join_left intersect-join_right
+intersect-increment x x' y y' up_x up_y a b = intersect-grown x (changed x x') x' y (changed y y') y' (join-changed x x' up_x a) (join-changed y y' up_y b)
 
 pub ruleset monotone = (map-monotone, filter-monotone, join-monotone, product-monotone, intersect-monotone)
 

@@ -1,14 +1,19 @@
 -- The laws of folds.
-use Rattle.std.proofs.Common.{◌≡◌, ◌≢◌, ℕ, ◌≤◌, Bool, true, false, cond, not, ◌&&◌, if◌then◌else◌, ◌==◌, IsTrue, List, [], ◌∷◌, filter, fold, refl, sym, ap, subst, ◌∙◌, arith}
+use Rattle.std.proofs.Common.{◌≡◌, ◌≢◌, ℕ, ◌≤◌, Bool, true, false, cond, not, ◌&&◌, if◌then◌else◌, ◌==◌, IsTrue, List, [], ◌∷◌, map, filter, fold, refl, sym, ap, subst, ◌∙◌, arith}
 use Rattle.std.proofs.lemmas.Bool.Decides.{nat_tests}
 use Rattle.model_values.specs.Value.{Val}
-use Rattle.model_sets.specs.Values.{held, IsHeld, AreAscending}
-use Rattle.model_sets.specs.Folds.{IsFoldGroup, fold_of, lacking, corrected}
-use Rattle.model_sets.proofs.ValueLaws.{held-small, same_from_held}
-use Rattle.model_sets.proofs.AlgebraLaws.{held-filter, ascending-filter}
+use Rattle.model_values.specs.Row.{Row}
+use Rattle.model_sets.specs.Rows.{IsAscending, IsAtMost}
+use Rattle.model_sets.specs.Values.{held, IsHeld, AreAscending, visible, row_values}
+use Rattle.model_sets.specs.Equations.{changed}
+use Rattle.model_sets.specs.Folds.{IsFoldGroup, AreLifted, fold_of, fold_set, lacking, corrected}
+use Rattle.model_sets.proofs.ValueLaws.{held-small, same_from_held, ascending-visible, ascending-of_values}
+use Rattle.model_sets.proofs.AlgebraLaws.{held-here, IsHeld-filter, held-filter, ascending-filter}
+use Rattle.model_sets.proofs.UpdateLaws.{changed-values}
 
+-- Where every lift is a member.
 module _ {A : Type 0} {member : A → Bool} {op : A → A → A} {neutral : A} {inverse : A → A} (g : IsFoldGroup member op neutral inverse) (lift : Val → A) (lifted : (v : Val) → IsTrue (member (lift v))) where
-  abbrev pub IsMember : A → Type 0
+  abbrev IsMember : A → Type 0
   IsMember a = IsTrue (member a)
 
   -- the lifts combined from the last on
@@ -30,7 +35,7 @@ module _ {A : Type 0} {member : A → Bool} {op : A → A → A} {neutral : A} {
   fold-total : (s : List Val) → fold_of op neutral lift s ≡ total s
   fold-total s = fold-from neutral g.neutral_in s ∙ neutral_left (total s) (total-in s)
 
-  pub fold-in : (s : List Val) → IsMember (fold_of op neutral lift s)
+  fold-in : (s : List Val) → IsMember (fold_of op neutral lift s)
   fold-in s = subst IsMember (sym (fold-total s)) (total-in s)
 
   -- a member moved past another
@@ -81,9 +86,9 @@ module _ {A : Type 0} {member : A → Bool} {op : A → A → A} {neutral : A} {
       ∙ ap (λ d. op (op d (inverse (total (lacking t s)))) (total (lacking s t))) (sym (both-parts s t))
 
   -- The fold of t is that of s, without what t lacks, with what s lacks.
-  pub fold-change : (s t : List Val) → AreAscending s → AreAscending t
+  fold-change-all : (s t : List Val) → AreAscending s → AreAscending t
       → fold_of op neutral lift t ≡ op (op (fold_of op neutral lift s) (inverse (fold_of op neutral lift (lacking t s)))) (fold_of op neutral lift (lacking s t))
-  fold-change s t up_s up_t =
+  fold-change-all s t up_s up_t =
       fold-total t ∙ total-change s t up_s up_t ∙ sym (λ i. op (op (fold-total s i) (inverse (fold-total (lacking t s) i))) (fold-total (lacking s t) i))
 
   inverse-neutral : inverse neutral ≡ neutral
@@ -132,9 +137,67 @@ module _ {A : Type 0} {member : A → Bool} {op : A → A → A} {neutral : A} {
         same m n k p q h false e = let one : k ≡ 1 = h (grind (arith, nat_tests, e)) in grind (arith, nat_tests, p, q, e, one)
 
   -- A fold corrected along an ascending list that has every value that only one of the two sets has.
-  pub fold-corrected : (s t vs : List Val) → AreAscending s → AreAscending t → AreAscending vs → ((v : Val) → held s v ≢ held t v → IsHeld vs v)
+  fold-corrected-all : (s t vs : List Val) → AreAscending s → AreAscending t → AreAscending vs → ((v : Val) → held s v ≢ held t v → IsHeld vs v)
       → fold (corrected op inverse lift s t) (fold_of op neutral lift s) vs ≡ fold_of op neutral lift t
-  fold-corrected s t vs up_s up_t up_vs all =
+  fold-corrected-all s t vs up_s up_t up_vs all =
       along s t (fold_of op neutral lift s) (fold-in s) vs
       ∙ (λ i. op (op (fold_of op neutral lift s) (inverse (total (only-there s t vs up_s up_vs all i)))) (total (only-there t s vs up_t up_vs (λ v e. all v (λ h. e (sym h))) i)))
       ∙ (λ i. op (op (fold-total s i) (inverse (total (lacking t s)))) (total (lacking s t))) ∙ sym (fold-total t ∙ total-change s t up_s up_t)
+
+-- Where the lifts of the values concerned are members: any other lift counts for nothing, so the neutral element may stand in its place.
+module _ {A : Type 0} {member : A → Bool} {op : A → A → A} {neutral : A} {inverse : A → A} (g : IsFoldGroup member op neutral inverse) (lift : Val → A) where
+  abbrev tame : Val → A
+  tame v = if member (lift v) then lift v else neutral
+
+  tame-in : (v : Val) → IsTrue (member (tame v))
+  tame-in v = choose (member (lift v)) refl where
+    choose : (b : Bool) → member (lift v) ≡ b → IsTrue (member (if b then lift v else neutral))
+    choose true e = e
+    choose false e = g.neutral_in
+
+  same-lift : (v : Val) → IsTrue (member (lift v)) → lift v ≡ tame v
+  same-lift v m = sym (ap (λ b. if b then lift v else neutral) m)
+
+  fold-tame : (a : A) (s : List Val) → AreLifted member lift s → fold (λ b v. op b (lift v)) a s ≡ fold (λ b v. op b (tame v)) a s
+  fold-tame a [] h = refl
+  fold-tame a (v ∷ s) h =
+      fold-tame (op a (lift v)) s (λ w k. h w (omega (arith, k, held-small (v ∷ s) w)))
+      ∙ ap (λ b. fold (λ c w. op c (tame w)) (op a b) s) (same-lift v (h v (omega (arith, held-here v, held-small s v))))
+
+  corrected-tame : (s t : List Val) → AreLifted member lift s → AreLifted member lift t → (a : A) (v : Val) → corrected op inverse lift s t a v ≡ corrected op inverse tame s t a v
+  corrected-tame s t hs ht a v = choose (held s v == held t v) refl where
+    choose : (b : Bool) → (held s v == held t v) ≡ b
+        → (if b then a else (if held s v == 0 then op a (lift v) else op a (inverse (lift v)))) ≡ (if b then a else (if held s v == 0 then op a (tame v) else op a (inverse (tame v))))
+    choose true e = refl
+    choose false e = ap (λ b. if held s v == 0 then op a b else op a (inverse b)) (same-lift v (either (held s v == 1) refl)) where
+      either : (b : Bool) → (held s v == 1) ≡ b → IsTrue (member (lift v))
+      either true k = hs v (grind (arith, nat_tests, k))
+      either false k = ht v (grind (arith, nat_tests, k, e, held-small s v, held-small t v))
+
+  along-tame : (s t : List Val) → AreLifted member lift s → AreLifted member lift t → (a : A) (vs : List Val) → fold (corrected op inverse lift s t) a vs ≡ fold (corrected op inverse tame s t) a vs
+  along-tame s t hs ht a [] = refl
+  along-tame s t hs ht a (v ∷ vs) =
+      along-tame s t hs ht (corrected op inverse lift s t a v) vs ∙ ap (λ b. fold (corrected op inverse tame s t) b vs) (corrected-tame s t hs ht a v)
+
+  lifted-lacking : (s t : List Val) → AreLifted member lift t → AreLifted member lift (lacking s t)
+  lifted-lacking s t h v k = h v ((IsHeld-filter (λ w. held s w == 0) t v).0 k).1
+
+  -- The fold of t is that of s, without what t lacks, with what s lacks.
+  pub fold-change : (s t : List Val) → AreLifted member lift s → AreLifted member lift t → AreAscending s → AreAscending t
+      → fold_of op neutral lift t ≡ op (op (fold_of op neutral lift s) (inverse (fold_of op neutral lift (lacking t s)))) (fold_of op neutral lift (lacking s t))
+  fold-change s t hs ht up_s up_t =
+      fold-tame neutral t ht ∙ fold-change-all g tame tame-in s t up_s up_t
+      ∙ sym (λ i. op (op (fold-tame neutral s hs i) (inverse (fold-tame neutral (lacking t s) (lifted-lacking t s hs) i))) (fold-tame neutral (lacking s t) (lifted-lacking s t ht) i))
+
+  -- A fold corrected along an ascending list that has every value that only one of the two sets has.
+  pub fold-corrected : (s t vs : List Val) → AreLifted member lift s → AreLifted member lift t → AreAscending s → AreAscending t → AreAscending vs → ((v : Val) → held s v ≢ held t v → IsHeld vs v)
+      → fold (corrected op inverse lift s t) (fold_of op neutral lift s) vs ≡ fold_of op neutral lift t
+  fold-corrected s t vs hs ht up_s up_t up_vs all =
+      along-tame s t hs ht (fold_of op neutral lift s) vs ∙ ap (λ a. fold (corrected op inverse tame s t) a vs) (fold-tame neutral s hs)
+      ∙ fold-corrected-all g tame tame-in s t vs up_s up_t up_vs all ∙ sym (fold-tame neutral t ht)
+
+  -- The fold of a set state that grew, corrected along the values of its changed rows alone.
+  pub fold-rows : (s t : List Row) → AreLifted member lift (visible s) → AreLifted member lift (visible t) → IsAscending s → IsAscending t → IsAtMost s t
+      → fold (corrected op inverse lift (visible s) (visible t)) (fold_set op neutral lift s) (row_values (changed s t)) ≡ fold_set op neutral lift t
+  fold-rows s t hs ht up_s up_t h =
+      fold-corrected (visible s) (visible t) (row_values (changed s t)) hs ht (ascending-visible s) (ascending-visible t) (ascending-of_values (map (λ r. r.0.0) (changed s t))) (changed-values s t up_s up_t h)

@@ -12,10 +12,10 @@ use Rattle.model_sets.proofs.ValueLaws.{held-small}
 use Rattle.model_sets.proofs.EquationLaws.{tied_key}
 use Rattle.model_sets.proofs.AlgebraLaws.{held-here, same-value}
 
-le-from-test : (m n : ℕ) → IsTrue (nat_le m n) → m ≤ n
+pub le-from-test : (m n : ℕ) → IsTrue (nat_le m n) → m ≤ n
 le-from-test m n h = grind (arith, nat_tests, h)
 
-test-from-le : (m n : ℕ) → m ≤ n → IsTrue (nat_le m n)
+pub test-from-le : (m n : ℕ) → m ≤ n → IsTrue (nat_le m n)
 test-from-le m n h = grind (arith, nat_tests, h)
 
 at_most-from-test : (s t : List Row) → IsTrue (is_at_most s t) → IsAtMost s t

@@ -9,7 +9,7 @@ use Rattle.model_values.specs.Value.{Val, val_cmp, val_exact, val_total}
 use Rattle.model_values.specs.Token.{Tok, single}
 use Rattle.model_values.specs.Row.{Key, Row, key_cmp, key_exact}
 use Rattle.model_sets.specs.Rows.{level, row_mark, mark, HasRow, IsAscending, join, IsAtMost, is_of, buried, add_delta, remove_delta}
-use Rattle.model_sets.specs.Values.{is_value, held, IsHeld, of_values, visible}
+use Rattle.model_sets.specs.Values.{is_value, held, IsHeld, visible, row_values}
 use Rattle.model_sets.specs.Equations.{changed}
 use Rattle.model_sets.specs.Algebra.{IsLive}
 use Rattle.model_sets.proofs.RowLaws.{and-left, and-right, and-both, is-Equal, mark-join, ascending-join}
@@ -173,7 +173,7 @@ changed-none : (m n c : ℕ) → m ≤ n → c ≡ (if nat_lt m n then n else 0)
 changed-none m n c a e z = grind (arith, nat_tests, a, e, z)
 
 -- A value that only one of a state and a greater one shows is among the values of the changed rows.
-pub changed-values : (s t : List Row) → IsAscending s → IsAscending t → IsAtMost s t → (v : Val) → held (visible s) v ≢ held (visible t) v → IsHeld (of_values (map (λ r. r.0.0) (changed s t))) v
+pub changed-values : (s t : List Row) → IsAscending s → IsAscending t → IsAtMost s t → (v : Val) → held (visible s) v ≢ held (visible t) v → IsHeld (row_values (changed s t)) v
 changed-values s t up_s up_t a v differ = held-of_values (map (λ r. r.0.0) (changed s t)) v ∙ choose (held (map (λ r. r.0.0) (changed s t)) v == 1) refl where
   choose : (b : Bool) → (held (map (λ r. r.0.0) (changed s t)) v == 1) ≡ b → held (map (λ r. r.0.0) (changed s t)) v ≡ 1
   choose true e = grind (arith, nat_tests, e)

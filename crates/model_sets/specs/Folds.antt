@@ -2,7 +2,7 @@
 use Rattle.std.specs.Prelude.{◌≡◌, ◌==◌, Bool, if◌then◌else◌, IsTrue, List, filter, fold}
 use Rattle.model_values.specs.Value.{Val}
 use Rattle.model_values.specs.Row.{Row}
-use Rattle.model_sets.specs.Values.{held, visible}
+use Rattle.model_sets.specs.Values.{held, IsHeld, visible}
 
 -- What an operation on members is: associative and commutative, with a neutral element and inverses.
 pub record IsFoldGroup {A : Type 0} (member : A → Bool) (op : A → A → A) (neutral : A) (inverse : A → A) : Type 0 where
@@ -13,6 +13,10 @@ pub record IsFoldGroup {A : Type 0} (member : A → Bool) (op : A → A → A) (
   pub commutative : (a b : A) → IsTrue (member a) → IsTrue (member b) → op a b ≡ op b a
   pub neutral_right : (a : A) → IsTrue (member a) → op a neutral ≡ a
   pub inverse_right : (a : A) → IsTrue (member a) → op a (inverse a) ≡ neutral
+
+-- The lift of each value of the list is a member.
+abbrev pub AreLifted : {A : Type 0} → (A → Bool) → (Val → A) → List Val → Type 0
+AreLifted member lift s = (v : Val) → IsHeld s v → IsTrue (member (lift v))
 
 -- The lifts of the values, combined in list order from the neutral element on.
 abbrev pub fold_of : {A : Type 0} → (A → A → A) → A → (Val → A) → List Val → A

@@ -51,3 +51,7 @@ live_values s = map (λ r. r.0.0) (filter (λ r. not r.1) s)
 -- The values that have a live row, ascending, each once.
 abbrev pub visible : List Row → List Val
 visible s = of_values (live_values s)
+
+-- The values of the rows, live or dead, ascending, each once.
+abbrev pub row_values : List Row → List Val
+row_values s = of_values (map (λ r. r.0.0) s)

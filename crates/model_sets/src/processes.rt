@@ -1,11 +1,11 @@
 //! The five processes over set states: which rows they give, that they only grow, and that they may be followed by what changed.
 
-ghost use Rattle.std.specs.Prelude.{◌≡◌, ◌≢◌, map, ℕ, IsTrue, Bool, List, ◌↔◌, ◌⊎◌, nat_lt, if◌then◌else◌};
+ghost use Rattle.std.specs.Prelude.{◌≡◌, ◌≢◌, ℕ, IsTrue, Bool, List, ◌↔◌, ◌⊎◌, nat_lt, if◌then◌else◌};
 ghost use Rattle.model_values.specs.Value.{Val, pair};
 ghost use Rattle.model_values.specs.Token.{Tok, both};
 ghost use Rattle.model_values.specs.Row.{Row};
 ghost use Rattle.model_sets.specs.Rows.{mark, HasRow, IsDeadIn, IsAscending, join, IsAtMost};
-ghost use Rattle.model_sets.specs.Values.{held, IsHeld, of_values, visible};
+ghost use Rattle.model_sets.specs.Values.{held, IsHeld, row_values, visible};
 ghost use Rattle.model_sets.specs.Equations.{map_set, filter_set, union_set, product_set, intersect_set, changed};
 
 /// Which rows each process gives, and which of them are dead.
@@ -57,7 +57,7 @@ pub fn what_changed_is_what_is_more()
 /// A value that only one of a state and a greater one shows is among the values of the changed rows.
 #[tactic(auto, using(crate::proofs::UpdateLaws::change_values))]
 pub fn changed_rows_have_what_is_shown_anew()
-    ensures values { (s t : List Row) → IsAscending s → IsAscending t → IsAtMost s t → (v : Val) → held (visible s) v ≢ held (visible t) v → IsHeld (of_values (map (λ r. r.0.0) (changed s t))) v }
+    ensures values { (s t : List Row) → IsAscending s → IsAscending t → IsAtMost s t → (v : Val) → held (visible s) v ≢ held (visible t) v → IsHeld (row_values (changed s t)) v }
 {}
 
 /// A process over greater inputs is what it was, joined with what the changed rows give.

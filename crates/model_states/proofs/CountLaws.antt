@@ -4,6 +4,7 @@ use Rattle.std.proofs.lemmas.Bool.Decides.{nat_tests}
 use Rattle.std.proofs.lemmas.List.{length-set, get_or-set_same, get_or-set_other}
 use Rattle.std.proofs.lemmas.List.Sums.{sum_by-cons}
 use Rattle.model_sets.proofs.RowLaws.{and-left, and-right, and-both}
+use Rattle.model_sets.proofs.TestLaws.{le-from-test, test-from-le}
 use Rattle.model_states.specs.Counts.{count_max, count_at, zeros, larger, AreCountsAtMost, are_counts_at_most, inc_delta}
 
 pub count_at-larger : (s t : List ℕ) (node : ℕ) → count_at (larger s t) node ≡ max (count_at s node) (count_at t node)
@@ -52,12 +53,6 @@ pub larger-at_most : (s t : List ℕ) → length s ≤ length t → AreCountsAtM
 larger-at_most s t e a = same_from_counts (larger s t) t (omega (arith, e, length-larger s t)) (λ node. omega (arith, count_at-larger s t node, a node))
 
 -- ---- the test
-
-le-from-test : (m n : ℕ) → IsTrue (nat_le m n) → m ≤ n
-le-from-test m n h = grind (arith, nat_tests, h)
-
-test-from-le : (m n : ℕ) → m ≤ n → IsTrue (nat_le m n)
-test-from-le m n h = grind (arith, nat_tests, h)
 
 counts-from-test : (s t : List ℕ) → IsTrue (are_counts_at_most s t) → AreCountsAtMost s t
 counts-from-test [] t h node = omega arith

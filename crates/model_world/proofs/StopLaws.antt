@@ -8,7 +8,8 @@ use Rattle.model_world.specs.World.{Peer, Run, Point, act, step, play, point_fro
 use Rattle.model_world.specs.Stops.{IsAfter, none, more, Halts, StopsAt, EndsAt}
 use Rattle.model_world.specs.declared.stop.Stop.{Stop}
 
-shifted : (c n : ℕ) → (c + 1) + n ≡ c + suc n
+-- command numbers, counted on
+pub shifted : (c n : ℕ) → (c + 1) + n ≡ c + suc n
 shifted c n = omega arith
 
 later-stop : (c : ℕ) (run next : Run) (k : Command) (rest : List Command) (stop : Stop) → step c run k ≡ Ok next → StopsAt (c + 1) next rest stop → StopsAt c run (k ∷ rest) stop

@@ -1,5 +1,5 @@
 -- Which commands may follow which: what a script has to be so that each of its commands means something.
-use Rattle.std.specs.Prelude.{◌≡◌, ℕ, ◌+◌, ◌<◌, ◌≤◌, IsTrue, List, [], ◌∷◌, ◌++◌, length, slice_index_or, FitsSigned}
+use Rattle.std.specs.Prelude.{◌≡◌, ℕ, ◌+◌, ◌^◌, ◌<◌, ◌≤◌, Bool, true, false, IsTrue, List, [], ◌∷◌, ◌++◌, length, filter, slice_index_or, FitsSigned}
 use mir.Syntax.{w64}
 use Rattle.model_values.specs.Value.{Val}
 use Rattle.model_values.specs.Size.{IsOfWidth, HasSmallInts}
@@ -75,3 +75,54 @@ pub record IsLawful (g : List Decl) (script : Script) : Type 0 where
   pub some : 1 ≤ script.nodes
   pub few : length script.commands ≤ 100000
   pub each : AreLawful script.nodes (opening_stage g) script.commands
+
+-- ---- limits
+
+-- the most nodes, and the most marks and the most reads
+abbrev pub node_limit : ℕ
+node_limit = 8
+
+abbrev pub mark_limit : ℕ
+mark_limit = 1000
+
+abbrev pub read_limit : ℕ
+read_limit = 1000
+
+abbrev pub is_mark : Command → Bool
+is_mark (command.Mark p x) = true
+is_mark _ = false
+
+abbrev pub is_read : Command → Bool
+is_read (command.Read p x until) = true
+is_read _ = false
+
+abbrev pub AreSourceValues : List Val → Type 0
+AreSourceValues [] = Unit {0}
+AreSourceValues (v ∷ vs) = IsSourceValue v × AreSourceValues vs
+
+-- a threshold has a number of 64 bits, and values that a source may be given
+abbrev pub IsSmallUntil : Until → Type 0
+IsSmallUntil (command.AtLeast m) = Unit {0}
+IsSmallUntil (command.Above m) = Unit {0}
+IsSmallUntil (command.Count k) = k < 2 ^ 64
+IsSmallUntil (command.Added vs) = AreSourceValues vs
+IsSmallUntil (command.Removed vs) = AreSourceValues vs
+
+-- what a command asks for is small
+abbrev pub AsksSmall : Command → Type 0
+AsksSmall (command.Read p x until) = IsSmallUntil until
+AsksSmall (command.Await p x until) = IsSmallUntil until
+AsksSmall _ = Unit {0}
+
+abbrev pub AskSmall : List Command → Type 0
+AskSmall [] = Unit {0}
+AskSmall (k ∷ rest) = AsksSmall k × AskSmall rest
+
+-- the limits of a script; the laws hold of lawful scripts past them, too
+pub record IsWithinLimits (script : Script) : Type 0 where
+  pub nodes : script.nodes ≤ node_limit
+  -- the command that tells the nodes is the first of 100,000
+  pub few : length script.commands < 100000
+  pub marks : length (filter is_mark script.commands) ≤ mark_limit
+  pub reads : length (filter is_read script.commands) ≤ read_limit
+  pub asked : AskSmall script.commands

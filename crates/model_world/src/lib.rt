@@ -4,5 +4,5 @@
 mod laws;
 mod stop;
 
-pub use laws::runs_stop_at_their_first_stop;
+pub use laws::{points_and_deliveries_stop_at_what_is_too_large, runs_stop_at_their_first_stop};
 pub use stop::Stop;

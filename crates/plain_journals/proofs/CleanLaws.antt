@@ -1,15 +1,16 @@
 -- The program's test of clean variables.
-use Rattle.std.proofs.Common.{◌≡◌, ℕ, suc, ◌+◌, min, ◌↔◌, inl, inr, Bool, true, false, ◌&&◌, ◌==◌, not, if◌then◌else◌, IsTrue, List, length, refl, sym, ap, subst, ◌∙◌, arith}
-use Rattle.std.proofs.lemmas.Bool.Decides.{nat_tests}
-use Rattle.model_sets.proofs.RowLaws.{and-left, and-right, and-both}
+use Rattle.std.proofs.Common.{◌≡◌, ℕ, suc, ◌+◌, min, ◌↔◌, ◌⊎◌, inl, inr, Bool, true, false, not, if◌then◌else◌, IsTrue, List, length, refl, sym, ap, subst, ◌∙◌, arith}
 use Rattle.model_states.specs.Content.{is_content_at_most}
-use Rattle.model_graph.specs.Graph.{Kind, Union, IsInput, kind_at}
+use Rattle.model_functions.specs.Map.{MapOp}
+use Rattle.model_functions.specs.Predicate.{PredOp}
+use Rattle.model_functions.specs.Lift.{LiftOp}
+use Rattle.model_graph.specs.Graph.{Kind, Union, Product, Intersection, Map, Filter, Fold, FoldOp, IsInput, kind_at}
 use Rattle.model_graph.specs.Evaluation.{content_at}
 use Rattle.model_graph.proofs.PlaceLaws.{at-past, map-length}
 use Rattle.model_journal.specs.Entry.{Entry, Frame}
 use Rattle.model_journal.specs.Journal.{Snapshot, journal}
 use Rattle.model_journal.specs.Clean.{version, IsClean}
-use Rattle.plain_journals.specs.Kept.{Kept, kept_of, stood, growths, read_by}
+use Rattle.plain_journals.specs.Kept.{Kept, kept_of, stood, growths, HasApplied}
 use Rattle.plain_journals.proofs.KeptLaws.{versions-are, reads-are}
 
 -- ---- one more entry
@@ -33,9 +34,6 @@ still-step k x i e = growths-next k x i ∙ choose (is_content_at_most (content_
 
 -- ---- clean
 
-abbrev HasApplied : Kept → ℕ → ℕ → Type 0
-HasApplied k y x = read_by k k.binds y x ≡ growths k x (length k.past)
-
 abbrev HasAppliedAll : ℕ → Kept → Type 0
 HasAppliedAll y k = (x : ℕ) → IsInput (kind_at k.graph y) x → HasApplied k y x
 
@@ -55,35 +53,60 @@ clean-kept X entries k is y = (
 pub clean-source : (X : Frame) (entries : List Entry) (k : Kept) → k ≡ kept_of X (journal X entries) → (y : ℕ) (kind : Kind) → kind ≡ kind_at k.graph y → ((x : ℕ) → IsInput kind x → ⊥) → IsTrue true ↔ IsClean X entries y
 clean-source X entries k is y kind e none = (λ t. (clean-kept X entries k is y).1 (λ x i. absurd (none x (subst (λ (c : Kind). IsInput c x) (sym e) i))), λ clean. refl)
 
-equal-test : (m n : ℕ) → IsTrue (m == n) ↔ (m ≡ n)
-equal-test m n = (there, back) where
-  there : (m == n) ≡ true → m ≡ n
-  there h = grind (arith, nat_tests, h)
+pub both-ways : {A B C : Type 0} → (A ↔ B) → (B ↔ C) → (A ↔ C)
+both-ways p q = (λ a. q.0 (p.0 a), λ c. p.1 (q.1 c))
 
-  back : m ≡ n → (m == n) ≡ true
-  back h = grind (arith, nat_tests, h)
+-- each input is the one or the other
+abbrev HasInputs : Kind → ℕ → ℕ → Type 0
+HasInputs kind a b = (x : ℕ) → IsInput kind x ↔ ((x ≡ a) ⊎ (x ≡ b))
 
-pub clean-union : (X : Frame) (entries : List Entry) (k : Kept) → k ≡ kept_of X (journal X entries) → (y a b : ℕ) → Union a b ≡ kind_at k.graph y → (first second : Bool) → first ≡ (read_by k k.binds y a == growths k a (length k.past)) → second ≡ (read_by k k.binds y b == growths k b (length k.past))
-    → IsTrue (first && second) ↔ IsClean X entries y
-clean-union X entries k is y a b e first second f s = (there, back) where
-  left : IsTrue first ↔ HasApplied k y a
-  left = (λ t. (equal-test (read_by k k.binds y a) (growths k a (length k.past))).0 (sym f ∙ t), λ h. f ∙ (equal-test (read_by k k.binds y a) (growths k a (length k.past))).1 h)
+clean-inputs : (X : Frame) (entries : List Entry) (k : Kept) → k ≡ kept_of X (journal X entries) → (y : ℕ) (kind : Kind) (a b : ℕ) → kind ≡ kind_at k.graph y → HasInputs kind a b → (HasApplied k y a × HasApplied k y b) ↔ IsClean X entries y
+clean-inputs X entries k is y kind a b e inputs = (there, back) where
+  input : HasApplied k y a × HasApplied k y b → (x : ℕ) → (x ≡ a) ⊎ (x ≡ b) → HasApplied k y x
+  input p x (inl h) = subst (λ (z : ℕ). HasApplied k y z) (sym h) p.0
+  input p x (inr h) = subst (λ (z : ℕ). HasApplied k y z) (sym h) p.1
 
-  right : IsTrue second ↔ HasApplied k y b
-  right = (λ t. (equal-test (read_by k k.binds y b) (growths k b (length k.past))).0 (sym s ∙ t), λ h. s ∙ (equal-test (read_by k k.binds y b) (growths k b (length k.past))).1 h)
+  there : HasApplied k y a × HasApplied k y b → IsClean X entries y
+  there p = (clean-kept X entries k is y).1 (λ x i. input p x ((inputs x).0 (subst (λ (c : Kind). IsInput c x) (sym e) i)))
 
-  input : HasApplied k y a → HasApplied k y b → (x : ℕ) → IsInput (Union a b) x → HasApplied k y x
-  input p q x (inl h) = subst (λ (z : ℕ). HasApplied k y z) (sym h) p
-  input p q x (inr h) = subst (λ (z : ℕ). HasApplied k y z) (sym h) q
-
-  there : IsTrue (first && second) → IsClean X entries y
-  there t = (clean-kept X entries k is y).1 (λ x i. input (left.0 (and-left first second t)) (right.0 (and-right first second t)) x (subst (λ (c : Kind). IsInput c x) (sym e) i))
-
-  back : IsClean X entries y → IsTrue (first && second)
+  back : IsClean X entries y → HasApplied k y a × HasApplied k y b
   back clean =
       let all = (clean-kept X entries k is y).0 clean in
-      and-both first second (left.1 (all a (subst (λ (c : Kind). IsInput c a) e (inl refl)))) (right.1 (all b (subst (λ (c : Kind). IsInput c b) e (inr refl))))
+      let here : (x : ℕ) → IsInput kind x → IsInput (kind_at k.graph y) x = λ x i. subst (λ (c : Kind). IsInput c x) e i in
+      (all a (here a ((inputs a).1 (inl refl))), all b (here b ((inputs b).1 (inr refl))))
+
+one-input : (k : Kept) (y a : ℕ) → HasApplied k y a ↔ (HasApplied k y a × HasApplied k y a)
+one-input k y a = (λ h. (h, h), λ p. p.0)
+
+same-place : (x a : ℕ) → (x ≡ a) ↔ ((x ≡ a) ⊎ (x ≡ a))
+same-place x a = (inl, either) where
+  either : (x ≡ a) ⊎ (x ≡ a) → x ≡ a
+  either (inl h) = h
+  either (inr h) = h
+
+-- so a variable of two inputs is clean where it applied both
+pub clean-union : (X : Frame) (entries : List Entry) (k : Kept) → k ≡ kept_of X (journal X entries) → (y a b : ℕ) → Union a b ≡ kind_at k.graph y → (HasApplied k y a × HasApplied k y b) ↔ IsClean X entries y
+clean-union X entries k is y a b e = clean-inputs X entries k is y (Union a b) a b e (λ x. (λ i. i, λ i. i))
+
+pub clean-product : (X : Frame) (entries : List Entry) (k : Kept) → k ≡ kept_of X (journal X entries) → (y a b : ℕ) → Product a b ≡ kind_at k.graph y → (HasApplied k y a × HasApplied k y b) ↔ IsClean X entries y
+clean-product X entries k is y a b e = clean-inputs X entries k is y (Product a b) a b e (λ x. (λ i. i, λ i. i))
+
+pub clean-intersection : (X : Frame) (entries : List Entry) (k : Kept) → k ≡ kept_of X (journal X entries) → (y a b : ℕ) → Intersection a b ≡ kind_at k.graph y → (HasApplied k y a × HasApplied k y b) ↔ IsClean X entries y
+clean-intersection X entries k is y a b e = clean-inputs X entries k is y (Intersection a b) a b e (λ x. (λ i. i, λ i. i))
+
+-- and one of one input where it applied that
+clean-one : (X : Frame) (entries : List Entry) (k : Kept) → k ≡ kept_of X (journal X entries) → (y : ℕ) (kind : Kind) (a : ℕ) → kind ≡ kind_at k.graph y → ((x : ℕ) → IsInput kind x ↔ (x ≡ a)) → HasApplied k y a ↔ IsClean X entries y
+clean-one X entries k is y kind a e input =
+    let both = clean-inputs X entries k is y kind a a e (λ x. (λ i. (same-place x a).0 ((input x).0 i), λ h. (input x).1 ((same-place x a).1 h))) in
+    (λ h. both.0 ((one-input k y a).0 h), λ clean. (one-input k y a).1 (both.1 clean))
+
+pub clean-map : (X : Frame) (entries : List Entry) (k : Kept) → k ≡ kept_of X (journal X entries) → (y a place : ℕ) (ops : List MapOp) → Map a place ops ≡ kind_at k.graph y → HasApplied k y a ↔ IsClean X entries y
+clean-map X entries k is y a place ops e = clean-one X entries k is y (Map a place ops) a e (λ x. (λ i. i, λ i. i))
+
+pub clean-filter : (X : Frame) (entries : List Entry) (k : Kept) → k ≡ kept_of X (journal X entries) → (y a place : ℕ) (ops : List PredOp) → Filter a place ops ≡ kind_at k.graph y → HasApplied k y a ↔ IsClean X entries y
+clean-filter X entries k is y a place ops e = clean-one X entries k is y (Filter a place ops) a e (λ x. (λ i. i, λ i. i))
+
+pub clean-fold : (X : Frame) (entries : List Entry) (k : Kept) → k ≡ kept_of X (journal X entries) → (y a place : ℕ) (op : FoldOp) (lift : LiftOp) → Fold a op place lift ≡ kind_at k.graph y → HasApplied k y a ↔ IsClean X entries y
+clean-fold X entries k is y a place op lift e = clean-one X entries k is y (Fold a op place lift) a e (λ x. (λ i. i, λ i. i))
 
 pub ruleset growth_steps = (grown-step, still-step)
-
-pub ruleset clean_tests = (clean-source, clean-union)

@@ -9,8 +9,9 @@ use Rattle.model_journal.specs.Entry.{Act, Update, Deliver, Bind, Extend, Entry,
 use Rattle.model_journal.specs.Journal.{Snapshot, Journal, snapshot_at, opened, contents_after, graph_after, counts_after, binds_after, next, run, start, journal}
 use Rattle.model_journal.specs.Clean.{greatest_read}
 use Rattle.model_journal.proofs.PlaceLaws.{at-kept}
-use Rattle.model_journal.proofs.JournalLaws.{journal-push}
-use Rattle.plain_journals.specs.Kept.{Kept, kept_of, stood, kept_gain, kept_counts, kept_next, growths_of, growths, read_by}
+use Rattle.model_journal.proofs.JournalLaws.{journal-push, journal-past}
+use Rattle.plain_journals.specs.declared.journal.Journal as plain
+use Rattle.plain_journals.specs.Kept.{Kept, kept_of, has, IsJournalOf, stood, kept_gain, kept_counts, kept_next, growths_of, growths, read_by}
 
 map-push : (past : List Snapshot) (now : Snapshot) → map (λ s. s.contents) (past ++ now ∷ []) ≡ map (λ s. s.contents) past ++ now.contents ∷ []
 map-push [] now = refl
@@ -51,6 +52,15 @@ kept-next X j e = λ i. record {
 pub kept-push : (X : Frame) (entries : List Entry) (e : Entry) (old new : Kept) → old ≡ kept_of X (journal X entries) → new ≡ kept_next old e.act → new ≡ kept_of X (journal X (entries ++ e ∷ []))
 kept-push X entries e old new before after =
     after ∙ ap (λ (k : Kept). kept_next k e.act) before ∙ sym (kept-next X (journal X entries) e) ∙ ap (λ (j : Journal). kept_of X j) (sym (journal-push X entries e))
+
+-- as many contents are past as there were entries
+kept-length : (X : Frame) (entries : List Entry) (k : Kept) → k ≡ kept_of X (journal X entries) → length k.past ≡ length entries
+kept-length X entries k is = ap (λ (z : Kept). length z.past) is ∙ map-length (λ s. s.contents) (journal X entries).past ∙ journal-past X entries
+
+pub journal-length : (X : Frame) (entries : List Entry) (j : plain.Journal) → IsJournalOf X entries j → length j.past.items ≡ length entries
+journal-length X entries j is = sym (map-length (λ v. v.items) j.past.items) ∙ kept-length X entries (has j) is
+
+pub ruleset lengths = (journal-length)
 
 -- ---- versions count growths
 

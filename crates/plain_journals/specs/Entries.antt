@@ -2,11 +2,13 @@
 use Rattle.std.specs.Prelude.{List, [], ◌∷◌, map}
 use Rattle.lasp_value.specs.Value.{val_of}
 use Rattle.model_states.specs.Update as op
+use Rattle.model_functions.specs.Lift as lift
 use Rattle.model_graph.specs.Graph as graph
 use Rattle.model_messages.specs.Message as message
 use Rattle.model_journal.specs.Entry as entry
 use Rattle.plain_journals.specs.declared.entry.Kind.{Kind}
-use Rattle.plain_journals.specs.declared.entry.Kind.TheVariants.{OrSet, Counter, Union}
+use Rattle.plain_journals.specs.declared.entry.Kind.TheVariants.{OrSet, Counter, Union, Product, Intersection, Map, Filter, Fold}
+use Rattle.plain_journals.specs.Functions.{step_of, condition_of}
 use Rattle.plain_journals.specs.declared.entry.Decl.{Decl}
 use Rattle.plain_journals.specs.declared.entry.Op.{Op}
 use Rattle.plain_journals.specs.declared.entry.Op.TheVariants.{Add, Remove, Inc}
@@ -17,10 +19,16 @@ use Rattle.plain_journals.specs.declared.entry.Act.TheVariants.{Update, Deliver,
 use Rattle.plain_journals.specs.declared.entry.Entry.{Entry}
 use Rattle.plain_journals.specs.declared.entry.Frame.{Frame}
 
+-- a function stands at place 0 of a library; a fold is the sum of the numbers themselves
 abbrev pub kind_of : Kind → graph.Kind
 kind_of OrSet = graph.OrSet
 kind_of Counter = graph.Counter
 kind_of (Union x y) = graph.Union x y
+kind_of (Product x y) = graph.Product x y
+kind_of (Intersection x y) = graph.Intersection x y
+kind_of (Map x step) = graph.Map x 0 (step_of step ∷ [])
+kind_of (Filter x condition) = graph.Filter x 0 (condition_of condition ∷ [])
+kind_of (Fold x) = graph.Fold x graph.Sum 0 lift.Itself
 
 abbrev pub decl_of : Decl → graph.Decl
 decl_of d = record { name = d.name ∷ []; kind = kind_of d.kind }

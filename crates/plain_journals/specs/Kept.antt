@@ -87,3 +87,7 @@ growths k x n = growths_of (λ i. content_at (stood k i) x) n
 abbrev pub read_by : Kept → List (ℕ × ℕ) → ℕ → ℕ → ℕ
 read_by k [] y x = 0
 read_by k (b ∷ binds) y x = if b.0 == y then max (growths k x (min b.1 (length k.past))) (read_by k binds y x) else read_by k binds y x
+
+-- y has applied the present version of x
+abbrev pub HasApplied : Kept → ℕ → ℕ → Type 0
+HasApplied k y x = read_by k k.binds y x ≡ growths k x (length k.past)

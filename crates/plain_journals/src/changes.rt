@@ -12,9 +12,9 @@ ghost use Rattle.plain_journals.specs.Entries.{kind_of, graph_of, op_of};
 
 use super::content::Content;
 use super::entry::{Decl, Kind, Op};
-use super::parts::{count_at, zeros};
+use super::parts::{copy_rows, count_at, zeros};
 use lasp_value::{Token, Value};
-use plain_sets::{Row, join, remove_delta};
+use plain_sets::{Row, filter_set, intersect_sets, join, map_set, product_sets, remove_delta};
 use std::alloc::{AllocError, Global};
 
 /// The most that one node can count.
@@ -38,6 +38,11 @@ pub(crate) fn least_of(alloc: Global, nodes: usize, kind: Kind) -> Result<Conten
         Kind::OrSet => Ok(Content::empty(alloc)),
         Kind::Counter => Ok(Content::of_counts(alloc, zeros(alloc, nodes)?)),
         Kind::Union(_, _) => Ok(Content::empty(alloc)),
+        Kind::Product(_, _) => Ok(Content::empty(alloc)),
+        Kind::Intersection(_, _) => Ok(Content::empty(alloc)),
+        Kind::Map(_, _) => Ok(Content::empty(alloc)),
+        Kind::Filter(_, _) => Ok(Content::empty(alloc)),
+        Kind::Fold(_) => Ok(Content::empty(alloc)),
     }
 }
 
@@ -68,14 +73,19 @@ pub(crate) fn equation(
 ) -> Result<Content, AllocError>
     ensures { IfOk result (λ s. s ≡ equation (kind_of kind) contents.now) }
 {
-    match kind {
-        Kind::OrSet => Ok(Content::empty(alloc)),
-        Kind::Counter => Ok(Content::empty(alloc)),
-        Kind::Union(x, y) => {
-            let rows = join(alloc, rows_at(contents, x), rows_at(contents, y))?;
-            Ok(Content::of_rows(alloc, rows))
+    let rows = match kind {
+        Kind::OrSet => Vec::new(alloc),
+        Kind::Counter => Vec::new(alloc),
+        Kind::Union(x, y) => join(alloc, rows_at(contents, x), rows_at(contents, y))?,
+        Kind::Product(x, y) => product_sets(alloc, rows_at(contents, x), rows_at(contents, y))?,
+        Kind::Intersection(x, y) => {
+            intersect_sets(alloc, rows_at(contents, x), rows_at(contents, y))?
         }
-    }
+        Kind::Map(x, step) => map_set(alloc, &step, rows_at(contents, x))?,
+        Kind::Filter(x, condition) => filter_set(alloc, &condition, rows_at(contents, x))?,
+        Kind::Fold(x) => copy_rows(alloc, rows_at(contents, x))?,
+    };
+    Ok(Content::of_rows(alloc, rows))
 }
 
 /// What update `number` of a replica joins into variable x.

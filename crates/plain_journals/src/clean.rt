@@ -1,11 +1,11 @@
 //! Whether a process took in the present contents of its inputs.
 
-ghost use Rattle.std.specs.Prelude.{◌≡◌, ℕ, min, not, length, IsTrue, ◌↔◌, ◌==◌, List};
+ghost use Rattle.std.specs.Prelude.{◌≡◌, ℕ, min, not, length, IsTrue, ◌↔◌, List};
 ghost use Rattle.model_states.specs.Content.{is_content_at_most};
 ghost use Rattle.model_graph.specs.Evaluation.{content_at};
 ghost use Rattle.model_journal.specs.Entry as model;
 ghost use Rattle.model_journal.specs.Clean.{IsClean};
-ghost use Rattle.plain_journals.specs.Kept.{has, IsJournalOf, growths, read_by};
+ghost use Rattle.plain_journals.specs.Kept.{has, IsJournalOf, growths, read_by, HasApplied};
 
 use super::changes::kind_at;
 use super::content::Content;
@@ -21,12 +21,23 @@ impl Journal {
         match kind_at(&self.graph, y) {
             Kind::OrSet => true,
             Kind::Counter => true,
-            Kind::Union(a, b) => self.has_applied(alloc, y, a) && self.has_applied(alloc, y, b),
+            Kind::Union(a, b) => self.has_applied_both(alloc, y, a, b),
+            Kind::Product(a, b) => self.has_applied_both(alloc, y, a, b),
+            Kind::Intersection(a, b) => self.has_applied_both(alloc, y, a, b),
+            Kind::Map(x, _) => self.has_applied(alloc, y, x),
+            Kind::Filter(x, _) => self.has_applied(alloc, y, x),
+            Kind::Fold(x) => self.has_applied(alloc, y, x),
         }
     }
 
+    fn has_applied_both(&self, alloc: Global, y: usize, a: usize, b: usize) -> bool
+        ensures { IsTrue result ↔ (HasApplied (has self.now) y a × HasApplied (has self.now) y b) }
+    {
+        self.has_applied(alloc, y, a) && self.has_applied(alloc, y, b)
+    }
+
     fn has_applied(&self, alloc: Global, y: usize, x: usize) -> bool
-        ensures { result ≡ (read_by (has self.now) (has self.now).binds y x == growths (has self.now) x (length (has self.now).past)) }
+        ensures { IsTrue result ↔ HasApplied (has self.now) y x }
     {
         self.applied(alloc, y, x) == self.version(alloc, x, self.past.len())
     }

@@ -18,6 +18,11 @@ fn is_source(kind: Kind) -> bool
         Kind::OrSet => true,
         Kind::Counter => true,
         Kind::Union(_, _) => false,
+        Kind::Product(_, _) => false,
+        Kind::Intersection(_, _) => false,
+        Kind::Map(_, _) => false,
+        Kind::Filter(_, _) => false,
+        Kind::Fold(_) => false,
     }
 }
 

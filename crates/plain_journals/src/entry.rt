@@ -1,6 +1,7 @@
 //! What a replica writes down, and the graph that it opens with.
 
 use super::content::Content;
+use super::functions::{Condition, MapStep};
 use lasp_value::Value;
 
 /// What a variable is.
@@ -12,6 +13,16 @@ pub enum Kind {
     Counter,
     /// The rows of either of two earlier variables.
     Union(usize, usize),
+    /// The pairs of the rows of two earlier variables.
+    Product(usize, usize),
+    /// The rows of one value in two earlier variables, as one.
+    Intersection(usize, usize),
+    /// What the step makes of the rows of an earlier variable.
+    Map(usize, MapStep),
+    /// The rows of an earlier variable whose value meets the condition.
+    Filter(usize, Condition),
+    /// The sum of the numbers that an earlier variable shows; it holds that variable's rows.
+    Fold(usize),
 }
 
 /// A variable: the one byte of its name, and what it is.

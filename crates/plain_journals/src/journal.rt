@@ -1,6 +1,6 @@
 //! The journal of a replica, entry by entry.
 
-ghost use Rattle.std.specs.Prelude.{◌≡◌, ℕ, OnOk, IfOk, ◌<◌, ◌↔◌, IsTrue, Err, List, [], ◌∷◌, ◌++◌};
+ghost use Rattle.std.specs.Prelude.{◌≡◌, ℕ, OnOk, IfOk, ◌<◌, ◌↔◌, IsTrue, Err, List, [], ◌∷◌, ◌++◌, length};
 ghost use Rattle.model_states.specs.Counts.{count_at};
 ghost use Rattle.model_journal.specs.Entry as model;
 ghost use Rattle.model_journal.specs.Journal.{vals, counts};
@@ -74,6 +74,14 @@ impl Journal {
             Ok(()) => Ok(()),
             Err(_) => Err(Refused::Memory),
         }
+    }
+
+    /// How many entries were taken.
+    #[tactic(auto, using(crate::proofs::KeptLaws::lengths))]
+    pub fn len(&self) -> usize
+        ensures { (X : model.Frame) (entries : List model.Entry) → IsJournalOf X entries self.now → result ≡ length entries }
+    {
+        self.past.len()
     }
 
     /// What each variable holds.

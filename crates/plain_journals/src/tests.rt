@@ -1,37 +1,40 @@
-//! Stories of journals: binds that come late or out of order, deliveries that come twice, and what is clean after each.
+//! Stories of journals: binds that come late or out of order, deliveries that come twice, what is clean after each, and what each process shows.
 //! A row is spelled as its value, its token after `@`, and `x` where it is dead; a count as its number.
 
-use super::{Act, Content, Decl, Entry, Frame, Journal, Kind, Message, Op, Refused, Sent};
+use super::{
+    Act, Condition, Content, Decl, Entry, Frame, Journal, Kind, MapStep, Message, Op, Refused, Sent,
+};
 use lasp_value::{Token, Value, print_into};
-use plain_sets::Row;
+use plain_sets::{Row, join, visible};
 use std::alloc::{AllocError, Global};
 use std::test::Fail;
 
-/// The set 0, the set 1, their union 2, and the counter 3.
-fn opened(alloc: Global, nodes: usize) -> Result<Journal, AllocError> {
+/// A journal without entries over these variables.
+fn started(alloc: Global, nodes: usize, kinds: &[(u8, Kind)]) -> Result<Journal, AllocError> {
     let mut opening = Vec::new(alloc);
-    opening.push(Decl {
-        name: b'a',
-        kind: Kind::OrSet,
-    })?;
-    opening.push(Decl {
-        name: b'b',
-        kind: Kind::OrSet,
-    })?;
-    opening.push(Decl {
-        name: b'c',
-        kind: Kind::Union(0, 1),
-    })?;
-    opening.push(Decl {
-        name: b'd',
-        kind: Kind::Counter,
-    })?;
+    for (name, kind) in kinds {
+        opening.push(Decl {
+            name: *name,
+            kind: *kind,
+        })?;
+    }
     let frame = Frame {
         opening,
         replica: 0,
         nodes,
     };
     Journal::start(alloc, &frame)
+}
+
+/// The set 0, the set 1, their union 2, and the counter 3.
+fn opened(alloc: Global, nodes: usize) -> Result<Journal, AllocError> {
+    let kinds = [
+        (b'a', Kind::OrSet),
+        (b'b', Kind::OrSet),
+        (b'c', Kind::Union(0, 1)),
+        (b'd', Kind::Counter),
+    ];
+    started(alloc, nodes, &kinds)
 }
 
 /// Takes an entry, and answers whether the replica had an update left for it.
@@ -45,6 +48,11 @@ fn take(journal: &mut Journal, alloc: Global, by: u64, act: Act) -> Result<bool,
 
 fn add(journal: &mut Journal, alloc: Global, x: usize, n: i64) -> Result<bool, AllocError> {
     take(journal, alloc, 0, Act::Update(x, Op::Add(Value::Int(n))))
+}
+
+fn remove(journal: &mut Journal, alloc: Global, x: usize, n: i64) -> Result<bool, AllocError> {
+    let op = Op::Remove(Value::Int(n));
+    take(journal, alloc, 0, Act::Update(x, op))
 }
 
 fn spell_rows(out: &mut String, rows: &[Row]) -> Result<(), AllocError> {
@@ -76,6 +84,20 @@ fn shown(journal: &Journal, alloc: Global, x: usize) -> Result<String, AllocErro
             spell_counts(&mut out, content.counts())?;
         }
         None => out.push_str("none")?,
+    }
+    Ok(out)
+}
+
+/// The values that variable x shows.
+fn values(journal: &Journal, alloc: Global, x: usize) -> Result<String, AllocError> {
+    let mut out = String::new(alloc);
+    if let Some(content) = journal.contents().get(x) {
+        let rows = join(alloc, content.rows(), &[])?;
+        let values = visible(alloc, &rows)?;
+        for i in 0..values.len() {
+            print_into(&mut out, values.at(i))?;
+            out.push(' ')?;
+        }
     }
     Ok(out)
 }
@@ -135,6 +157,70 @@ fn a_bind_that_read_less_changes_nothing(rt: HostRuntime) -> Result<(), Fail> {
 }
 
 #[test]
+fn a_map_is_clean_after_two_binds_out_of_order(rt: HostRuntime) -> Result<(), Fail> {
+    let alloc = rt.alloc();
+    let kinds = [(b'a', Kind::OrSet), (b'm', Kind::Map(0, MapStep::Abs))];
+    let mut journal = started(alloc, 1, &kinds)?;
+    add(&mut journal, alloc, 0, 1)?;
+    add(&mut journal, alloc, 0, -1)?;
+    take(&mut journal, alloc, 2, Act::Bind(1, 2))?;
+    take(&mut journal, alloc, 1, Act::Bind(1, 1))?;
+    assert_eq!(rt; journal.len(), 4);
+    assert_eq!(rt; shown(&journal, alloc, 1)?.as_str(), "1@0.1 1@0.2 ");
+    assert_eq!(rt; values(&journal, alloc, 1)?.as_str(), "1 ");
+    assert!(rt; journal.is_clean(alloc, 0) && journal.is_clean(alloc, 1));
+    Ok(())
+}
+
+/// What a process over the sets 0 and 1 shows after numbers were added and removed.
+fn shown_by(
+    alloc: Global,
+    process: Kind,
+    updates: &[(usize, bool, i64)],
+) -> Result<String, AllocError> {
+    let kinds = [(b'a', Kind::OrSet), (b'b', Kind::OrSet), (b'p', process)];
+    let mut journal = started(alloc, 1, &kinds)?;
+    for (x, added, n) in updates {
+        if *added {
+            add(&mut journal, alloc, *x, *n)?;
+        } else {
+            remove(&mut journal, alloc, *x, *n)?;
+        }
+    }
+    let read = journal.len();
+    take(&mut journal, alloc, 1, Act::Bind(2, read))?;
+    values(&journal, alloc, 2)
+}
+
+#[test]
+fn processes_follow_their_sets(rt: HostRuntime) -> Result<(), Fail> {
+    let alloc = rt.alloc();
+    let collided = [(0, true, 1), (0, true, -1), (0, false, 1), (0, false, -1)];
+    let paired = [(0, true, 1), (0, true, 2), (1, true, 9), (0, false, 2)];
+    let met = [(0, true, 3), (1, true, 3), (1, false, 3), (1, true, 3)];
+    let even = [(0, true, 2), (0, true, 3), (0, false, 2)];
+    let twice = [(0, true, 7), (0, true, 7), (0, false, 7)];
+    let united = [(0, true, 1), (1, true, 2), (0, false, 1)];
+    let cases = [
+        (Kind::Map(0, MapStep::Abs), &collided[..2], "1 "),
+        (Kind::Map(0, MapStep::Abs), &collided[..3], "1 "),
+        (Kind::Map(0, MapStep::Abs), &collided[..], ""),
+        (Kind::Product(0, 1), &paired[..], "[1,9] "),
+        (Kind::Intersection(0, 1), &met[..3], ""),
+        (Kind::Intersection(0, 1), &met[..], "3 "),
+        (Kind::Filter(0, Condition::Even), &even[..2], "2 "),
+        (Kind::Filter(0, Condition::Even), &even[..], ""),
+        (Kind::Fold(0), &twice[..2], "7 "),
+        (Kind::Fold(0), &twice[..], ""),
+        (Kind::Union(0, 1), &united[..], "2 "),
+    ];
+    for (process, updates, expected) in &cases {
+        assert_eq!(rt; shown_by(alloc, *process, updates)?.as_str(), *expected);
+    }
+    Ok(())
+}
+
+#[test]
 fn a_bind_that_comes_late_leaves_its_variable_unclean(rt: HostRuntime) -> Result<(), Fail> {
     let alloc = rt.alloc();
     let mut journal = opened(alloc, 1)?;
@@ -159,8 +245,7 @@ fn a_remove_that_a_bind_did_not_see_leaves_its_variable_unclean(
     let mut journal = opened(alloc, 1)?;
     add(&mut journal, alloc, 0, 1)?;
     take(&mut journal, alloc, 1, Act::Bind(2, 1))?;
-    let remove = Act::Update(0, Op::Remove(Value::Int(1)));
-    take(&mut journal, alloc, 0, remove)?;
+    remove(&mut journal, alloc, 0, 1)?;
     assert_eq!(rt; shown(&journal, alloc, 0)?.as_str(), "1@0.1x ");
     assert_eq!(rt; shown(&journal, alloc, 2)?.as_str(), "1@0.1 ");
     assert!(rt; !journal.is_clean(alloc, 2));

@@ -1,11 +1,15 @@
 //! Folds over what a state shows.
 
-ghost use Rattle.std.specs.Prelude.{◌≡◌, ℤ};
+ghost use Rattle.std.specs.Prelude.{◌≡◌, IfOk, ℤ};
 ghost use Rattle.model_values.specs.Value.{Val};
-ghost use Rattle.model_sets.specs.Folds.{fold_of};
+ghost use Rattle.model_sets.specs.Rows.{IsAscending};
+ghost use Rattle.model_sets.specs.Folds.{fold_of, fold_set};
 ghost use Rattle.lasp_value.specs.Value.{val_of};
 
+use super::row::Row;
+use super::shown::visible;
 use lasp_value::{Value, Values};
+use std::alloc::{AllocError, Global};
 
 /// How a fold combines numbers, and what it makes of each value.
 pub trait Combining {
@@ -37,4 +41,13 @@ pub fn fold<C: Combining>(c: &C, values: &Values) -> i128
         so_far = c.op(so_far, c.lift(values.at(i)));
     }
     so_far
+}
+
+/// The lifts of the values that a state shows, each value once.
+pub fn fold_set<C: Combining>(alloc: Global, c: &C, rows: &[Row]) -> Result<i128, AllocError>
+    requires { IsAscending rows.now }
+    ensures { IfOk result (λ n. n ≡ fold_set (C.op c.now) (C.neutral c.now) (C.lift c.now) rows.now) }
+{
+    let values = visible(alloc, rows)?;
+    Ok(fold(c, &values))
 }

@@ -8,7 +8,7 @@ mod rules;
 mod shown;
 mod states;
 
-pub use folding::{Combining, fold};
+pub use folding::{Combining, fold, fold_set};
 pub use processes::{filter_set, intersect_sets, map_set, product_sets};
 pub use row::Row;
 pub use rules::{Mapping, Predicate};

@@ -2,12 +2,12 @@
 //! A row is spelled as its value, its token after `@`, and `x` where it is dead.
 
 ghost use Rattle.std.specs.Prelude.{pos};
-ghost use Rattle.std.specs.Int.{int_wrapping_add};
+ghost use Rattle.std.specs.Int.{int_bit_xor, int_wrapping_add};
 ghost use mir.Syntax.{w128};
-ghost use Rattle.plain_sets.specs.Rules.{parity_of, is_positive, number_of};
+ghost use Rattle.plain_sets.specs.Rules.{parity_of, is_positive, number_of, sum_by_four};
 
 use super::{
-    Combining, Mapping, Predicate, Row, filter_set, fold, intersect_sets, join, map_set,
+    Combining, Mapping, Predicate, Row, filter_set, fold, fold_set, intersect_sets, join, map_set,
     product_sets, remove_delta, visible,
 };
 use lasp_value::{Token, Value, Values, print_into};
@@ -51,6 +51,57 @@ impl Combining for Sum {
 
     fn op(&self, a: i128, b: i128) -> i128 {
         a.wrapping_add(b)
+    }
+
+    fn neutral(&self) -> i128 {
+        0
+    }
+
+    fn lift(&self, value: &Value) -> i128 {
+        match value {
+            Value::Int(n) => *n as i128,
+            _ => 0,
+        }
+    }
+}
+
+struct Xor;
+
+impl Combining for Xor {
+    ghost op = { λ _. int_bit_xor w128 };
+
+    ghost neutral = { λ _. pos 0 };
+
+    ghost lift = { λ _. number_of };
+
+    fn op(&self, a: i128, b: i128) -> i128 {
+        a ^ b
+    }
+
+    fn neutral(&self) -> i128 {
+        0
+    }
+
+    fn lift(&self, value: &Value) -> i128 {
+        match value {
+            Value::Int(n) => *n as i128,
+            _ => 0,
+        }
+    }
+}
+
+/// The remainder of the sum by 4.
+struct ByFour;
+
+impl Combining for ByFour {
+    ghost op = { λ _. sum_by_four };
+
+    ghost neutral = { λ _. pos 0 };
+
+    ghost lift = { λ _. number_of };
+
+    fn op(&self, a: i128, b: i128) -> i128 {
+        a.wrapping_add(b).rem_euclid(4)
     }
 
     fn neutral(&self) -> i128 {
@@ -157,13 +208,41 @@ fn shown(alloc: Global, here: &[Row], there: &[Row]) -> Result<Values, AllocErro
     visible(alloc, &both)
 }
 
+/// The fold of what two states show together.
+fn folded<C: Combining>(
+    alloc: Global,
+    c: &C,
+    here: &[Row],
+    there: &[Row],
+) -> Result<i128, AllocError> {
+    let both = join(alloc, here, there)?;
+    fold_set(alloc, c, &both)
+}
+
 #[test]
 fn a_value_with_two_live_tokens_counts_once(rt: HostRuntime) -> Result<(), Fail> {
     let alloc = rt.alloc();
     let here = rows(alloc, &[(-1, 5, false), (7, 1, false), (8, 3, true)])?;
     let there = rows(alloc, &[(7, 2, false), (9, 4, false)])?;
+    assert_eq!(rt; folded(alloc, &Sum, &here, &there)?, 15);
     let values = shown(alloc, &here, &there)?;
     assert_eq!(rt; values.len(), 3);
     assert_eq!(rt; fold(&Sum, &values), 15);
+    Ok(())
+}
+
+#[test]
+fn folds_take_what_is_visible_as_it_is(rt: HostRuntime) -> Result<(), Fail> {
+    let alloc = rt.alloc();
+    let none = rows(alloc, &[])?;
+    let signed = rows(alloc, &[(-1, 1, false), (5, 2, false)])?;
+    assert_eq!(rt; folded(alloc, &Sum, &signed, &none)?, 4);
+    assert_eq!(rt; folded(alloc, &Xor, &signed, &none)?, -6);
+    assert_eq!(rt; folded(alloc, &ByFour, &signed, &none)?, 0);
+    let live = rows(alloc, &[(7, 1, false)])?;
+    let other = rows(alloc, &[(7, 2, false)])?;
+    assert_eq!(rt; folded(alloc, &Sum, &live, &other)?, 7);
+    let dead = rows(alloc, &[(7, 1, true), (7, 2, true)])?;
+    assert_eq!(rt; folded(alloc, &Sum, &dead, &other)?, 0);
     Ok(())
 }

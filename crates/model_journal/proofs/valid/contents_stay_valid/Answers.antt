@@ -1,4 +1,4 @@
-use Rattle.model_journal.proofs.ValidLaws.{valid-least_of, valid-join, valid-delta}
+use Rattle.model_journal.proofs.ValidLaws.{valid-least_of, valid-join, valid-delta, valid-sized}
 use Rattle.model_journal.proofs.EquationLaws.{valid-equation}
 use Rattle.model_journal.proofs.valid.contents_stay_valid.Goals as goal
 
@@ -13,3 +13,6 @@ returns-clause-delta c = valid-delta
 
 pub returns-clause-equation : goal.returns-clause-equation
 returns-clause-equation c = valid-equation
+
+pub returns-clause-sized : goal.returns-clause-sized
+returns-clause-sized c = valid-sized
