@@ -5,7 +5,6 @@ use Rattle.std.proofs.Math.Seq.{map-set_same}
 use Rattle.std.specs.declared.sync.Arc.{Arc}
 use Rattle.std.specs.Arc.{arc_value}
 use Rattle.std.specs.Prelude.{◌≡◌, ℕ, ◌<◌, List, length, map, slice_set, Result, Ok, Err, OnOk, OnErr}
-use Rattle.model_states.specs.Content.{Content}
 use Rattle.lasp_state.specs.declared.state.State.{State}
 use Rattle.lasp_graph.specs.States.{Held, held_of, held_at, grown}
 
@@ -21,7 +20,7 @@ pub held-found : {Z : Type 0} (states : List (Arc State Z)) (i : ℕ) (old : Arc
 held-found {Z = Z} states i old within found = ap (λ (s : Arc State Z). shown s) found ∙ sym (get_or-map (λ (s : Arc State Z). shown s) states i old _ within)
 
 -- a list of shared states in which one was joined to
-pub join-at-ok : {E Z : Type 0} (r : Result (Unit {0}) E) (states : List (Arc State Z)) (i : ℕ) (old new : Arc State Z) (delta : Content) → i < length states → old ≡ get_or states i old
+pub join-at-ok : {E Z : Type 0} (r : Result (Unit {0}) E) (states : List (Arc State Z)) (i : ℕ) (old new : Arc State Z) (delta : Held) → i < length states → old ≡ get_or states i old
     → OnOk r (shown new ≡ grown (shown old) delta) → OnOk r (all_shown (slice_set states i new) ≡ slice_set (all_shown states) i (grown (held_at (all_shown states) i) delta))
 join-at-ok {Z = Z} (Ok done) states i old new delta within found h =
     map-set (λ (s : Arc State Z). shown s) states i new

@@ -1,20 +1,22 @@
 -- Lists of states as plain data, and as trees of numbers.
-use Rattle.std.specs.Prelude.{◌≡◌, ℕ, ℤ, List, map, Option, slice_index_or, refl, if◌then◌else◌, ◌==◌}
+use Rattle.std.specs.Prelude.{◌≡◌, ℕ, ℤ, pos, List, map, Option, slice_index_or, refl, if◌then◌else◌, ◌==◌}
 use Rattle.std.specs.Coded.{Coded, code_by, coded×, coded_ℕ, coded_ℤ, coded_list, coded_option}
 use Rattle.model_values.specs.Value.{Val, coded_val}
 use Rattle.model_values.specs.Row.{Row, coded_rows}
 use Rattle.model_states.specs.Content.{Content, least, join_contents}
 use Rattle.model_states.specs.Threshold.{Shape, set, grow, counter, register, fold}
 use Rattle.lasp_state.specs.declared.state.State.{State}
-use Rattle.lasp_state.specs.State.{content_of, shape_of}
+use Rattle.lasp_state.specs.State.{content_of, shape_of, number_of, number_after, AreNested}
 
--- a state: what sort of content it has, and the content
+-- a state: what sort of content it has, the content, and a fold's number
 pub record Held : Type 0 where
   pub shape : Shape
   pub content : Content
+  -- 0 where it is no fold
+  pub number : ℤ
 
 abbrev pub held_of : State → Held
-held_of s = record { shape = shape_of s; content = content_of s }
+held_of s = record { shape = shape_of s; content = content_of s; number = number_of s }
 
 -- the contents of states
 abbrev pub contents_of : List Held → List Content
@@ -22,11 +24,16 @@ contents_of states = map (λ h. h.content) states
 
 -- the state at a place; a set with no rows where there is none
 abbrev pub held_at : List Held → ℕ → Held
-held_at states x = slice_index_or states x (record { shape = set; content = least })
+held_at states x = slice_index_or states x (record { shape = set; content = least; number = pos 0 })
 
--- a state with a content joined in
-abbrev pub grown : Held → Content → Held
-grown h s = record { shape = h.shape; content = join_contents h.content s }
+-- a state with another one joined in: of two folds the greater, with its number
+abbrev pub grown : Held → Held → Held
+grown h s = record { shape = h.shape; content = join_contents h.content s.content; number = number_after h.content h.number s.content s.number }
+
+-- states that may be joined: of one shape, folds where one covers the other
+pub record AreJoinable (h s : Held) : Type 0 where
+  pub shape : h.shape ≡ s.shape
+  pub nested : AreNested h.shape h.content s.content
 
 -- a shape as its place among the shapes and a number of nodes
 abbrev pub shape_parts : Shape → ℕ × ℕ
@@ -58,4 +65,6 @@ coded_content =
     (λ s. ((s.rows, s.values), (s.counts, s.top))) (λ p. record { rows = p.0.0; values = p.0.1; counts = p.1.0; top = p.1.1 }) (λ _. refl)
 
 abbrev pub coded_states : Coded (List Held)
-coded_states = coded_list (code_by (Shape × Content) (coded× coded_shape coded_content) (λ h. (h.shape, h.content)) (λ p. record { shape = p.0; content = p.1 }) (λ _. refl))
+coded_states =
+    coded_list (code_by (Shape × (Content × ℤ)) (coded× coded_shape (coded× coded_content coded_ℤ))
+    (λ h. (h.shape, (h.content, h.number))) (λ p. record { shape = p.0; content = p.1.0; number = p.1.1 }) (λ _. refl))

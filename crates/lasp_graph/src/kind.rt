@@ -1,6 +1,6 @@
 //! What a variable is.
 
-ghost use Rattle.std.specs.Prelude.{◌≡◌, IfOk};
+ghost use Rattle.std.specs.Prelude.{◌≡◌, pos, IfOk};
 ghost use Rattle.model_graph.specs.Graph.{is_set, is_source};
 ghost use Rattle.model_graph.specs.Evaluation.{least_of};
 ghost use Rattle.model_graph.specs.Lawful.{shape_of};
@@ -92,6 +92,7 @@ impl Kind {
     pub fn least(&self, alloc: Global, nodes: u8) -> Result<State, AllocError>
         ensures content { IfOk result (λ s. state.content_of s ≡ least_of nodes (kind_of self.now)) }
         ensures shape { IfOk result (λ s. state.shape_of s ≡ shape_of nodes (kind_of self.now)) }
+        ensures number { IfOk result (λ s. state.number_of s ≡ pos 0) }
     {
         match self {
             Kind::GSet => Ok(State::no_elements(alloc)),

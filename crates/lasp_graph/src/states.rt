@@ -2,15 +2,14 @@
 
 ghost use Rattle.std.specs.Prelude.{◌≡◌, ◌<◌, ◌++◌, ◌∷◌, [], length, slice_get, slice_set, Some, OnOk, OnErr};
 ghost use Rattle.std.specs.Arc.{arc_value};
-ghost use Rattle.lasp_state.specs.State.{content_of, shape_of};
-ghost use Rattle.lasp_graph.specs.States.{held_of, held_at, grown};
+ghost use Rattle.lasp_graph.specs.States.{held_of, held_at, grown, AreJoinable};
 
 use lasp_state::State;
 use std::alloc::{AllocError, Global};
 use std::marker::Model;
 use std::sync::Arc;
 
-/// The states of variables, in their order. Contracts see of each its shape and its content.
+/// The states of variables, in their order. Contracts see of each its shape, its content and, of a fold, its number.
 #[derive(Drop)]
 pub struct States {
     states: Vec<Arc<State>>,
@@ -62,11 +61,11 @@ impl States {
         Ok(())
     }
 
-    /// Joins a state into the one at a place: in place where nobody shares it, else into a copy of its list of shares. After a refusal all is as before.
+    /// Joins a state into the one at a place: in place where nobody shares it, else into a copy of its list of shares. Of two folds one covers the other, and the greater is taken with its number. After a refusal all is as before.
     pub fn join_at(&mut self, alloc: Global, i: u64, other: &State) -> Result<(), AllocError>
         requires within { i < length self.old }
-        requires shape { (held_at self.old i).shape ≡ shape_of other.now }
-        ensures ok { OnOk result (self.new ≡ slice_set self.old i (grown (held_at self.old i) (content_of other.now))) }
+        requires joinable { AreJoinable (held_at self.old i) (held_of other.now) }
+        ensures ok { OnOk result (self.new ≡ slice_set self.old i (grown (held_at self.old i) (held_of other.now))) }
         ensures err { OnErr result (self.new ≡ self.old) }
     {
         join_shared(alloc, &mut self.states[i as usize], other)
@@ -74,8 +73,8 @@ impl States {
 }
 
 fn join_shared(alloc: Global, shared: &mut Arc<State>, other: &State) -> Result<(), AllocError>
-    requires { shape_of (arc_value shared.old) ≡ shape_of other.now }
-    ensures ok { OnOk result (held_of (arc_value shared.new) ≡ grown (held_of (arc_value shared.old)) (content_of other.now)) }
+    requires { AreJoinable (held_of (arc_value shared.old)) (held_of other.now) }
+    ensures ok { OnOk result (held_of (arc_value shared.new) ≡ grown (held_of (arc_value shared.old)) (held_of other.now)) }
     ensures err { OnErr result (held_of (arc_value shared.new) ≡ held_of (arc_value shared.old)) }
 {
     if let Some(state) = Arc::get_mut(shared) {

@@ -90,7 +90,7 @@ content-held [] (suc x) = refl
 content-held (h ∷ states) zero = refl
 content-held (h ∷ states) (suc x) = content-held states x
 
-shape-set : (states : List Held) (x : ℕ) (s : Content) (y : ℕ) → (held_at (slice_set states x (grown (held_at states x) s)) y).shape ≡ (held_at states y).shape
+shape-set : (states : List Held) (x : ℕ) (s : Held) (y : ℕ) → (held_at (slice_set states x (grown (held_at states x) s)) y).shape ≡ (held_at states y).shape
 shape-set [] x s y = refl
 shape-set (h ∷ states) zero s zero = refl
 shape-set (h ∷ states) zero s (suc y) = refl
@@ -98,11 +98,11 @@ shape-set (h ∷ states) (suc x) s zero = refl
 shape-set (h ∷ states) (suc x) s (suc y) = shape-set states x s y
 
 -- a state was joined to
-pub joined-at : (old new : List Held) (x : ℕ) (s : Content) → new ≡ slice_set old x (grown (held_at old x) s) → IsJoined old x s new
+pub joined-at : (old new : List Held) (x : ℕ) (s : Held) → new ≡ slice_set old x (grown (held_at old x) s) → IsJoined old x s.content new
 joined-at old new x s is = record {
   contents =
       ap contents_of is ∙ map-set (λ (h : Held). h.content) old x (grown (held_at old x) s)
-      ∙ ap (λ (c : Content). slice_set (contents_of old) x (join_contents c s)) (sym (content-held old x));
+      ∙ ap (λ (c : Content). slice_set (contents_of old) x (join_contents c s.content)) (sym (content-held old x));
   shapes = λ y. ap (λ (hs : List Held). (held_at hs y).shape) is ∙ shape-set old x s y;
   long = ap (λ (hs : List Held). length hs) is ∙ length-set old x (grown (held_at old x) s);
 }
@@ -111,8 +111,8 @@ joined-as : (old new : List Held) (x : ℕ) (s t : Content) → s ≡ t → IsJo
 joined-as old new x s t e h = subst (λ (c : Content). IsJoined old x c new) e h
 
 -- what was answered
-pub joined-result : {E : Type 0} (r : Result (Unit {0}) E) (old new : List Held) (x : ℕ) (d s : Content) → s ≡ d → OnOk r (new ≡ slice_set old x (grown (held_at old x) s)) → OnOk r (IsJoined old x d new)
-joined-result (Ok done) old new x d s e h = joined-as old new x s d e (joined-at old new x s h)
+pub joined-result : {E : Type 0} (r : Result (Unit {0}) E) (old new : List Held) (x : ℕ) (d : Content) (s : Held) → s.content ≡ d → OnOk r (new ≡ slice_set old x (grown (held_at old x) s)) → OnOk r (IsJoined old x d new)
+joined-result (Ok done) old new x d s e h = joined-as old new x s.content d e (joined-at old new x s h)
 joined-result (Err e) old new x d s same h = tt
 
 -- ---- shapes
@@ -372,38 +372,47 @@ shown-kind nodes OrSet (states.Set rows) built e = refl
 shown-kind nodes OrSet (states.Grow values) built e = absurd cc
 shown-kind nodes OrSet (states.Count counts) built e = absurd cc
 shown-kind nodes OrSet (states.Max m) built e = absurd cc
+shown-kind nodes OrSet (states.Fold rows n) built e = absurd cc
 shown-kind nodes GSet (states.Set rows) built e = absurd cc
 shown-kind nodes GSet (states.Grow values) built e = refl
 shown-kind nodes GSet (states.Count counts) built e = absurd cc
 shown-kind nodes GSet (states.Max m) built e = absurd cc
+shown-kind nodes GSet (states.Fold rows n) built e = absurd cc
 shown-kind nodes Counter (states.Set rows) built e = absurd cc
 shown-kind nodes Counter (states.Grow values) built e = absurd cc
 shown-kind nodes Counter (states.Count counts) built e = refl
 shown-kind nodes Counter (states.Max m) built e = absurd cc
+shown-kind nodes Counter (states.Fold rows n) built e = absurd cc
 shown-kind nodes MaxReg (states.Set rows) built e = absurd cc
 shown-kind nodes MaxReg (states.Grow values) built e = absurd cc
 shown-kind nodes MaxReg (states.Count counts) built e = absurd cc
 shown-kind nodes MaxReg (states.Max m) built e = refl
+shown-kind nodes MaxReg (states.Fold rows n) built e = absurd cc
 shown-kind nodes (Union i j) (states.Set rows) built e = refl
 shown-kind nodes (Union i j) (states.Grow values) built e = absurd cc
 shown-kind nodes (Union i j) (states.Count counts) built e = absurd cc
 shown-kind nodes (Union i j) (states.Max m) built e = absurd cc
+shown-kind nodes (Union i j) (states.Fold rows n) built e = absurd cc
 shown-kind nodes (Product i j) (states.Set rows) built e = refl
 shown-kind nodes (Product i j) (states.Grow values) built e = absurd cc
 shown-kind nodes (Product i j) (states.Count counts) built e = absurd cc
 shown-kind nodes (Product i j) (states.Max m) built e = absurd cc
+shown-kind nodes (Product i j) (states.Fold rows n) built e = absurd cc
 shown-kind nodes (Intersection i j) (states.Set rows) built e = refl
 shown-kind nodes (Intersection i j) (states.Grow values) built e = absurd cc
 shown-kind nodes (Intersection i j) (states.Count counts) built e = absurd cc
 shown-kind nodes (Intersection i j) (states.Max m) built e = absurd cc
+shown-kind nodes (Intersection i j) (states.Fold rows n) built e = absurd cc
 shown-kind nodes (Map i place ops) (states.Set rows) built e = refl
 shown-kind nodes (Map i place ops) (states.Grow values) built e = absurd cc
 shown-kind nodes (Map i place ops) (states.Count counts) built e = absurd cc
 shown-kind nodes (Map i place ops) (states.Max m) built e = absurd cc
+shown-kind nodes (Map i place ops) (states.Fold rows n) built e = absurd cc
 shown-kind nodes (Filter i place ops) (states.Set rows) built e = refl
 shown-kind nodes (Filter i place ops) (states.Grow values) built e = absurd cc
 shown-kind nodes (Filter i place ops) (states.Count counts) built e = absurd cc
 shown-kind nodes (Filter i place ops) (states.Max m) built e = absurd cc
+shown-kind nodes (Filter i place ops) (states.Fold rows n) built e = absurd cc
 shown-kind nodes (Fold i op place lift) s built e = absurd built
 
 -- the code has no other kinds

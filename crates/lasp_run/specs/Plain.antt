@@ -1,5 +1,5 @@
 -- What the states of a plain node are.
-use Rattle.std.specs.Prelude.{◌≡◌, ℕ, ◌<◌, List, length, slice_set}
+use Rattle.std.specs.Prelude.{◌≡◌, ℕ, pos, ◌<◌, List, length, slice_set}
 use Rattle.std.specs.Coded.{Coded, coded_list}
 use Rattle.model_states.specs.Content.{Content, join_contents}
 use Rattle.model_graph.specs.Graph.{Kind, Fold, Decl, kind_at}
@@ -9,7 +9,7 @@ use Rattle.lasp_graph.specs.States.{Held, held_at, contents_of, coded_content}
 
 -- a variable before anything happened, among so many nodes
 abbrev pub fresh_state : ℕ → Decl → Held
-fresh_state nodes d = record { shape = shape_of nodes d.kind; content = least_of nodes d.kind }
+fresh_state nodes d = record { shape = shape_of nodes d.kind; content = least_of nodes d.kind; number = pos 0 }
 
 -- each state is of the shape of its variable's kind
 abbrev pub AreShaped : ℕ → List Decl → List Held → Type 0

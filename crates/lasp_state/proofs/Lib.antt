@@ -1,1 +1,4 @@
+mod FoldLaws
+mod JoinLaws
 pub mod StateLaws
+mod ThresholdLaws

@@ -6,9 +6,18 @@
 //! ```
 #![tactic(auto)]
 
+mod fold;
+mod laws;
 mod op;
 mod print;
 mod state;
+mod threshold;
 
+pub use laws::{states_are_a_lattice, thresholds_stay_met};
 pub use op::Op;
+pub use print::print_state;
 pub use state::State;
+pub use threshold::Threshold;
+
+#[cfg(test)]
+mod tests;

@@ -1,13 +1,16 @@
 //! Why a run ended before the script did.
 
 use std::alloc::{AllocError, AllocFailed};
+use thiserror::Error;
 
 /// Why a run ended early. The first number is always the command's.
-#[derive(Clone, Copy, PartialEq, Eq, Debug)]
+#[derive(Clone, Copy, PartialEq, Eq, Debug, Error)]
 pub enum Halt {
     /// At this command a variable passes 65,536 rows: command, node, variable.
+    #[error("command {0}: at node {1} variable {2} has too many rows")]
     TooLarge(u32, u8, u8),
     /// No memory was left.
+    #[error("out of memory")]
     Memory,
 }
 

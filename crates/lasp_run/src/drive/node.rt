@@ -19,13 +19,16 @@ use lasp_graph::Graph;
 use lasp_state::{Op, State};
 use std::alloc::{AllocError, Global};
 use std::sync::Arc;
+use thiserror::Error;
 
 /// Why a node didn't do what it was told.
-#[derive(Clone, Copy, PartialEq, Eq, Debug)]
+#[derive(Clone, Copy, PartialEq, Eq, Debug, Error)]
 pub enum NodeStop {
     /// This variable passes 65,536 rows.
+    #[error("variable {0} has too many rows")]
     TooLarge(u8),
     /// No memory was left.
+    #[error("out of memory")]
     Memory,
 }
 

@@ -186,6 +186,21 @@ fn bad_graphs_and_scripts_are_refused_by_their_first_cause(rt: HostRuntime) -> R
 }
 
 #[test]
+fn a_refused_graph_leaves_the_script_unread(rt: HostRuntime) -> Result<(), Fail> {
+    let alloc = rt.alloc();
+    for (graph, script, status, told) in &REFUSED {
+        if *status == 2 {
+            let mut files = files_of(alloc, graph, script)?;
+            files.fail_at(1)?;
+            assert!(rt; ends(alloc, PLAIN, &mut files, 2, "", told)?, "{told}");
+            // the second read is still to come
+            assert!(rt; files.fetch(alloc, "s.json", 4096).is_err(), "{told}");
+        }
+    }
+    Ok(())
+}
+
+#[test]
 fn check_refuses_what_a_run_refuses(rt: HostRuntime) -> Result<(), Fail> {
     let alloc = rt.alloc();
     for (graph, _, status, told) in &REFUSED {

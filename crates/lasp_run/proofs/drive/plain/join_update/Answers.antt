@@ -11,5 +11,5 @@ use Rattle.lasp_run.proofs.drive.plain.join_update.Goals as goal
 pub returns-clause-ok : goal.returns-clause-ok
 returns-clause-ok c =
     let seen = ap content_of c.deref.ensures ∙ sym (content-held c.args.sources.now c.args.x (held_of (arc_value c.at.result.now)) c.at.ensures) in
-    joined-result c.join_at.result c.args.sources.now c.join_at.new.self c.args.x _ (content_of c.in_ok-delta.delta)
+    joined-result c.join_at.result c.args.sources.now c.join_at.new.self c.args.x _ (held_of c.in_ok-delta.delta)
     (c.in_ok-delta.ensures.content ∙ ap (λ (s : Content). delta (op_of c.args.op.now) s c.args.replica c.args.k) seen) c.join_at.ensures.ok

@@ -23,3 +23,8 @@ pub returns-in-Grow-Grow : goal.returns-in-Grow-Grow
 returns-in-Grow-Grow c =
     order-as c.is_within.result _ (content_of c.args.self.now) (content_of c.args.other.now) (of_grow c.in-Grow-Grow.values) (of_grow c.in-Grow-Grow.bound)
     (ap content_of c.in-Grow-Grow.is-0) (ap content_of c.in-Grow-Grow.is-1) (order-grow c.in-Grow-Grow.values c.in-Grow-Grow.bound) c.is_within.ensures
+
+pub returns-in-Fold-Fold : goal.returns-in-Fold-Fold
+returns-in-Fold-Fold c =
+    order-as c.le-in-Fold-Fold.result _ (content_of c.args.self.now) (content_of c.args.other.now) (of_set c.in-Fold-Fold.set) (of_set c.in-Fold-Fold.bound)
+    (ap content_of c.in-Fold-Fold.is-0) (ap content_of c.in-Fold-Fold.is-1) (order-set c.in-Fold-Fold.set c.in-Fold-Fold.bound) c.le-in-Fold-Fold.ensures

@@ -1,0 +1,268 @@
+//! How states of each kind behave, against texts and answers written by hand.
+
+ghost use Rattle.std.specs.Prelude.{◌≡◌, IfOk};
+ghost use Rattle.model_states.specs.Threshold.{fold};
+ghost use Rattle.lasp_state.specs.State.{shape_of, IsOpOf};
+
+use super::*;
+use lasp_counters::{GCount, GSet};
+use lasp_orset::{OrSet, add_delta};
+use lasp_value::{Text, Value, Values};
+use std::alloc::{AllocError, Global};
+use std::sync::Arc;
+use std::test::Fail;
+
+/// Joins an update of replica 1 in, and tells whether the state grew.
+fn update(alloc: Global, s: &mut State, op: &Op, k: u64) -> Result<bool, AllocError>
+    requires { IsOpOf op.now 1 (shape_of s.old) }
+    ensures { shape_of s.new ≡ shape_of s.old }
+{
+    let delta = s.delta(alloc, op, 1, k)?;
+    s.join_in(&delta)
+}
+
+fn shows(alloc: Global, s: &State, text: &str) -> Result<bool, AllocError> {
+    Ok(print_state(alloc, s)?.as_str() == text)
+}
+
+fn text(alloc: Global, s: &str) -> Result<Value, AllocError> {
+    Ok(Value::Text(Text::of(alloc, s)?))
+}
+
+fn pair(alloc: Global, first: i64, second: Value) -> Result<Value, AllocError> {
+    Ok(Value::Pair(
+        Box::new(alloc, Value::Int(first))?,
+        Box::new(alloc, second)?,
+    ))
+}
+
+#[test]
+fn a_set_shows_what_was_added_and_not_removed(rt: HostRuntime) -> Result<(), Fail> {
+    let alloc = rt.alloc();
+    let mut s = State::empty_set(alloc);
+    assert!(rt; shows(alloc, &s, "[]")?);
+    assert!(rt; update(alloc, &mut s, &Op::Add(Value::Int(-3)), 1)?);
+    assert!(rt; !update(alloc, &mut s, &Op::Add(Value::Int(-3)), 1)?);
+    assert!(rt; update(alloc, &mut s, &Op::Add(text(alloc, "q\"\\\n\u{1}é")?), 2)?);
+    assert!(rt;
+        update(
+            alloc,
+            &mut s,
+            &Op::Add(pair(alloc, 4, text(alloc, "x")?)?),
+            3
+        )?
+    );
+    assert!(rt; shows(alloc, &s, "[-3,\"q\\\"\\\\\\n\\u0001é\",[4,\"x\"]]")?);
+    assert!(rt; update(alloc, &mut s, &Op::Remove(Value::Int(-3)), 4)?);
+    assert!(rt; !update(alloc, &mut s, &Op::Remove(Value::Int(9)), 5)?);
+    assert!(rt; shows(alloc, &s, "[\"q\\\"\\\\\\n\\u0001é\",[4,\"x\"]]")?);
+    assert_eq!(rt; s.size(), 3);
+    assert!(rt;
+        shows(
+            alloc,
+            &s.try_clone()?,
+            "[\"q\\\"\\\\\\n\\u0001é\",[4,\"x\"]]"
+        )?
+    );
+    Ok(())
+}
+
+/// The same, and none where the state then shows another text.
+fn rises(alloc: Global, s: &mut State, op: &Op, text: &str) -> Result<Option<bool>, AllocError>
+    requires { IsOpOf op.now 1 (shape_of s.old) }
+    ensures { shape_of s.new ≡ shape_of s.old }
+{
+    let grew = update(alloc, s, op, 1)?;
+    if shows(alloc, s, text)? {
+        Ok(Some(grew))
+    } else {
+        Ok(None)
+    }
+}
+
+#[test]
+fn the_plainer_states_only_rise(rt: HostRuntime) -> Result<(), Fail> {
+    let alloc = rt.alloc();
+    let mut elements = State::no_elements(alloc);
+    assert!(rt; rises(alloc, &mut elements, &Op::Insert(Value::Int(7)), "[7]")? == Some(true));
+    assert!(rt; rises(alloc, &mut elements, &Op::Insert(Value::Int(-1)), "[-1,7]")? == Some(true));
+    assert!(rt; rises(alloc, &mut elements, &Op::Insert(Value::Int(7)), "[-1,7]")? == Some(false));
+    assert_eq!(rt; elements.size(), 2);
+    let mut register = State::no_number();
+    assert!(rt; shows(alloc, &register, "null")?);
+    assert!(rt; rises(alloc, &mut register, &Op::Max(-5), "-5")? == Some(true));
+    assert!(rt; rises(alloc, &mut register, &Op::Max(-9), "-5")? == Some(false));
+    assert!(rt; rises(alloc, &mut register, &Op::Max(3), "3")? == Some(true));
+    let mut counter = State::zero_count(alloc, 3)?;
+    assert!(rt; shows(alloc, &counter, "0")?);
+    assert!(rt; rises(alloc, &mut counter, &Op::Inc(41), "41")? == Some(true));
+    assert!(rt; rises(alloc, &mut counter, &Op::Inc(4_294_967_295), "4294967336")? == Some(true));
+    assert_eq!(rt; counter.size(), 0);
+    Ok(())
+}
+
+/// A fold with this number over a set to which the values were added in this order.
+fn fold_of(alloc: Global, values: &[i64], number: i128) -> Result<State, AllocError>
+    ensures { IfOk result (λ s. shape_of s ≡ fold) }
+{
+    let mut set = OrSet::new(alloc);
+    let mut k = 1u64;
+    for n in values {
+        set.join_in(&add_delta(alloc, &Value::Int(*n), 0, k)?)?;
+        k = k.saturating_add(1);
+    }
+    Ok(State::Fold(set, number))
+}
+
+/// Joins another fold in where one covers the other, and tells whether the first grew.
+fn take(mine: &mut State, other: &State) -> Result<Option<bool>, AllocError>
+    requires { shape_of mine.old ≡ shape_of other.now }
+{
+    if mine.le(other) {
+        return Ok(Some(mine.join_in(other)?));
+    }
+    if other.le(mine) {
+        return Ok(Some(mine.join_in(other)?));
+    }
+    Ok(None)
+}
+
+#[test]
+fn the_greater_fold_is_taken_with_its_number(rt: HostRuntime) -> Result<(), Fail> {
+    let alloc = rt.alloc();
+    let lowest = "-170141183460469231731687303715884105728";
+    let table = [
+        (&[][..], 0i128, &[3i64][..], 3i128, Some(true), "3"),
+        (&[3i64][..], 3, &[][..], 0, Some(false), "3"),
+        (&[3i64][..], -7, &[3i64][..], 9, Some(false), "-7"),
+        (
+            &[3i64][..],
+            3,
+            &[3i64, 5][..],
+            i128::MIN,
+            Some(true),
+            lowest,
+        ),
+        (&[3i64][..], 3, &[5i64][..], 5, None, "3"),
+    ];
+    for (values, number, others, theirs, grew, shown) in table {
+        let mut mine = fold_of(alloc, values, number)?;
+        let other = fold_of(alloc, others, theirs)?;
+        assert!(rt; take(&mut mine, &other)? == grew);
+        assert!(rt; shows(alloc, &mine, shown)?);
+    }
+    assert!(rt; shows(alloc, &State::empty_fold(alloc), "0")?);
+    Ok(())
+}
+
+/// Whether the state is at the threshold, where it suits it.
+fn asked(threshold: &Threshold, s: &State) -> Option<bool> {
+    if threshold.suits(s) {
+        Some(threshold.meets(s))
+    } else {
+        None
+    }
+}
+
+fn values(alloc: Global, numbers: &[i64]) -> Result<Values, AllocError> {
+    let mut all = Values::new(alloc);
+    for n in numbers {
+        all.push(Value::Int(*n))?;
+    }
+    Ok(all)
+}
+
+/// A set that was told to add 1, 2 and 2 again, and to remove 2 in between.
+fn mixed(alloc: Global) -> Result<OrSet, AllocError> {
+    let mut set = OrSet::new(alloc);
+    set.join_in(&add_delta(alloc, &Value::Int(1), 0, 1)?)?;
+    set.join_in(&add_delta(alloc, &Value::Int(2), 0, 2)?)?;
+    let removal = set.remove_delta(&Value::Int(2))?;
+    set.join_in(&removal)?;
+    set.join_in(&add_delta(alloc, &Value::Int(2), 0, 3)?)?;
+    Ok(set)
+}
+
+/// A counter of two nodes of which one counted so far.
+fn counted(alloc: Global, by: u32) -> Result<State, AllocError> {
+    let counter = GCount::new(alloc, 2)?;
+    Ok(State::Count(counter.inc_delta(1, by)?))
+}
+
+fn with_elements(alloc: Global, numbers: &[i64]) -> Result<State, AllocError> {
+    let mut set = GSet::new(alloc);
+    for n in numbers {
+        set.unite(&GSet::insert_delta(alloc, &Value::Int(*n))?)?;
+    }
+    Ok(State::Grow(set))
+}
+
+#[test]
+fn thresholds_of_values_ask_rows_and_elements(rt: HostRuntime) -> Result<(), Fail> {
+    let alloc = rt.alloc();
+    let set = State::Set(mixed(alloc)?);
+    let covered = State::Fold(mixed(alloc)?, 3);
+    let elements = with_elements(alloc, &[1, 2])?;
+    let counter = counted(alloc, 2)?;
+    // what a set and a fold answer to an addition and to a removal, and what elements answer to an addition
+    let table = [
+        (&[][..], true, true),
+        (&[1i64][..], true, false),
+        (&[2i64][..], true, true),
+        (&[2i64, 1][..], true, false),
+        (&[1i64, 2, 3][..], false, false),
+    ];
+    for (numbers, added, removed) in table {
+        let addition = Threshold::Added(values(alloc, numbers)?);
+        let removal = Threshold::Removed(values(alloc, numbers)?);
+        assert!(rt; asked(&addition, &set) == Some(added));
+        assert!(rt; asked(&addition, &covered) == Some(added));
+        assert!(rt; asked(&addition, &elements) == Some(added));
+        assert!(rt; asked(&addition, &counter) == None);
+        assert!(rt; asked(&removal, &set) == Some(removed));
+        assert!(rt; asked(&removal, &covered) == Some(removed));
+        assert!(rt; asked(&removal, &elements) == None);
+        assert!(rt; asked(&removal, &State::no_number()) == None);
+    }
+    Ok(())
+}
+
+#[test]
+fn counts_are_met_from_the_number_on(rt: HostRuntime) -> Result<(), Fail> {
+    let alloc = rt.alloc();
+    let elements = with_elements(alloc, &[5, 6, 5])?;
+    let counter = counted(alloc, 2)?;
+    for (count, met) in [(0u64, true), (2, true), (3, false), (u64::MAX, false)] {
+        let threshold = Threshold::Count(count);
+        assert!(rt; asked(&threshold, &elements) == Some(met));
+        assert!(rt; asked(&threshold, &counter) == Some(met));
+        assert!(rt; asked(&threshold, &State::empty_set(alloc)) == None);
+        assert!(rt; asked(&threshold, &State::empty_fold(alloc)) == None);
+        assert!(rt; asked(&threshold, &State::no_number()) == None);
+    }
+    Ok(())
+}
+
+#[test]
+fn a_state_is_met_from_it_on_and_strictly_above_it(rt: HostRuntime) -> Result<(), Fail> {
+    let alloc = rt.alloc();
+    let table = [
+        (counted(alloc, 3)?, Some(true), Some(true)),
+        (counted(alloc, 2)?, Some(true), Some(false)),
+        (counted(alloc, 1)?, Some(false), Some(false)),
+        (State::zero_count(alloc, 3)?, None, None),
+        (State::no_number(), None, None),
+    ];
+    let at_least = Threshold::AtLeast(Arc::new(alloc, counted(alloc, 2)?)?);
+    let above = Threshold::Above(Arc::new(alloc, counted(alloc, 2)?)?);
+    for (s, reached, passed) in &table {
+        assert!(rt; asked(&at_least, s) == *reached);
+        assert!(rt; asked(&above, s) == *passed);
+    }
+    let bound = Arc::new(alloc, fold_of(alloc, &[1], 1)?)?;
+    let covers = Threshold::Above(bound);
+    assert!(rt; asked(&covers, &fold_of(alloc, &[1], 7)?) == Some(false));
+    assert!(rt; asked(&covers, &fold_of(alloc, &[1, 2], 1)?) == Some(true));
+    assert!(rt; asked(&covers, &State::empty_set(alloc)) == None);
+    Ok(())
+}
