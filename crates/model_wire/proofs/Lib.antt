@@ -7,3 +7,4 @@ pub mod GroupLaws
 pub mod SourceLaws
 pub mod MessageLaws
 pub mod Within
+pub mod DepthLaws
