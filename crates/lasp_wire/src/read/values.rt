@@ -46,7 +46,7 @@ pub struct Part {
 }
 
 /// A value in which so many pairs and bytes of text may stand.
-#[tactic(auto, using(crate::proofs::Parts::second_read), unfolding(model_wire::specs::Value::part_at))]
+#[tactic(auto, unfolding(model_wire::specs::Value::part_at))]
 fn part_in(
     alloc: Global,
     bytes: &[u8],
