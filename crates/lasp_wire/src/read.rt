@@ -1,4 +1,8 @@
 //! Readers over bytes, one for each field: what stands at the front, with the bytes behind it.
 
+mod elements;
+mod groups;
 mod numbers;
+mod rows;
+mod tokens;
 mod values;
