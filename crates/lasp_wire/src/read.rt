@@ -2,6 +2,7 @@
 
 mod elements;
 mod groups;
+mod names;
 mod numbers;
 mod rows;
 mod tokens;

@@ -14,7 +14,7 @@ use model_wire::WireWhy;
 use std::alloc::Global;
 use std::str;
 
-fn utf8_of(bytes: &[u8]) -> Option<&str>
+pub fn utf8_of(bytes: &[u8]) -> Option<&str>
     ensures { option_map (λ s. s.now) result ≡ (if is_utf8 bytes.now then Some bytes.now else None) }
 {
     match str::from_utf8(bytes) {
