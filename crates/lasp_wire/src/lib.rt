@@ -7,12 +7,17 @@
 #![tactic(auto)]
 
 mod counts;
+mod decode;
+mod encode;
 mod message;
 mod read;
 mod refused;
 mod source;
+mod write;
 
 pub use counts::Counts;
+pub use decode::decode;
+pub use encode::encode;
 pub use message::Message;
 pub use model_wire::WireWhy;
 pub use refused::WireRefused;

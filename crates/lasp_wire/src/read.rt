@@ -2,8 +2,14 @@
 
 mod elements;
 mod groups;
+mod message;
 mod names;
 mod numbers;
 mod rows;
+mod sequence;
+mod sources;
+mod states;
 mod tokens;
 mod values;
+
+pub(crate) use message::{Parts, all_in};
