@@ -1,2 +1,3 @@
 pub mod MemberLaws
 pub mod RaiseLaws
+pub mod AscendingLaws

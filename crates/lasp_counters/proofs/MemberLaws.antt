@@ -30,7 +30,7 @@ is_eq-then Greater p = refl
 
 -- ---- lists of rows
 
-values_of-member : (s : List Val) → values_of (map member s) ≡ s
+pub values_of-member : (s : List Val) → values_of (map member s) ≡ s
 values_of-member [] = refl
 values_of-member (v ∷ s) = ap (λ l. v ∷ l) (values_of-member s)
 
@@ -73,7 +73,7 @@ below-member : (v : Val) (s : List Val) → below_all key_cmp (member v).0 (map 
 below-member v [] = refl
 below-member v (w ∷ s) = ap (λ o. is_lt o && below_all key_cmp (member v).0 (map member s)) (member-cmp v w) ∙ ap (λ b. is_lt (val_cmp v w) && b) (below-member v s)
 
-sorted-member : (s : List Val) → is_sorted key_cmp (map member s) ≡ is_sorted val_cmp (entries_of s)
+pub sorted-member : (s : List Val) → is_sorted key_cmp (map member s) ≡ is_sorted val_cmp (entries_of s)
 sorted-member [] = refl
 sorted-member (v ∷ s) = ap (λ b. b && is_sorted key_cmp (map member s)) (below-member v s) ∙ ap (λ b. below_all val_cmp v (entries_of s) && b) (sorted-member s)
 

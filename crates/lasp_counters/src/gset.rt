@@ -1,13 +1,13 @@
 //! The set that only grows.
 
-ghost use Rattle.std.specs.Prelude.{◌≡◌, ◌≢◌, ◌<◌, ◌≤◌, ◌^◌, ◌↔◌, ◌++◌, ◌∷◌, [], IfOk, OnOk, OnErr, IsTrue, Some, length, slice_get, string_bytes};
+ghost use Rattle.std.specs.Prelude.{◌≡◌, ◌≢◌, ◌<◌, ◌≤◌, ◌^◌, ◌↔◌, ◌++◌, ◌∷◌, [], IfOk, OnOk, OnErr, IsTrue, Some, length, map, slice_get, string_bytes};
 ghost use Rattle.model_values.specs.Text.{shown_values};
 ghost use Rattle.model_sets.specs.Values.{IsHeld, AreAscending, unite, IsWithin};
 ghost use Rattle.lasp_value.specs.Value.{val_of};
 
 use super::elements::Elements;
-use lasp_orset::{OrSet, add_delta};
-use lasp_value::Value;
+use lasp_orset::{Entry, OrSet, add_delta};
+use lasp_value::{Token, Value};
 use std::alloc::{AllocError, Global};
 use std::marker::Model;
 
@@ -41,6 +41,19 @@ impl GSet {
         GSet {
             members: OrSet::new(alloc),
         }
+    }
+
+    /// The set of values that ascend already. It costs no search and no copy of a value.
+    pub fn from_ascending(alloc: Global, values: Vec<Value>) -> Result<GSet, AllocError>
+        requires { AreAscending (map val_of values.items) }
+        ensures { IfOk result (λ s. s ≡ map val_of values.items) }
+    {
+        let mut members = OrSet::new(alloc);
+        for value in values {
+            let member = Entry::new(alloc, value, Token::Base(0, 0), false)?;
+            members.append(member)?;
+        }
+        Ok(GSet { members })
     }
 
     /// What an update joins in where it inserts a value: the set of this value alone. It costs one copy of the value.
