@@ -7,8 +7,8 @@
 #![tactic(auto)]
 
 mod counts;
-mod decode;
-mod encode;
+mod decoder;
+mod encoder;
 mod message;
 mod read;
 mod refused;
@@ -16,8 +16,8 @@ mod source;
 mod write;
 
 pub use counts::Counts;
-pub use decode::decode;
-pub use encode::encode;
+pub use decoder::decode;
+pub use encoder::encode;
 pub use message::Message;
 pub use model_wire::WireWhy;
 pub use refused::WireRefused;

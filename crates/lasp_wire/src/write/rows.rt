@@ -28,7 +28,8 @@ fn rows_of(alloc: Global, set: &OrSet) -> Result<Vec<&Entry>, AllocError>
 /// How many rows at the front are of a value.
 fn run(value: &Value, rows: &[&Entry]) -> u32
     requires { length rows.now ≤ 65536 }
-    ensures { result ≡ run (val_of value.now) (map (λ r. r.now) rows.now) }
+    ensures exact { result ≡ run (val_of value.now) (map (λ r. r.now) rows.now) }
+    ensures few { result ≤ length rows.now }
 {
     let mut count = 0;
     for row in rows {
@@ -112,22 +113,28 @@ fn put_rows(out: &mut Vec<u8>, rows: &[&Entry]) -> Result<(), AllocError>
     ensures { OnOk result (out.new.items ≡ out.old.items ++ spelled_after None (map (λ r. r.now) rows.now)) }
 {
     let mut before: Option<&Value> = None;
-    let mut rest = rows;
-    while let Some((row, behind)) = rest.split_first() {
-        put_row(out, before, row, behind)?;
-        before = Some(row.value());
-        rest = behind;
+    for i in 0..rows.len() {
+        let (_, behind) = rows.split_at(i + 1);
+        put_row(out, before, rows[i], behind)?;
+        before = Some(rows[i].value());
     }
     Ok(())
 }
 
+/// The number of values, and the rows.
+fn put_grouped(out: &mut Vec<u8>, rows: &[&Entry]) -> Result<(), AllocError>
+    requires { AreShortRows (map (λ r. r.now) rows.now) }
+    ensures { OnOk result (out.new.items ≡ out.old.items ++ (number 4 (values_after None (map (λ r. r.now) rows.now)) ++ spelled_after None (map (λ r. r.now) rows.now))) }
+{
+    put_u32(out, values_in(rows))?;
+    put_rows(out, rows)
+}
+
 /// The rows of a set. It costs one list of their addresses.
-#[tactic(auto, using(crate::proofs::WrittenRows::written_rows))]
 pub fn put_set(alloc: Global, out: &mut Vec<u8>, set: &OrSet) -> Result<(), AllocError>
     requires { AreShortRows set.now }
     ensures { OnOk result (out.new.items ≡ out.old.items ++ spelled_rows set.now) }
 {
     let rows = rows_of(alloc, set)?;
-    put_u32(out, values_in(&rows))?;
-    put_rows(out, &rows)
+    put_grouped(out, &rows)
 }
