@@ -21,3 +21,6 @@ pub use encoder::encode;
 pub use message::Message;
 pub use model_wire::WireWhy;
 pub use refused::WireRefused;
+
+#[cfg(test)]
+mod tests;
