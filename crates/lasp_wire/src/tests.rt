@@ -112,16 +112,17 @@ fn a_changed_field_is_refused_at_its_place(rt: HostRuntime) -> Result<(), Fail> 
 #[test]
 fn rows_out_of_order_are_refused(rt: HostRuntime) -> Result<(), Fail> {
     let alloc = rt.alloc();
-    let two = changed(alloc, OLD, 26, b"\0\0\0\x02")?;
+    let (old, new) = (OLD.as_slice(), NEW.as_slice());
+    let two = changed(alloc, old, 26, b"\0\0\0\x02")?;
     assert!(rt; decode(alloc, &changed(alloc, &two, 49, ROW)?).is_ok());
-    let twice = changed(alloc, &two, 49, &OLD[30..])?;
+    let twice = changed(alloc, &two, 49, &old[30..])?;
     assert!(rt; is_refused(alloc, &twice, 49, WireWhy::Order));
-    let values = changed(alloc, NEW, 26, b"\0\0\0\x02")?;
-    let twice = changed(alloc, &values, 53, &NEW[30..])?;
+    let values = changed(alloc, new, 26, b"\0\0\0\x02")?;
+    let twice = changed(alloc, &values, 53, &new[30..])?;
     assert!(rt; is_refused(alloc, &twice, 53, WireWhy::Order));
-    let tokens = changed(alloc, NEW, 39, b"\0\0\0\x02")?;
+    let tokens = changed(alloc, new, 39, b"\0\0\0\x02")?;
     assert!(rt; decode(alloc, &changed(alloc, &tokens, 43, TOKENS)?).is_ok());
-    let twice = changed(alloc, &tokens, 53, &NEW[43..])?;
+    let twice = changed(alloc, &tokens, 53, &new[43..])?;
     assert!(rt; is_refused(alloc, &twice, 53, WireWhy::Order));
     Ok(())
 }
@@ -157,6 +158,7 @@ fn both_versions_are_read_and_the_second_is_written(rt: HostRuntime) -> Result<(
 
 /// A message of one node with a register that has no number yet.
 fn register_of(alloc: Global, name: &Name) -> Result<Message, AllocError> {
+    let _text = name.as_str();
     let mut counts = Counts::new(alloc);
     counts.push(3)?;
     let mut message = Message::new(alloc, counts);
