@@ -1,0 +1,4 @@
+pub mod Decoded
+pub mod Read
+pub mod Sent
+pub mod Written

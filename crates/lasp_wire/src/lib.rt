@@ -1,0 +1,26 @@
+//! Messages between replicas, and their bytes.
+//!
+//! ```text
+//! let bytes = encode(alloc, &message)?;
+//! let message = decode(alloc, &bytes)?;
+//! ```
+#![tactic(auto)]
+
+mod counts;
+mod decoder;
+mod encoder;
+mod message;
+mod read;
+mod refused;
+mod source;
+mod write;
+
+pub use counts::Counts;
+pub use decoder::decode;
+pub use encoder::encode;
+pub use message::Message;
+pub use model_wire::WireWhy;
+pub use refused::WireRefused;
+
+#[cfg(test)]
+mod tests;

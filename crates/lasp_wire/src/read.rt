@@ -1,0 +1,15 @@
+//! Readers over bytes, one for each field: what stands at the front, with the bytes behind it.
+
+mod elements;
+mod groups;
+mod message;
+mod names;
+mod numbers;
+mod rows;
+mod sequence;
+mod sources;
+mod states;
+mod tokens;
+mod values;
+
+pub(crate) use message::{Parts, all_in};

@@ -1,0 +1,10 @@
+pub mod Codecs
+pub mod ValueLaws
+pub mod RowLaws
+pub mod OrderLaws
+pub mod SetLaws
+pub mod GroupLaws
+pub mod SourceLaws
+pub mod MessageLaws
+pub mod Within
+pub mod DepthLaws

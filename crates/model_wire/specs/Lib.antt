@@ -1,0 +1,5 @@
+pub mod Reader
+pub mod Value
+pub mod Message
+pub mod Lawful
+pub mod Spelling
