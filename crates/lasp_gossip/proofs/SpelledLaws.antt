@@ -1,0 +1,29 @@
+-- The bytes of a message are the message.
+use Rattle.std.proofs.Common.{◌≡◌, ℕ, true, List, Result, Ok, Err, refl, sym, ap, subst, ◌∙◌}
+use Rattle.model_messages.specs.Message.{Message}
+use Rattle.model_messages.specs.Spelling.{spelled}
+use Rattle.model_wire.specs.Message.{decoded}
+use Rattle.model_wire.specs.Spelling.{spelled_in}
+use Rattle.model_wire.specs.Lawful.{IsMessage, IsSpelledSo}
+use Rattle.model_wire.proofs.MessageLaws.{known_decoded, written}
+use Rattle.lasp_gossip.specs.Network.{or_nothing, message_in, AreSpelled}
+
+spelled_decoded : (m : Message) → IsMessage m → decoded (spelled m) ≡ Ok m
+spelled_decoded m h = ap decoded (sym (written m)) ∙ known_decoded 2 m refl h
+
+pub spelled_message : (m : Message) → IsMessage m → message_in (spelled m) ≡ m
+unfolding message_in
+spelled_message m h = ap or_nothing (spelled_decoded m h)
+
+pub spelled_bytes : (m : Message) → IsMessage m → AreSpelled (spelled m)
+spelled_bytes m h = record {
+  lawful = subst IsMessage (sym (spelled_message m h)) h;
+  spelling = ap spelled (sym (spelled_message m h));
+}
+
+pub spelled_so : (bytes : List ℕ) → AreSpelled bytes → IsSpelledSo (message_in bytes) bytes
+spelled_so bytes h = record { version = 2; known = refl; bytes_are = h.spelling ∙ sym (written (message_in bytes)) }
+
+pub message_read : (bytes : List ℕ) (m : Message) → decoded bytes ≡ Ok m → m ≡ message_in bytes
+unfolding message_in
+message_read bytes m e = sym (ap or_nothing e)

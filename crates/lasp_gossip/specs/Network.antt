@@ -1,0 +1,46 @@
+-- The messages that were sent, each kept as its bytes.
+use Rattle.std.specs.Prelude.{◌≡◌, ℕ, ◌+◌, ◌≤◌, ◌++◌, List, [], ◌∷◌, length, map, sum, Option, Some, None, Result, Ok, Err, refl}
+use Rattle.std.specs.Coded.{Coded, code_by, coded×, coded_ℕ, coded_list}
+use Rattle.model_messages.specs.Message.{Message}
+use Rattle.model_messages.specs.Spelling.{spelled}
+use Rattle.model_wire.specs.declared.wire_why.WireWhy.{WireWhy}
+use Rattle.model_wire.specs.Message.{decoded}
+use Rattle.model_wire.specs.Lawful.{IsMessage}
+use Rattle.lasp_wire.specs.Sent.{coded_message}
+
+abbrev pub or_nothing : Result Message (ℕ × WireWhy) → Message
+or_nothing (Ok m) = m
+or_nothing (Err e) = record { counts = []; sources = [] }
+
+-- the message that bytes are; one of nothing where they are none
+unfoldable pub message_in : List ℕ → Message
+message_in bytes = or_nothing (decoded bytes)
+
+-- the bytes are the spelling of the message that they are
+pub record AreSpelled (bytes : List ℕ) : Type 0 where
+  pub lawful : IsMessage (message_in bytes)
+  pub spelling : bytes ≡ spelled (message_in bytes)
+
+-- a message that was read from the bytes already is the one that they are
+abbrev pub AgreesWith : {X : Type 0} → (X → Message) → Message → Option X → Type 0
+AgreesWith view m None = Unit {0}
+AgreesWith view m (Some x) = view x ≡ m
+
+-- the bytes of all messages
+abbrev pub size_of : List Message → ℕ
+size_of sent = sum (map (λ m. length (spelled m)) sent)
+
+-- a network: how many bytes its messages may have together, and the messages that were sent, by their numbers
+pub record Network : Type 0 where
+  pub limit : ℕ
+  pub sent : List Message
+
+abbrev pub network : ℕ → List Message → Network
+network limit sent = record { limit = limit; sent = sent }
+
+-- a network with a message more
+abbrev pub with_sent : Network → Message → Network
+with_sent n m = network n.limit (n.sent ++ m ∷ [])
+
+abbrev pub coded_network : Coded Network
+coded_network = code_by (ℕ × List Message) (coded× coded_ℕ (coded_list coded_message)) (λ n. (n.limit, n.sent)) (λ p. network p.0 p.1) (λ _. refl)

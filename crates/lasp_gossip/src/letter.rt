@@ -1,0 +1,72 @@
+//! One message that was sent.
+
+ghost use Rattle.std.specs.Prelude.{◌≡◌, IfOk, length};
+ghost use Rattle.std.specs.Arc.{arc_value};
+ghost use Rattle.model_messages.specs.Spelling.{spelled};
+ghost use Rattle.lasp_gossip.specs.Network.{message_in, AreSpelled};
+
+use lasp_wire::{Message, WireRefused, decode};
+use std::alloc::{AllocError, Global};
+use std::marker::Model;
+use std::sync::Arc;
+
+/// The bytes of a message, and the message itself once somebody received it. It is seen as the message.
+#[derive(Drop)]
+pub(crate) struct Letter {
+    bytes: Vec<u8>,
+    message: Option<Arc<Message>>,
+}
+
+impl Model for Letter {
+    ghost use Rattle.std.specs.Arc.{arc_value};
+    ghost use Rattle.model_messages.specs.Message as plain;
+    ghost use Rattle.lasp_wire.specs.Sent.{coded_message};
+    ghost use Rattle.lasp_gossip.specs.Network.{message_in, AreSpelled, AgreesWith};
+
+    ghost Value = { plain.Message };
+
+    ghost coded = { coded_message };
+
+    ghost view = { λ a. message_in a.bytes.items };
+
+    ghost invariant = { λ a. AreSpelled a.bytes.items × AgreesWith (λ m. arc_value m) (message_in a.bytes.items) a.message };
+}
+
+impl Letter {
+    /// The message that these bytes are.
+    pub(crate) fn new(bytes: Vec<u8>) -> Letter
+        requires { AreSpelled bytes.items }
+        ensures { result ≡ message_in bytes.items }
+    {
+        Letter {
+            bytes,
+            message: None,
+        }
+    }
+
+    /// The message, which is read from its bytes the first time and shared from then on.
+    pub(crate) fn open(&mut self, alloc: Global) -> Result<Arc<Message>, AllocError>
+        ensures same { self.new ≡ self.old }
+        ensures message { IfOk result (λ m. arc_value m ≡ self.old) }
+    {
+        if let Some(message) = &self.message {
+            return Arc::try_clone(message);
+        }
+        let message = Arc::new(alloc, read(alloc, &self.bytes)?)?;
+        let share = Arc::try_clone(&message)?;
+        self.message = Some(message);
+        Ok(share)
+    }
+}
+
+/// The message that bytes are.
+fn read(alloc: Global, bytes: &[u8]) -> Result<Message, AllocError>
+    requires { AreSpelled bytes.now }
+    ensures { IfOk result (λ m. m ≡ message_in bytes.now) }
+{
+    match decode(alloc, bytes) {
+        Ok(message) => Ok(message),
+        Err(WireRefused::Memory) => Err(AllocError),
+        Err(WireRefused::At { .. }) => unreachable!(),
+    }
+}
