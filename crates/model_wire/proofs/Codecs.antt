@@ -1,6 +1,5 @@
 -- A reader beside the spelling that it reads: what is read is spelled so, and what is spelled so is read again. One lemma for each way to put readers together.
-use Rattle.std.proofs.Common.{◌≡◌, ℕ, zero, suc, ◌+◌, ◌^◌, ◌<◌, ◌≤◌, Bool, true, false, cond, ltb, leb, List, [], ◌∷◌, ◌++◌, length, get_or, take, drop, Result, Ok, Err, refl, sym, ap, subst, ◌∙◌, append_assoc, arith, inl, inr}
-use Rattle.std.specs.Prelude.{IsTrue, IsFalse, ◌&&◌}
+use Rattle.std.proofs.Common.{◌≡◌, ℕ, zero, suc, ◌+◌, ◌<◌, ◌≤◌, Bool, true, false, cond, ltb, List, [], ◌∷◌, ◌++◌, length, take, drop, Result, Ok, Err, refl, sym, ap, subst, ◌∙◌, append_assoc, arith, inl, inr}
 use Rattle.std.specs.List.{flat_map}
 use Rattle.std.specs.Int.{Width, w8, w16, w32, w64, byte_len, from_be_bytes, to_be_bytes}
 use Rattle.std.proofs.lemmas.Bool.{cases_lt, ltb-false, le-ltb}
@@ -10,7 +9,7 @@ use Rattle.model_graph.specs.Chain.{◌>>=◌}
 use Rattle.model_wire.specs.declared.wire_why.WireWhy.{WireWhy}
 use Rattle.model_wire.specs.declared.wire_why.WireWhy.TheVariants as why
 pub use Rattle.model_wire.specs.Lawful.{IsBytes}
-use Rattle.model_wire.specs.Reader.{Reading, Reader, bytes_at, nothing_at, if_passes, tested, paired, both_at, counted, remade, made, onto, list_at, between, number_at, ranged_at, kind_at, magic_at}
+use Rattle.model_wire.specs.Reader.{Reader, bytes_at, if_passes, tested, paired, both_at, counted, remade, made, onto, list_at, number_at}
 
 pub behind_drop : (n : ℕ) (bytes : List ℕ) → IsBytes bytes → IsBytes (drop n bytes)
 behind_drop n bytes h i = rw get_or-drop (h (n + i))

@@ -1,11 +1,11 @@
 -- How deep a value may be read doesn't matter, as long as it is more than the pairs that may stand in it.
-use Rattle.std.proofs.Common.{◌≡◌, ℕ, zero, suc, ◌+◌, ◌-◌, ◌<◌, ◌≤◌, Bool, true, false, cond, eqb, List, length, Result, Ok, Err, ℤ, refl, sym, ap, subst, ◌∙◌, arith}
+use Rattle.std.proofs.Common.{◌≡◌, ℕ, zero, suc, ◌-◌, ◌<◌, ◌≤◌, Bool, true, false, cond, eqb, List, length, Result, Ok, Err, ℤ, refl, ap, subst, ◌∙◌, arith}
 use Rattle.std.proofs.lemmas.Bool.{eqb-false}
 use Rattle.model_graph.specs.Chain.{◌>>=◌}
 use Rattle.model_wire.specs.declared.wire_why.WireWhy.TheVariants as why
 use Rattle.model_wire.specs.Reader.{Reading, Reader, counted, remade, made, kind_at}
 use Rattle.model_wire.specs.Value.{signed_at, text_at, Part, int_part, text_part, pair_part, part_at}
-use Rattle.model_wire.proofs.Codecs.{Passed, passed}
+use Rattle.model_wire.proofs.Codecs.{passed}
 
 abbrev second_part : ℕ → Part → Reader Part
 second_part depth a = made (pair_part a.value) (part_at depth a.pairs a.room)

@@ -1,7 +1,5 @@
 -- The rows of a set by their values: lawful rows are lawful groups, and the other way round.
-use Rattle.std.proofs.Common.{◌≡◌, ℕ, zero, suc, ◌+◌, ◌-◌, ◌<◌, ◌≤◌, Bool, true, false, cond, List, [], ◌∷◌, ◌++◌, length, map, Option, Some, None, refl, sym, ap, subst, ◌∙◌, append_assoc, arith}
-use Rattle.std.specs.Prelude.{IsTrue}
-use Rattle.std.specs.List.{AllByRecursion, flat_map}
+use Rattle.std.proofs.Common.{◌≡◌, ℕ, ◌+◌, ◌-◌, ◌≤◌, Bool, true, false, cond, List, [], ◌∷◌, ◌++◌, length, map, Option, Some, None, refl, sym, ap, subst, ◌∙◌, append_assoc, arith}
 use Rattle.std.specs.Int.{w32, to_be_bytes}
 use Rattle.std.specs.Ordering.{eq_by_cmp, is_eq, is_lt, ordering_then}
 use Rattle.std.specs.Cmp.{tied_itself}
@@ -13,11 +11,11 @@ use Rattle.model_values.specs.Token.{Tok, tok_cmp}
 use Rattle.model_values.specs.Row.{Row, row_cmp}
 use Rattle.model_messages.specs.Spelling.{Group, with_row, groups_of, spelled_value, spelled_group, spelled_rows}
 use Rattle.model_wire.specs.declared.wire_why.WireWhy.TheVariants as why
-use Rattle.model_wire.specs.Reader.{Reading, Reader, both_at, counted, made, list_at, ranged_at}
+use Rattle.model_wire.specs.Reader.{both_at, counted, list_at, ranged_at}
 use Rattle.model_wire.specs.Value.{value_at, token_at, is_above, mark_cmp, latest}
 use Rattle.model_wire.specs.Message.{token_after_at, tokens_at, Before, value_after_at, group_made, group_at, after_group, row_of, rows_of_group, rows_of, groups_at, grouped_rows_at}
 use Rattle.model_wire.specs.Lawful.{IsSourceValue, IsNodes, IsToken, IsRow, AreRows}
-use Rattle.model_wire.proofs.Codecs.{IsCodec, wide32, HasTested, tested_codec, HasBoth, spell_both, both_codec, spell_counted, HasCounted, counted_codec, IsRemade, made_codec, AllHave, HasMany, spell_all, list_codec}
+use Rattle.model_wire.proofs.Codecs.{IsCodec, wide32, HasTested, tested_codec, HasBoth, spell_both, both_codec, spell_counted, HasCounted, counted_codec, made_codec, AllHave, HasMany, spell_all, list_codec}
 use Rattle.model_wire.proofs.ValueLaws.{HasRange, ranged_codec, within_range, in_range, value_codec}
 use Rattle.model_wire.proofs.RowLaws.{spelled_mark, token_codec}
 use Rattle.model_wire.proofs.SetLaws.{RowsRise, rows_known, rows_rise}

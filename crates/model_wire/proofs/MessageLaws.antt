@@ -1,6 +1,5 @@
 -- Whole messages beside their spellings, in either version.
-use Rattle.std.proofs.Common.{◌≡◌, ℕ, zero, suc, ◌+◌, ◌-◌, ◌<◌, ◌≤◌, Bool, true, false, cond, eqb, List, [], ◌∷◌, ◌++◌, length, Result, Ok, Err, refl, sym, ap, subst, ◌∙◌, append_assoc, append-nil, arith, inl, inr}
-use Rattle.std.specs.Prelude.{◌||◌}
+use Rattle.std.proofs.Common.{◌≡◌, ℕ, ◌<◌, ◌≤◌, true, eqb, List, [], ◌∷◌, ◌++◌, length, Result, Ok, Err, refl, sym, ap, subst, ◌∙◌, append_assoc, append-nil, arith, inl, inr}
 use Rattle.std.specs.List.{AllByRecursion, flat_map}
 use Rattle.std.specs.Int.{w8, to_be_bytes}
 use Rattle.std.proofs.lemmas.Bool.{eqb-true, eq-eqb, or_cases}
@@ -12,11 +11,11 @@ use Rattle.model_messages.specs.Message.{Sent, Message}
 use Rattle.model_messages.specs.Spelling.{number, spelled_counts, spelled_content, spelled_source, spelled}
 use Rattle.model_wire.specs.declared.wire_why.WireWhy.{WireWhy}
 use Rattle.model_wire.specs.declared.wire_why.WireWhy.TheVariants as why
-use Rattle.model_wire.specs.Reader.{Reading, Reader, tested, paired, both_at, counted, made, list_at, number_at, ranged_at, magic_at}
-use Rattle.model_wire.specs.Message.{update_limit, source_limit, numbers_at, source_at, any_source_at, nothing_of_sources, sources_at, nodes_at, counts_at, message_made, body_at, is_version, version_at, message_at, nothing_behind, read_message, placed, decoded_from, decoded}
+use Rattle.model_wire.specs.Reader.{Reading, Reader, tested, paired, both_at, counted, list_at, number_at, ranged_at, magic_at}
+use Rattle.model_wire.specs.Message.{update_limit, source_limit, numbers_at, any_source_at, nothing_of_sources, sources_at, nodes_at, counts_at, message_made, body_at, is_version, version_at, message_at, nothing_behind, read_message, decoded_from, decoded}
 use Rattle.model_wire.specs.Spelling.{spelled_content_in, spelled_source_in, spelled_in}
 use Rattle.model_wire.specs.Lawful.{IsNodes, AreAtMost, IsSent, IsMessage, IsSpelledSo}
-use Rattle.model_wire.proofs.Codecs.{IsBytes, Takes, takes_both, IsCodec, wide8, IsBelow, number_codec, HasTested, tested_codec, HasBoth, spell_both, both_codec, spell_counted, HasCounted, counted_codec, IsRemade, made_codec, has_codec, spelled_codec, AllHave, HasMany, spell_all, list_codec, Passed, passed, test_passed}
+use Rattle.model_wire.proofs.Codecs.{IsBytes, Takes, takes_both, IsCodec, wide8, IsBelow, number_codec, HasTested, tested_codec, HasBoth, spell_both, both_codec, spell_counted, HasCounted, counted_codec, made_codec, has_codec, AllHave, HasMany, spell_all, list_codec, passed, test_passed}
 use Rattle.model_wire.proofs.ValueLaws.{HasRange, ranged_codec, within_range, in_range}
 use Rattle.model_wire.proofs.SourceLaws.{HasNumbers, numbers_codec, source_codec}
 

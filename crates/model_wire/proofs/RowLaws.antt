@@ -1,18 +1,15 @@
 -- Tokens and rows beside their spellings.
-use Rattle.std.proofs.Common.{◌≡◌, ℕ, zero, suc, ◌+◌, ◌-◌, ◌<◌, ◌≤◌, Bool, true, false, cond, eqb, List, [], ◌∷◌, ◌++◌, length, Option, Some, None, refl, sym, ap, subst, ◌∙◌, append_assoc, arith}
-use Rattle.std.specs.Int.{w8, w32, w64, to_be_bytes}
-use Rattle.std.proofs.lemmas.Bool.{eqb-true, eqb-false}
+use Rattle.std.proofs.Common.{◌≡◌, ℕ, zero, suc, ◌-◌, ◌≤◌, Bool, true, false, cond, eqb, List, ◌++◌, refl, ap, ◌∙◌, append_assoc, arith}
+use Rattle.std.specs.Int.{w8, w64, to_be_bytes}
 use Rattle.model_values.specs.Value.{Val}
 use Rattle.model_values.specs.Token.{Tok, single, both}
 use Rattle.model_values.specs.Row.{Row}
 use Rattle.model_messages.specs.Spelling.{number, truth, spelled_value, spelled_token}
-use Rattle.model_wire.specs.declared.wire_why.WireWhy.TheVariants as why
-use Rattle.model_wire.specs.Reader.{Reading, Reader, both_at, counted, made, list_at, ranged_at, kind_at}
+use Rattle.model_wire.specs.Reader.{both_at, ranged_at, kind_at}
 use Rattle.model_wire.specs.Value.{value_at, token_parts_at, token_made, token_at, row_made, row_at}
-use Rattle.model_wire.specs.Message.{row_limit, row_after_at, single_rows_at, token_after_at, tokens_at}
 use Rattle.model_wire.specs.Spelling.{spelled_row}
-use Rattle.model_wire.specs.Lawful.{IsSourceValue, IsNodes, IsBase, IsToken, IsRow}
-use Rattle.model_wire.proofs.Codecs.{IsCodec, wide8, wide32, wide64, IsBelow, HasTested, tested_codec, HasBoth, spell_both, both_codec, spell_counted, HasCounted, counted_codec, IsRemade, made_codec, HasMany, spell_all, list_codec}
+use Rattle.model_wire.specs.Lawful.{IsSourceValue, IsNodes, IsToken, IsRow}
+use Rattle.model_wire.proofs.Codecs.{IsCodec, wide8, wide64, HasBoth, spell_both, both_codec, made_codec}
 use Rattle.model_wire.proofs.ValueLaws.{HasRange, ranged_codec, kind_codec, within_range, in_range, value_codec}
 
 abbrev Parts : Type 0

@@ -1,25 +1,18 @@
 -- The rows of a set in either version, and the elements of a grow-only set, beside their spellings.
-use Rattle.std.proofs.Common.{◌≡◌, ℕ, zero, suc, ◌+◌, ◌-◌, ◌<◌, ◌≤◌, Bool, true, false, cond, List, [], ◌∷◌, ◌++◌, length, map, Option, Some, None, refl, sym, ap, subst, ◌∙◌, append_assoc, arith}
-use Rattle.std.specs.Prelude.{IsTrue}
-use Rattle.std.specs.List.{AllByRecursion, flat_map}
+use Rattle.std.proofs.Common.{ℕ, ◌≤◌, Bool, List, length, Option, None, refl, sym, ap, ◌∙◌, arith}
 use Rattle.std.specs.Int.{w32, to_be_bytes}
-use Rattle.std.specs.Ordering.{eq_by_cmp, is_lt, ordering_then}
 use Rattle.std.specs.FinMap.Entries.{is_sorted}
-use Rattle.std.specs.declared.cmp.Ordering.{Ordering}
-use Rattle.std.specs.declared.cmp.Ordering.TheVariants.{Less, Equal, Greater}
-use Rattle.std.proofs.lemmas.List.{map-id, length-append, length-map}
-use Rattle.model_values.specs.Value.{Val, val_cmp, val_total, val_exact}
-use Rattle.model_values.specs.Token.{Tok, tok_cmp, tok_total}
+use Rattle.std.proofs.lemmas.List.{map-id}
+use Rattle.model_values.specs.Value.{Val, val_cmp, val_total}
 use Rattle.model_values.specs.Row.{Row, Key, row_cmp, key_cmp, key_total}
-use Rattle.model_sets.specs.Values.{entries_of}
-use Rattle.model_messages.specs.Spelling.{Group, with_row, groups_of, spelled_value, spelled_group, spelled_rows, spelled_values}
+use Rattle.model_messages.specs.Spelling.{spelled_value, spelled_values}
 use Rattle.model_wire.specs.declared.wire_why.WireWhy.TheVariants as why
-use Rattle.model_wire.specs.Reader.{Reading, Reader, both_at, counted, made, list_at, ranged_at}
-use Rattle.model_wire.specs.Value.{value_at, token_at, row_at, is_above, mark_cmp, latest}
-use Rattle.model_wire.specs.Message.{row_after_at, single_rows_at, token_after_at, tokens_at, Before, value_after_at, group_made, group_at, after_group, row_of, rows_of_group, rows_of, groups_at, grouped_rows_at, elements_at}
+use Rattle.model_wire.specs.Reader.{list_at, ranged_at}
+use Rattle.model_wire.specs.Value.{value_at, row_at, is_above, latest}
+use Rattle.model_wire.specs.Message.{row_after_at, single_rows_at, value_after_at, elements_at}
 use Rattle.model_wire.specs.Spelling.{spelled_row, spelled_single_rows}
-use Rattle.model_wire.specs.Lawful.{IsSourceValue, IsNodes, IsToken, IsRow, AreRows, AreElements}
-use Rattle.model_wire.proofs.Codecs.{IsCodec, wide32, HasTested, tested_codec, HasBoth, spell_both, both_codec, spell_counted, HasCounted, counted_codec, IsRemade, made_codec, has_codec, AllHave, HasMany, spell_all, list_codec}
+use Rattle.model_wire.specs.Lawful.{IsSourceValue, IsNodes, IsRow, AreRows, AreElements}
+use Rattle.model_wire.proofs.Codecs.{IsCodec, wide32, HasTested, tested_codec, HasCounted, counted_codec, has_codec, AllHave, HasMany, spell_all, list_codec}
 use Rattle.model_wire.proofs.ValueLaws.{HasRange, ranged_codec, within_range, in_range, value_codec}
 use Rattle.model_wire.proofs.RowLaws.{row_codec}
 use Rattle.model_wire.proofs.OrderLaws.{rise_sorted, rise_each, sorted_rise}

@@ -1,7 +1,6 @@
 -- Counts, registers, names and sources beside their spellings, in either version.
-use Rattle.std.proofs.Common.{◌≡◌, ℕ, zero, suc, ◌+◌, ◌<◌, ◌≤◌, Bool, true, false, cond, eqb, ltb, leb, List, [], ◌∷◌, ◌++◌, length, Option, Some, None, Result, Ok, Err, ℤ, pos, refl, sym, ap, subst, ◌∙◌, append_assoc, arith}
-use Rattle.std.specs.Prelude.{FitsSigned, slice_index}
-use Rattle.std.specs.List.{AllByRecursion, flat_map, list_all}
+use Rattle.std.proofs.Common.{◌≡◌, ℕ, zero, suc, ◌<◌, ◌≤◌, true, false, cond, eqb, ltb, leb, List, [], ◌∷◌, ◌++◌, length, Option, Some, None, Ok, ℤ, pos, refl, sym, ap, subst, ◌∙◌, arith}
+use Rattle.std.specs.Prelude.{FitsSigned}
 use Rattle.std.specs.Int.{w8, w64, to_be_bytes}
 use Rattle.std.proofs.lemmas.Bool.{and_parts, leb-true, ltb-true}
 use mir.Syntax as words
@@ -9,17 +8,17 @@ use Rattle.model_values.specs.Value.{Val}
 use Rattle.model_values.specs.Row.{Row}
 use Rattle.model_states.specs.Counts.{count_max}
 use Rattle.model_states.specs.Content.{Content, of_set, of_grow, of_counts, of_top}
-use Rattle.model_graph.specs.Graph.{Kind, OrSet, GSet, Counter, MaxReg, Union, Product, Intersection, Map, Filter, Fold, Decl}
-use Rattle.model_messages.specs.Message.{Sent, Message}
-use Rattle.model_messages.specs.Spelling.{number, truth, signed_number, spelled_values, spelled_rows, spelled_counts, spelled_top, spelled_content}
-use Rattle.lasp_value.specs.Name.{is_name, is_small_letter, is_name_byte}
+use Rattle.model_graph.specs.Graph.{Kind, OrSet, GSet, Counter, MaxReg, Union, Product, Intersection, Map, Filter, Fold}
+use Rattle.model_messages.specs.Message.{Sent}
+use Rattle.model_messages.specs.Spelling.{signed_number, spelled_values, spelled_rows, spelled_counts, spelled_top}
+use Rattle.lasp_value.specs.Name.{is_name}
 use Rattle.model_wire.specs.declared.wire_why.WireWhy.TheVariants as why
-use Rattle.model_wire.specs.Reader.{Reading, Reader, bytes_at, nothing_at, tested, both_at, counted, made, list_at, ranged_at, kind_at}
+use Rattle.model_wire.specs.Reader.{bytes_at, nothing_at, tested, both_at, counted, made, list_at, ranged_at, kind_at}
 use Rattle.model_wire.specs.Value.{signed_at}
 use Rattle.model_wire.specs.Message.{single_rows_at, grouped_rows_at, rows_at, elements_at, limited_at, nothing_more, numbers_at, no_number, some_number, top_behind, top_at, Held, held_set, held_elements, held_counts, held_top, held_behind, held_at, name_at, source_made, source_at}
 use Rattle.model_wire.specs.Spelling.{spelled_single_rows, spelled_rows_in, spelled_content_in, spelled_source_in}
 use Rattle.model_wire.specs.Lawful.{IsNodes, AreRows, AreElements, AreAtMost, FitsTop, IsSource, IsSent}
-use Rattle.model_wire.proofs.Codecs.{IsBytes, Takes, IsCodec, IsLong, itself, bytes_codec, wide8, wide64, HasTested, tested_codec, HasBoth, spell_both, both_codec, spell_counted, HasCounted, counted_codec, IsRemade, made_codec, has_codec, spelled_codec, AllHave, HasMany, spell_all, list_codec}
+use Rattle.model_wire.proofs.Codecs.{Takes, IsCodec, IsLong, itself, bytes_codec, wide8, wide64, HasTested, tested_codec, HasBoth, spell_both, both_codec, spell_counted, HasCounted, counted_codec, made_codec, has_codec, spelled_codec, AllHave, HasMany, list_codec}
 use Rattle.model_wire.proofs.ValueLaws.{HasRange, ranged_codec, kind_codec, signed_codec, within_range, in_range}
 use Rattle.model_wire.proofs.SetLaws.{single_rows_codec, elements_codec}
 use Rattle.model_wire.proofs.GroupLaws.{grouped_rows_codec}

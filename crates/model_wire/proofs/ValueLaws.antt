@@ -1,20 +1,19 @@
 -- Numbers, texts, values, tokens and rows beside their spellings.
-use Rattle.std.proofs.Common.{◌≡◌, ℕ, zero, suc, ◌+◌, ◌-◌, ◌*◌, ◌^◌, ◌<◌, ◌≤◌, Bool, true, false, cond, eqb, ltb, leb, List, [], ◌∷◌, ◌++◌, length, Result, Ok, Err, ℤ, refl, sym, ap, subst, ◌∙◌, append_assoc, arith, inl, inr}
+use Rattle.std.proofs.Common.{◌≡◌, ℕ, zero, suc, ◌+◌, ◌-◌, ◌<◌, ◌≤◌, Bool, true, false, cond, eqb, leb, List, ◌++◌, length, Ok, Err, ℤ, refl, sym, ap, subst, append_assoc, arith}
 use Rattle.std.specs.Prelude.{FitsSigned}
 use Rattle.std.specs.Str.{is_utf8}
-use Rattle.std.specs.Int.{Width, w8, w16, w32, w64, cast_signed, cast_unsigned, to_be_bytes}
+use Rattle.std.specs.Int.{Width, w8, w16, w64, cast_signed, cast_unsigned, to_be_bytes}
 use Rattle.std.proofs.lemmas.Int.{to_z-of_z, of_z-to_z}
 use mir.ValLaws.{to_z-Fits, of_z_fits}
 use Rattle.model_values.specs.Value.{Val, int, text, pair}
 use Rattle.model_values.specs.Size.{leaves, text_bytes}
-use Rattle.model_graph.specs.Chain.{◌>>=◌}
 use Rattle.model_messages.specs.Spelling.{signed_number, spelled_value}
-use Rattle.std.proofs.lemmas.Bool.{and_parts, and_from, leb-true, le-leb, eqb-true, eqb-false, eq-eqb, ne_eqb}
+use Rattle.std.proofs.lemmas.Bool.{and_parts, and_from, leb-true, le-leb, eqb-true, eqb-false, ne_eqb}
 use Rattle.model_wire.specs.declared.wire_why.WireWhy.TheVariants as why
 use Rattle.model_wire.specs.Reader.{Reading, Reader, bytes_at, tested, counted, remade, made, number_at, ranged_at, kind_at, between}
 use Rattle.model_wire.specs.Value.{signed_at, text_at, Part, part, int_part, text_part, pair_part, part_at, part_value, value_at}
 use Rattle.model_wire.specs.Lawful.{IsSpellable, IsSourceValue}
-use Rattle.model_wire.proofs.Codecs.{IsBytes, Takes, takes_both, IsCodec, IsLong, itself, bytes_codec, IsWide, wide8, wide16, wide32, wide64, IsBelow, number_codec, HasTested, tested_codec, HasCounted, spell_counted, counted_codec, IsRemade, made_codec, Passed, passed}
+use Rattle.model_wire.proofs.Codecs.{IsBytes, Takes, takes_both, IsCodec, IsLong, itself, bytes_codec, IsWide, wide8, wide16, wide64, IsBelow, number_codec, HasTested, tested_codec, counted_codec, made_codec, passed}
 
 -- a number of a range
 abbrev pub HasRange : ℕ → ℕ → ℕ → ℕ → Type 0

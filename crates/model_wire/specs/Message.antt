@@ -1,5 +1,5 @@
 -- Sets, sources and whole messages from bytes, in both versions: version 1 has a value in every row, version 2 has it once before its tokens.
-use Rattle.std.specs.Prelude.{ℕ, ℤ, ◌+◌, ◌-◌, ◌==◌, ◌||◌, Bool, if◌then◌else◌, List, [], ◌∷◌, length, map, flat_map, Option, Some, None, Result, Ok, Err}
+use Rattle.std.specs.Prelude.{ℕ, ℤ, ◌+◌, ◌-◌, ◌==◌, ◌||◌, Bool, if◌then◌else◌, List, length, map, flat_map, Option, Some, None, Result, Ok, Err}
 use Rattle.std.specs.Int.{w8, w32, w64}
 use Rattle.model_values.specs.Value.{Val, val_cmp}
 use Rattle.model_values.specs.Token.{Tok}
@@ -7,13 +7,13 @@ use Rattle.model_values.specs.Row.{Row, row_cmp}
 use Rattle.model_states.specs.Counts.{count_max}
 use Rattle.model_states.specs.Content.{Content, of_set, of_grow, of_counts, of_top}
 use Rattle.model_graph.specs.Chain.{◌>>=◌}
-use Rattle.model_graph.specs.Graph.{Kind, OrSet, GSet, Counter, MaxReg, Decl}
+use Rattle.model_graph.specs.Graph.{Kind, OrSet, GSet, Counter, MaxReg}
 use Rattle.model_messages.specs.Message.{Sent, Message}
 use Rattle.model_messages.specs.Spelling.{Group}
 use Rattle.lasp_value.specs.Name.{is_name}
 use Rattle.model_wire.specs.declared.wire_why.WireWhy.{WireWhy}
 use Rattle.model_wire.specs.declared.wire_why.WireWhy.TheVariants as why
-use Rattle.model_wire.specs.Reader.{Reading, Reader, bytes_at, nothing_at, tested, both_at, counted, made, list_at, number_at, ranged_at, kind_at, magic_at}
+use Rattle.model_wire.specs.Reader.{Reader, bytes_at, nothing_at, tested, both_at, counted, made, list_at, number_at, ranged_at, kind_at, magic_at}
 use Rattle.model_wire.specs.Value.{signed_at, value_at, token_at, row_at, is_above, mark_cmp, latest}
 
 -- the most rows of a set

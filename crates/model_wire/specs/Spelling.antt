@@ -2,7 +2,7 @@
 use Rattle.std.specs.Prelude.{ℕ, ◌++◌, ◌==◌, List, [], ◌∷◌, length, flat_map, if◌then◌else◌, codes}
 use Rattle.model_values.specs.Row.{Row}
 use Rattle.model_states.specs.Content.{Content}
-use Rattle.model_graph.specs.Graph.{Kind, OrSet, GSet, Counter, MaxReg}
+use Rattle.model_graph.specs.Graph.{Kind, OrSet}
 use Rattle.model_messages.specs.Message.{Sent, Message}
 use Rattle.model_messages.specs.Spelling.{number, truth, spelled_value, spelled_token, spelled_rows, spelled_content}
 

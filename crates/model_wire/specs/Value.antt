@@ -1,5 +1,5 @@
 -- Values, tokens and rows from bytes.
-use Rattle.std.specs.Prelude.{ℕ, zero, suc, ℤ, ◌+◌, ◌-◌, ◌==◌, Bool, true, if◌then◌else◌, List, length, Option, Some, None, Result, Ok, Err}
+use Rattle.std.specs.Prelude.{ℕ, zero, suc, ℤ, ◌-◌, ◌==◌, Bool, true, if◌then◌else◌, List, length, Option, Some, None, Err}
 use Rattle.std.specs.Int.{cast_signed, w8, w16, w64}
 use Rattle.std.specs.Str.{is_utf8}
 use Rattle.std.specs.Ordering.{is_lt}
@@ -9,7 +9,7 @@ use Rattle.model_values.specs.Token.{Tok, single, tok_cmp}
 use Rattle.model_values.specs.Row.{Row}
 use Rattle.model_graph.specs.Chain.{◌>>=◌}
 use Rattle.model_wire.specs.declared.wire_why.WireWhy.TheVariants as why
-use Rattle.model_wire.specs.Reader.{Reading, Reader, bytes_at, tested, both_at, counted, made, list_at, number_at, ranged_at, kind_at}
+use Rattle.model_wire.specs.Reader.{Reader, bytes_at, tested, both_at, counted, made, number_at, ranged_at, kind_at}
 
 -- a number with a sign, of 8 bytes in two's complement
 abbrev pub signed_at : Reader ℤ
