@@ -4,3 +4,4 @@ pub mod Deciding
 pub mod DeclarationLaws
 pub mod WordForms
 pub mod CommandLaws
+pub mod Small

@@ -51,3 +51,8 @@ kind_in g t = kind_at g (place_at g t)
 -- the number of the variable that a mark was made of
 abbrev pub marked_at : Progress → List ℕ → ℕ
 marked_at p m = slice_index_or p.stage.marked (mark_at p.names m) 0
+
+-- what stands behind commands
+abbrev pub stage_behind : ℕ → Stage → List Command → Stage
+stage_behind nodes s [] = s
+stage_behind nodes s (k ∷ ks) = stage_behind nodes (stage_after nodes s k) ks
