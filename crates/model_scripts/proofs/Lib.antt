@@ -5,3 +5,7 @@ pub mod DeclarationLaws
 pub mod WordForms
 pub mod CommandLaws
 pub mod Small
+pub mod PartLaws
+pub mod FollowLaws
+pub mod DoneLaws
+pub mod Reached
