@@ -9,3 +9,4 @@ pub mod PartLaws
 pub mod FollowLaws
 pub mod DoneLaws
 pub mod Reached
+pub mod ExampleLaws

@@ -5,3 +5,4 @@ pub mod Check
 pub mod Script
 pub mod Needs
 pub mod First
+pub mod Example
