@@ -304,6 +304,9 @@ module _ (lib : Library) (nodes : ℕ) (p : Progress) (d : Data) (w : Word) (is 
   can-word : CanDeclare lib p.stage.graph w → all_checked (checks nodes p w) ≡ Ok tt → word_read lib nodes p d ≡ Ok w
   can-word can passed = to-table can ∙ ap (λ (r : Result (Unit {0}) ScriptWhy). r >>= λ _. Ok w) passed
 
+  pub passing-read : CanDeclare lib p.stage.graph w → Passing nodes p w → word_read lib nodes p d ≡ Ok w
+  passing-read can a = can-word can (all-pass (checks nodes p w) (passes-all nodes p w a))
+
   word-step : (r s : Result (Unit {0}) ScriptWhy) → declared_checked lib p.stage.graph w ≡ r → all_checked (checks nodes p w) ≡ s → (r >>= λ _. s >>= λ _. Ok w) ≡ Ok w
       → CanDeclare lib p.stage.graph w × Passing nodes p w
   word-step (Ok t) (Ok u) e f h = (checked-can lib p.stage.graph w e, passing nodes p w (all-passed (checks nodes p w) f))
@@ -322,7 +325,7 @@ module _ (lib : Library) (nodes : ℕ) (p : Progress) (d : Data) (w : Word) (is 
     λ h.
       let var = (var-Decides p.stage.graph w).1 h.2 in
       let known = (mark-Decides p.names w).1 h.3 in
-      can-word h.0 (all-pass (checks nodes p w) (passes-all nodes p w (record {
+      passing-read h.0 (record {
         node = (node-Decides nodes w).1 h.1;
         var = var;
         known = known;
@@ -331,7 +334,7 @@ module _ (lib : Library) (nodes : ℕ) (p : Progress) (d : Data) (w : Word) (is 
         brought = (brought-Decides w).1 h.6;
         sent = (sent-Decides p.stage.sent w).1 h.7;
         room = (room-Decides p w).1 h.8;
-      }))),
+      }),
   )
 
 pub command-declared : (lib : Library) (nodes : ℕ) (p : Progress) (d tree : Data) (e : GraphWhy) → word_of d ≡ Some (declare tree) → IsDeclarationCause e

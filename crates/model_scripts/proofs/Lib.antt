@@ -10,3 +10,5 @@ pub mod FollowLaws
 pub mod DoneLaws
 pub mod Reached
 pub mod ExampleLaws
+pub mod ByteLaws
+pub mod AlikeLaws

@@ -73,3 +73,7 @@ all_words =
     ∷ command (codes "await") 0 (codes "c") (list (text (codes "count") ∷ whole 0 ∷ []))
     ∷ command (codes "await") 0 (codes "u") (list (text (codes "removed") ∷ list [] ∷ []))
     ∷ []
+
+-- a script as it stands in a file
+abbrev pub example_bytes : List ℕ
+example_bytes = codes "[[\"nodes\",2],[\"add\",0,\"a\",5],[\"mark\",0,\"a\",\"k\"],[\"sync\"],[\"deliver\",1,1],[\"declare\",[\"n\",\"map\",\"u\",\"abs\"]],[\"await\",1,\"n\",[\"added\",[-5]]]]"

@@ -9,8 +9,8 @@ ghost use Rattle.model_graph.specs.Graph.{Map};
 ghost use Rattle.model_readings.specs.Script.{script_from};
 ghost use Rattle.model_world.specs.Command.{AtLeast, Above, Count, Added, Removed, Add, Remove, Insert, Inc, Max, Mark, Bind, Send, Deliver, Sync, Settle, Print, Read, Await, Declare};
 ghost use Rattle.model_scripts.specs.declared.script_why.ScriptWhy.TheVariants as why;
-ghost use Rattle.model_scripts.specs.Script.{tree_read};
-ghost use Rattle.model_scripts.specs.Example.{list, text, whole, variable, example_graph, example_library, nodes, command, declaration, told, all_words};
+ghost use Rattle.model_scripts.specs.Script.{tree_read, script_of};
+ghost use Rattle.model_scripts.specs.Example.{list, text, whole, variable, example_graph, example_library, nodes, command, declaration, told, all_words, example_bytes};
 
 /// Marks and messages are named by their numbers; three messages stand behind one send and one sync of two nodes; the variable that the script declares is the seventh.
 #[tactic(auto, using(crate::proofs::ExampleLaws::examples))]
@@ -55,4 +55,11 @@ pub fn declarations_of_scripts_are_refused_as_in_graphs()
     ensures unknown_input { told (declaration (text (codes "n") ∷ text (codes "union") ∷ text (codes "c") ∷ text (codes "z") ∷ []) ∷ []) ≡ Err (1, why.UnknownInput) }
     ensures wrong_kind { told (declaration (text (codes "n") ∷ text (codes "map") ∷ text (codes "g") ∷ text (codes "neg") ∷ []) ∷ []) ≡ Err (1, why.WrongKind) }
     ensures unknown_function { told (declaration (text (codes "n") ∷ text (codes "map") ∷ text (codes "a") ∷ text (codes "neg") ∷ []) ∷ []) ≡ Err (1, why.UnknownFunction) }
+{}
+
+/// A script as it stands in a file, and one whose array isn't closed.
+#[tactic(auto, using(crate::proofs::ByteLaws::bytes))]
+pub fn scripts_are_read_from_their_bytes()
+    ensures read { script_of example_library example_graph example_bytes ≡ Ok (script_from 2 (Add 0 0 (int (pos 5)) ∷ Mark 0 0 ∷ Sync ∷ Deliver 1 1 ∷ Declare (variable (codes "n") (Map 2 0 (Abs ∷ []))) ∷ Await 1 6 (Added (int (negsuc 4) ∷ [])) ∷ [])) }
+    ensures not_json { script_of example_library example_graph (codes "[[\"nodes\",1]") ≡ Err (0, why.NotJson) }
 {}
