@@ -9,5 +9,5 @@ ghost use Rattle.model_scripts.specs.Script.{script_of};
 
 /// Each script of one node and of updates and prints alone that `model_readings` accepts is accepted here, with the same commands, whatever the library has.
 pub fn scripts_of_one_node_are_read_alike()
-    ensures accepted { (lib : Library) (g : List Decl) (bytes : List ℕ) (s : Script) → readings.script_of g bytes ≡ Ok s → script_of lib g bytes ≡ Ok s }
+    ensures { (lib : Library) (g : List Decl) (bytes : List ℕ) (s : Script) → readings.script_of g bytes ≡ Ok s → script_of lib g bytes ≡ Ok s }
 {}
