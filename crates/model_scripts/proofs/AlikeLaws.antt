@@ -1,15 +1,15 @@
 -- A script that is read against the words of one node is read alike against all words.
 use Rattle.std.proofs.Common.{refl, sym, ap, subst, ◌∙◌, arith}
-use Rattle.std.specs.Prelude.{◌≡◌, ℕ, ℤ, pos, ◌+◌, ◌<◌, ◌≤◌, ◌&&◌, List, [], ◌∷◌, ◌++◌, length, Bool, true, false, nat_lt, nat_le, if◌then◌else◌, Option, Some, None, is_some, option_map, option_and_then, unwrap_or, Result, Ok, Err, is_ok, codes}
+use Rattle.std.specs.Prelude.{◌≡◌, ℕ, ℤ, pos, ◌+◌, ◌&&◌, List, [], ◌∷◌, ◌++◌, length, Bool, true, false, nat_lt, nat_le, if◌then◌else◌, Option, Some, None, is_some, option_map, option_and_then, unwrap_or, Result, Ok, is_ok, codes}
 use Rattle.std.specs.Result.{result_unwrap_or}
-use Rattle.std.proofs.lemmas.Bool.{ltb-true, leb-true, le-leb, and_from}
+use Rattle.std.proofs.lemmas.Bool.{leb-true, le-leb, and_from}
 use Rattle.serde_json.specs.Data.{Data, Num}
 use Rattle.serde_json.specs.Find.{at, as_array, as_u64, as_i64}
 use Rattle.model_values.specs.Value.{Val, int}
 use Rattle.lasp_value.specs.Json.{read_value}
 use Rattle.lasp_value.specs.declared.refused.ValueRefused.{ValueRefused}
 use Rattle.model_functions.specs.Library.{Library}
-use Rattle.model_graph.specs.Chain.{◌>>=◌, check, or_else}
+use Rattle.model_graph.specs.Chain.{◌>>=◌, or_else}
 use Rattle.model_graph.specs.Graph.{Kind, Decl, decl_at, kind_at}
 use Rattle.model_readings.specs.declared.script_why.ScriptWhy.TheVariants as old_why
 use Rattle.model_readings.specs.declared.script_why.ScriptWhy.{ScriptWhy as OldWhy}
@@ -25,11 +25,12 @@ use Rattle.model_scripts.specs.declared.script_why.ScriptWhy.{ScriptWhy}
 use Rattle.model_scripts.specs.declared.script_why.ScriptWhy.TheVariants as why
 use Rattle.model_scripts.specs.Word.{Word, add, remove, insert, inc, max, print, word_of}
 use Rattle.model_scripts.specs.Progress.{Progress, opening, next_number, after, place_at, kind_in}
-use Rattle.model_scripts.specs.Parts.{number_below, step_of, index_below, value_of, command_of}
-use Rattle.model_scripts.specs.Check.{checks, all_checked, has_room_beside, has_room}
-use Rattle.model_scripts.specs.Script.{word_read, next_read, commands_read, in_range, nodes_of, parts_read, tree_read, script_of}
+use Rattle.model_scripts.specs.Parts.{number_below, step_of, index_below, command_of}
+use Rattle.model_scripts.specs.Check.{has_room}
+use Rattle.model_scripts.specs.Script.{next_read, commands_read, in_range, nodes_of, parts_read, tree_read, script_of}
 use Rattle.model_scripts.specs.Needs.{CanDeclare}
 use Rattle.model_scripts.proofs.CommandLaws.{Passing, passing-read, next-accepted}
+use Rattle.model_scripts.proofs.Firsts.{read-one}
 
 -- ---- words
 
@@ -265,7 +266,7 @@ commands-alike lib nodes p (d ∷ ds) g before ks same begun e =
     let rest = commands-alike lib nodes n.next ds g (before ++ k.value ∷ []) ks (n.graph ∙ same) (n.commands ∙ ap (λ (js : List Command). js ++ k.value ∷ []) begun) k.then in
     record {
       last = rest.last;
-      is = ap (λ (r : Result Progress ScriptWhy). numbered (next_number p) r >>= λ next. commands_read lib nodes next ds) n.is ∙ rest.is;
+      is = read-one lib nodes p n.next d ds (Ok rest.last) n.is rest.is;
       commands = rest.commands;
     }
 

@@ -1,8 +1,7 @@
 -- What the bytes of a worked script come to, by computation.
 use Rattle.std.proofs.Common.{refl, ap, ◌∙◌}
-use Rattle.std.specs.Prelude.{◌≡◌, ℕ, zero, suc, ◌<◌, pos, negsuc, List, [], ◌∷◌, codes, slice_index, Bool, true, nat_lt, if◌then◌else◌, Option, Some, None, Ok, Err}
+use Rattle.std.specs.Prelude.{◌≡◌, ℕ, zero, suc, ◌<◌, pos, negsuc, List, [], ◌∷◌, codes, slice_index, Bool, true, nat_lt, if◌then◌else◌, Option, None, Ok, Err}
 use Rattle.std.specs.List.{list_all}
-use Rattle.std.specs.Str.{is_utf8}
 use Rattle.std.proofs.lemmas.Bool.{ltb-true, and_parts}
 use Rattle.std.proofs.lemmas.Str.{IsUtf8-from_ascii, is_utf8-from_IsUtf8}
 use Rattle.std.proofs.lemmas.Str.Ascii.{IsAscii-nil}

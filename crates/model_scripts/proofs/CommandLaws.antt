@@ -3,7 +3,7 @@ use Rattle.std.proofs.Common.{refl, sym, ap, subst, ◌∙◌}
 use Rattle.std.specs.Prelude.{◌≡◌, ◌≢◌, ◌↔◌, ℕ, List, ◌∷◌, drop, Bool, true, false, Option, Some, None, Result, Ok, Err, Decides}
 use Rattle.serde_json.specs.Data.{Data}
 use Rattle.model_functions.specs.Library.{Library}
-use Rattle.model_graph.specs.Chain.{◌>>=◌, check, or_else, refusing}
+use Rattle.model_graph.specs.Chain.{◌>>=◌, or_else, refusing}
 use Rattle.model_graph.specs.Graph.{Decl}
 use Rattle.model_readings.specs.declared.graph_why.GraphWhy.{GraphWhy}
 use Rattle.model_readings.specs.declared.graph_why.GraphWhy.TheVariants as graph_why
@@ -319,22 +319,30 @@ module _ (lib : Library) (nodes : ℕ) (p : Progress) (d : Data) (w : Word) (is 
 
   pub command-accepted : (word_read lib nodes p d ≡ Ok w ↔ (CanDeclare lib p.stage.graph w × HasNode nodes w × HasVar p.stage.graph w × HasMark p.names w × HasNewMark p.names w × IsRight nodes p w × IsBrought w × WasSent p.stage.sent w × HasRoom p w))
   command-accepted = (
-    λ h. let a = word-passed h in
-      (a.0, (node-Decides nodes w).0 a.1.node, (var-Decides p.stage.graph w).0 a.1.var, (mark-Decides p.names w).0 a.1.known, (new_mark-Decides p.names w).0 a.1.new,
-       (right-Decides nodes p w a.1.var a.1.known).0 a.1.right, (brought-Decides w).0 a.1.brought, (sent-Decides p.stage.sent w).0 a.1.sent, (room-Decides p w).0 a.1.room),
+    λ h. let a = word-passed h in (
+      a.0,
+      (node-Decides nodes w).0 a.1.node,
+      (var-Decides p.stage.graph w).0 a.1.var,
+      (mark-Decides p.names w).0 a.1.known,
+      (new_mark-Decides p.names w).0 a.1.new,
+      (right-Decides nodes p w a.1.var a.1.known).0 a.1.right,
+      (brought-Decides w).0 a.1.brought,
+      (sent-Decides p.stage.sent w).0 a.1.sent,
+      (room-Decides p w).0 a.1.room,
+    ),
     λ h.
-      let var = (var-Decides p.stage.graph w).1 h.2 in
-      let known = (mark-Decides p.names w).1 h.3 in
-      passing-read h.0 (record {
-        node = (node-Decides nodes w).1 h.1;
-        var = var;
-        known = known;
-        new = (new_mark-Decides p.names w).1 h.4;
-        right = (right-Decides nodes p w var known).1 h.5;
-        brought = (brought-Decides w).1 h.6;
-        sent = (sent-Decides p.stage.sent w).1 h.7;
-        room = (room-Decides p w).1 h.8;
-      }),
+        let var = (var-Decides p.stage.graph w).1 h.2 in
+        let known = (mark-Decides p.names w).1 h.3 in
+        passing-read h.0 (record {
+          node = (node-Decides nodes w).1 h.1;
+          var = var;
+          known = known;
+          new = (new_mark-Decides p.names w).1 h.4;
+          right = (right-Decides nodes p w var known).1 h.5;
+          brought = (brought-Decides w).1 h.6;
+          sent = (sent-Decides p.stage.sent w).1 h.7;
+          room = (room-Decides p w).1 h.8;
+        }),
   )
 
 pub command-declared : (lib : Library) (nodes : ℕ) (p : Progress) (d tree : Data) (e : GraphWhy) → word_of d ≡ Some (declare tree) → IsDeclarationCause e

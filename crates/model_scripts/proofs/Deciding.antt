@@ -1,7 +1,7 @@
 -- Each check decides what it is said to.
 use Rattle.std.proofs.Common.{refl, sym, ap, subst, ◌∙◌}
-use Rattle.std.specs.Prelude.{◌≡◌, ℕ, ℤ, ◌&&◌, ◌==◌, List, [], ◌∷◌, length, slice_get, get_or, slice_index_or, Bool, true, false, nat_lt, nat_le, if◌then◌else◌, Option, Some, None, is_some, is_none, option_and_then, unwrap_or, Result, Ok, Err, is_ok, Decides}
-use Rattle.std.specs.List.{position, list_all}
+use Rattle.std.specs.Prelude.{◌≡◌, ℕ, ◌&&◌, ◌==◌, List, [], ◌∷◌, length, get_or, slice_index_or, Bool, true, false, nat_lt, nat_le, if◌then◌else◌, Option, Some, None, is_some, is_none, option_and_then, unwrap_or, Result, Ok, Err, is_ok, Decides}
+use Rattle.std.specs.List.{list_all}
 use Rattle.std.specs.Str.{bytes_eq}
 use Rattle.std.proofs.lemmas.Bool.{false≢true, ltb-true, leb-true, lt-ltb, le-leb}
 use Rattle.std.proofs.lemmas.Bool.Decides.{Decides-not, Decides-and, Decides-ltb, Decides-eqb}
@@ -37,8 +37,11 @@ holds-Decides test P h (Some x) = h x
 
 below-test : (limit : ℕ) (n : Num) (k : ℕ) (b : Bool) → as_u64 n ≡ Some k → nat_lt k limit ≡ b → Decides (is_some (if b then Some k else None)) (IsBelow limit n)
 below-test limit n k true e lt = (λ h. record { number = k; is = e; below = ltb-true k limit lt }, λ v. refl)
-below-test limit n k false e ge = (λ h. absurd cc, λ v. let same : k ≡ v.number = (let both : Some k ≡ Some v.number = sym e ∙ v.is in cc) in
-    absurd (false≢true (sym ge ∙ subst (λ (q : ℕ). nat_lt q limit ≡ true) (sym same) (lt-ltb v.number limit v.below))))
+below-test limit n k false e ge = (
+  λ h. absurd cc,
+  λ v. let same : k ≡ v.number = (let both : Some k ≡ Some v.number = sym e ∙ v.is in cc) in
+      absurd (false≢true (sym ge ∙ subst (λ (q : ℕ). nat_lt q limit ≡ true) (sym same) (lt-ltb v.number limit v.below))),
+)
 
 below-step : (limit : ℕ) (n : Num) (o : Option ℕ) → as_u64 n ≡ o → Decides (is_some (option_and_then (below limit) o)) (IsBelow limit n)
 below-step limit n None e = (λ h. absurd cc, λ v. let both : None ≡ Some v.number = sym e ∙ v.is in absurd cc)
@@ -88,8 +91,11 @@ new_mark-Decides names w = holds-Decides (λ m. is_none (mark_of m names)) (λ m
 
 kind-step : (g : List Decl) (x : List ℕ) (works : Kind → Bool) (o : Option ℕ) → place_of x g ≡ o → is_some o ≡ true → Decides (works (kind_at g (unwrap_or o 0))) (IsOfKind g x works)
 kind-step g x works None e some = absurd cc
-kind-step g x works (Some i) e some = (λ h. record { place = i; named = e; kind = h }, λ v. let same : v.place ≡ i = (let both : Some v.place ≡ Some i = sym v.named ∙ e in cc) in
-    subst (λ (y : ℕ). works (kind_at g y) ≡ true) same v.kind)
+kind-step g x works (Some i) e some = (
+  λ h. record { place = i; named = e; kind = h },
+  λ v. let same : v.place ≡ i = (let both : Some v.place ≡ Some i = sym v.named ∙ e in cc) in
+      subst (λ (y : ℕ). works (kind_at g y) ≡ true) same v.kind,
+)
 
 kind-Decides : (g : List Decl) (x : List ℕ) (works : Kind → Bool) → is_some (place_of x g) ≡ true → Decides (works (kind_at g (unwrap_or (place_of x g) 0))) (IsOfKind g x works)
 kind-Decides g x works some = kind-step g x works (place_of x g) refl some
@@ -101,8 +107,8 @@ mark-of-step p m x (Some n) None e f marked some = absurd cc
 mark-of-step p m x (Some n) (Some i) e f marked some = (
   λ h. record { number = n; place = i; marked = e; named = f; same = (Decides-eqb (slice_index_or p.stage.marked n 0) i).0 h },
   λ v. let number : v.number ≡ n = (let both : Some v.number ≡ Some n = sym v.marked ∙ e in cc) in
-       let place : v.place ≡ i = (let both : Some v.place ≡ Some i = sym v.named ∙ f in cc) in
-       (Decides-eqb (slice_index_or p.stage.marked n 0) i).1 (ap (λ (k : ℕ). slice_index_or p.stage.marked k 0) (sym number) ∙ v.same ∙ place),
+      let place : v.place ≡ i = (let both : Some v.place ≡ Some i = sym v.named ∙ f in cc) in
+      (Decides-eqb (slice_index_or p.stage.marked n 0) i).1 (ap (λ (k : ℕ). slice_index_or p.stage.marked k 0) (sym number) ∙ v.same ∙ place),
 )
 
 mark-of-Decides : (p : Progress) (m x : List ℕ) → is_some (mark_of m p.names) ≡ true → is_some (place_of x p.stage.graph) ≡ true
@@ -153,10 +159,16 @@ some-Decides (Some a) x e = (λ h. (a, e), λ v. refl)
 
 step-tests : (n : Num) (k : ℕ) (a b : Bool) → as_u64 n ≡ Some k → nat_le 1 k ≡ a → nat_le k step_limit ≡ b → Decides (is_some (if a && b then Some k else None)) (IsStep n)
 step-tests n k true true e some most = (λ h. record { step = k; is = e; some = leb-true 1 k some; most = leb-true k step_limit most }, λ v. refl)
-step-tests n k true false e some most = (λ h. absurd cc, λ v. let same : k ≡ v.step = (let both : Some k ≡ Some v.step = sym e ∙ v.is in cc) in
-    absurd (false≢true (sym most ∙ subst (λ (q : ℕ). nat_le q step_limit ≡ true) (sym same) (le-leb v.step step_limit v.most))))
-step-tests n k false b e some most = (λ h. absurd cc, λ v. let same : k ≡ v.step = (let both : Some k ≡ Some v.step = sym e ∙ v.is in cc) in
-    absurd (false≢true (sym some ∙ subst (λ (q : ℕ). nat_le 1 q ≡ true) (sym same) (le-leb 1 v.step v.some))))
+step-tests n k true false e some most = (
+  λ h. absurd cc,
+  λ v. let same : k ≡ v.step = (let both : Some k ≡ Some v.step = sym e ∙ v.is in cc) in
+      absurd (false≢true (sym most ∙ subst (λ (q : ℕ). nat_le q step_limit ≡ true) (sym same) (le-leb v.step step_limit v.most))),
+)
+step-tests n k false b e some most = (
+  λ h. absurd cc,
+  λ v. let same : k ≡ v.step = (let both : Some k ≡ Some v.step = sym e ∙ v.is in cc) in
+      absurd (false≢true (sym some ∙ subst (λ (q : ℕ). nat_le 1 q ≡ true) (sym same) (le-leb 1 v.step v.some))),
+)
 
 step-step : (n : Num) (o : Option ℕ) → as_u64 n ≡ o → Decides (is_some (option_and_then in_steps o)) (IsStep n)
 step-step n None e = (λ h. absurd cc, λ v. let both : None ≡ Some v.step = sym e ∙ v.is in absurd cc)

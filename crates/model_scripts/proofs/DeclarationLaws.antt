@@ -1,5 +1,5 @@
 -- For which causes what has the form of a declaration is refused.
-use Rattle.std.proofs.Common.{refl, subst}
+use Rattle.std.proofs.Common.{subst}
 use Rattle.std.specs.Prelude.{◌≡◌, ℕ, List, Bool, true, false, Option, Some, None, is_none, nat_le, Result, Ok, Err}
 use Rattle.serde_json.specs.Data.{Data}
 use Rattle.model_functions.specs.Library.{Library}

@@ -1,23 +1,20 @@
 -- A word that passes its checks is a command that may be done where it stands.
 use Rattle.std.proofs.Common.{refl, sym, ap, subst, ◌∙◌}
-use Rattle.std.specs.Prelude.{◌≡◌, ℕ, ◌<◌, ◌≤◌, ◌&&◌, List, length, slice_index_or, Bool, true, false, nat_lt, IsTrue, Option, Some, None, is_some, unwrap_or, Result, Ok, Err}
+use Rattle.std.specs.Prelude.{◌≡◌, ℕ, ◌<◌, List, length, slice_index_or, true, nat_lt, is_some, Result, Ok}
 use Rattle.std.specs.Result.{result_unwrap_or}
 use Rattle.std.proofs.lemmas.Bool.{ltb-true, and_parts}
 use Rattle.std.proofs.lemmas.Bool.Decides.{Decides-eqb}
-use Rattle.serde_json.specs.Data.{Data, Num}
-use Rattle.model_states.specs.Threshold.{suits}
+use Rattle.serde_json.specs.Data.{Data}
 use Rattle.model_functions.specs.Library.{Library}
-use Rattle.model_graph.specs.Graph.{Kind, OrSet, GSet, Counter, MaxReg, Union, Product, Intersection, Map, Filter, Fold, Decl, no_decl, kind_at}
-use Rattle.model_graph.specs.Lawful.{variable_limit}
+use Rattle.model_graph.specs.Graph.{Kind, OrSet, GSet, Counter, MaxReg, Decl, no_decl}
 use Rattle.model_readings.specs.Graph.{decl_read}
 use Rattle.model_readings.specs.Script.{Target, command_limit, is_orset, is_gset, is_counter, is_maxreg}
 use Rattle.model_readings.proofs.Graphs.{next-decl_read}
-use Rattle.model_world.specs.Command.{Command}
-use Rattle.model_world.specs.Lawful.{Stage, IsPlace, IsMarkOf, MayAsk, MayBeDone, IsSmallUntil, AsksSmall, mark_limit, read_limit, is_mark, is_read}
+use Rattle.model_world.specs.Lawful.{IsMarkOf, MayAsk, MayBeDone, IsSmallUntil, AsksSmall, mark_limit, read_limit, is_mark, is_read}
 use Rattle.model_scripts.specs.Word.{Bound, at_least, above, count, added, removed, Word, add, remove, insert, inc, max, print, mark, bind, send, deliver, sync, settle, read, await, declare}
 use Rattle.model_scripts.specs.Progress.{Progress, next_number, mark_of, mark_at, place_at}
-use Rattle.model_scripts.specs.Parts.{index_below, until_of, command_of, decl_of}
-use Rattle.model_scripts.specs.Check.{has_node, has_var, has_mark, is_right, suits_bound, is_mark_of, is_brought, is_brought_bound, was_sent, has_room_beside, has_room, count_of, holds, mark_in_bound}
+use Rattle.model_scripts.specs.Parts.{until_of, command_of, decl_of}
+use Rattle.model_scripts.specs.Check.{suits_bound, is_mark_of, is_brought_bound, has_room_beside, has_room, count_of, holds, mark_in_bound}
 use Rattle.model_scripts.specs.Needs.{CanDeclare}
 use Rattle.model_scripts.proofs.CommandLaws.{Passing}
 use Rattle.model_scripts.proofs.FollowLaws.{next-follows}

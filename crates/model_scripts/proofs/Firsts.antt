@@ -43,11 +43,14 @@ module _ (lib : Library) (nodes : ℕ) where
   refused-found p [] number why e = absurd cc
   refused-found p (d ∷ ds) number why e = refused-step p d ds number why (next_read lib nodes p d) refl (λ next h. refused-found next ds number why h) e
 
-  read-then : (p last : Progress) (good rest : List Data) (r : Result Progress (ℕ × ScriptWhy)) → AreRead lib nodes p good last → commands_read lib nodes last rest ≡ r → commands_read lib nodes p (good ++ rest) ≡ r
+  -- a command that is read, and then the others
+  pub read-one : (p next : Progress) (d : Data) (ds : List Data) (r : Result Progress (ℕ × ScriptWhy)) → next_read lib nodes p d ≡ Ok next → commands_read lib nodes next ds ≡ r → commands_read lib nodes p (d ∷ ds) ≡ r
   unfolding commands_read
+  read-one p next d ds r is there = ap (then_others (next_number p) ds) is ∙ there
+
+  read-then : (p last : Progress) (good rest : List Data) (r : Result Progress (ℕ × ScriptWhy)) → AreRead lib nodes p good last → commands_read lib nodes last rest ≡ r → commands_read lib nodes p (good ++ rest) ≡ r
   read-then p last [] rest r (none) e = e
-  read-then p last (d ∷ good) rest r (more {next = next} is there) e =
-      ap (then_others (next_number p) (good ++ rest)) is ∙ read-then next last good rest r there e
+  read-then p last (d ∷ good) rest r (more {next = next} is there) e = read-one p next d (good ++ rest) r is (read-then next last good rest r there e)
 
   bad-first : (p : Progress) (bad : Data) (rest : List Data) (why : ScriptWhy) → next_read lib nodes p bad ≡ Err why → commands_read lib nodes p (bad ∷ rest) ≡ Err (next_number p, why)
   unfolding commands_read
@@ -72,4 +75,4 @@ module _ (lib : Library) (nodes : ℕ) where
   pub accepted-is : (p : Progress) (ds : List Data) (last : Progress) → AreRead lib nodes p ds last → commands_read lib nodes p ds ≡ Ok last
   unfolding commands_read
   accepted-is p [] last (none) = refl
-  accepted-is p (d ∷ ds) last (more {next = next} is there) = ap (then_others (next_number p) ds) is ∙ accepted-is next ds last there
+  accepted-is p (d ∷ ds) last (more {next = next} is there) = read-one p next d ds (Ok last) is (accepted-is next ds last there)

@@ -1,11 +1,9 @@
 -- A declaration that is read may follow, where there is room.
-use Rattle.std.proofs.Common.{refl, sym, subst}
-use Rattle.std.specs.Prelude.{◌≡◌, ◌≢◌, ℕ, ◌<◌, List, length, IsTrue, Ok}
+use Rattle.std.proofs.Common.{sym, subst}
+use Rattle.std.specs.Prelude.{◌≡◌, ℕ, ◌<◌, List, length, IsTrue}
 use mathlib.Core.Logic.{inl, inr}
 use Rattle.std.proofs.lemmas.Option.{slice_get_within, slice_get-get_or, get_or_from_slice_get}
-use Rattle.serde_json.specs.Data.{Data}
-use Rattle.model_functions.specs.Library.{Library}
-use Rattle.model_graph.specs.Graph.{Kind, OrSet, GSet, Counter, MaxReg, Union, Product, Intersection, Map, Filter, Fold, Decl, IsInput, is_set, no_decl, decl_at, kind_at, name_at}
+use Rattle.model_graph.specs.Graph.{Kind, OrSet, GSet, Counter, MaxReg, Union, Product, Intersection, Map, Filter, Fold, Decl, IsInput, is_set, no_decl, decl_at, kind_at}
 use Rattle.model_graph.specs.Lawful.{variable_limit, MayFollow}
 use Rattle.model_readings.specs.Lawful.{IsSetAt, AreInputs, IsNext}
 

@@ -1,6 +1,6 @@
 -- What the parts of a word that pass their checks stand for is in range.
-use Rattle.std.proofs.Common.{refl, sym, subst, arith}
-use Rattle.std.specs.Prelude.{◌≡◌, ℕ, ℤ, pos, ◌^◌, ◌<◌, ◌≤◌, ◌&&◌, List, [], ◌∷◌, length, map, Bool, true, false, nat_lt, nat_le, if◌then◌else◌, Option, Some, None, is_some, option_map, option_and_then, unwrap_or, Result, Ok, Err, is_ok, ok_or, FitsSigned}
+use Rattle.std.proofs.Common.{refl, arith}
+use Rattle.std.specs.Prelude.{◌≡◌, ℕ, pos, ◌^◌, ◌<◌, ◌≤◌, ◌&&◌, List, [], ◌∷◌, length, map, Bool, true, false, nat_lt, nat_le, if◌then◌else◌, Option, Some, None, is_some, option_map, option_and_then, unwrap_or, Result, Ok, Err, is_ok, ok_or, FitsSigned}
 use Rattle.std.specs.Result.{result_unwrap_or}
 use Rattle.std.specs.List.{position, list_all}
 use Rattle.std.specs.Str.{bytes_eq}
@@ -9,7 +9,7 @@ use Rattle.std.proofs.lemmas.Bool.{ltb-true, leb-true, and_parts}
 use Rattle.std.proofs.lemmas.List.Quantifiers.{position-Some}
 use Rattle.serde_json.specs.Data.{Num, unsigned, negative, float, Data, null, boolean, number, string, array, object, Items, no_items, item}
 use Rattle.serde_json.specs.Find.{as_u64, as_i64}
-use Rattle.model_values.specs.Value.{Val, int, pair}
+use Rattle.model_values.specs.Value.{Val, int}
 use Rattle.model_values.specs.Size.{leaves, text_bytes, IsOfWidth, HasSmallInts}
 use Rattle.lasp_value.specs.Json.{paired, written_value, written_pair, is_source_value, if_source_value, read_value}
 use Rattle.lasp_value.specs.declared.refused.ValueRefused.{ValueRefused}

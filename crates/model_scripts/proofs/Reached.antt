@@ -1,6 +1,6 @@
 -- What commands that were read come to is lawful, and within the limits.
 use Rattle.std.proofs.Common.{refl, sym, ap, subst, ◌∙◌, arith}
-use Rattle.std.specs.Prelude.{◌≡◌, ℕ, suc, ◌+◌, ◌<◌, ◌≤◌, ◌&&◌, List, [], ◌∷◌, ◌++◌, length, filter, Bool, true, false, nat_lt, nat_le, if◌then◌else◌, Option, Some, None, option_and_then, Result, Ok, Err}
+use Rattle.std.specs.Prelude.{◌≡◌, ℕ, ◌+◌, ◌<◌, ◌≤◌, ◌&&◌, List, [], ◌∷◌, ◌++◌, length, filter, Bool, true, false, nat_le, if◌then◌else◌, Option, Some, None, option_and_then, Result, Ok, Err}
 use Rattle.std.proofs.lemmas.Bool.{ltb-true, leb-true}
 use Rattle.std.proofs.lemmas.List.{length-append}
 use Rattle.std.proofs.lemmas.List.Elements.{filter-append}
@@ -27,7 +27,7 @@ use Rattle.model_scripts.specs.Parts.{command_of, decl_of}
 use Rattle.model_scripts.specs.Check.{checks, all_checked, has_room_beside, count_of}
 use Rattle.model_scripts.specs.Script.{declared_checked, word_read, next_read, commands_read, in_range, nodes_of, parts_read, tree_read, script_of}
 use Rattle.model_scripts.specs.Needs.{CanDeclare}
-use Rattle.model_scripts.proofs.CommandLaws.{tabled, worded, word-checks, Passing, word-passed, next-accepted}
+use Rattle.model_scripts.proofs.CommandLaws.{worded, word-checks, Passing, word-passed}
 use Rattle.model_scripts.proofs.DoneLaws.{declared-read, room-beside, room-number, may-be-done, asks-small, room-mark, room-read}
 use Rattle.model_scripts.proofs.Small.{IsSmall, AreSmall, IsSmallWord, small-tree, small-parts, small-word}
 
@@ -166,7 +166,7 @@ reached-after lib nodes g p w can a small h =
       asked = asked-push p.commands k h.asked (asks-small lib nodes p h.names w a small);
       graph = λ good. graph-after lib nodes p w IsGraph can beside (h.graph good) (λ d decl read room. graph-push p.stage.graph decl (h.graph good) room (next-decl_read lib p.stage.graph d decl read).next);
       fits = λ good. graph-after lib nodes p w (FitsAll lib) can beside (h.fits good)
-        (λ d decl read room. λ i e at. fits-push lib p.stage.graph decl (h.fits good) (next-decl_read lib p.stage.graph d decl read).fits i e (pushed p.stage.graph decl i e at));
+          (λ d decl read room. λ i e at. fits-push lib p.stage.graph decl (h.fits good) (next-decl_read lib p.stage.graph d decl read).fits i e (pushed p.stage.graph decl i e at));
     }
 
 reached-next : (lib : Library) (nodes : ℕ) (g : List Decl) (p : Progress) (d : Data) (next : Progress) → IsSmall d → IsReached lib nodes g p → next_read lib nodes p d ≡ Ok next → IsReached lib nodes g next

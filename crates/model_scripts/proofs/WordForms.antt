@@ -1,11 +1,11 @@
 -- What holds of each form holds of a word.
 use Rattle.std.proofs.Common.{refl, subst}
-use Rattle.std.specs.Prelude.{◌≡◌, ℕ, List, Bool, true, false, if◌then◌else◌, Option, Some, None, is_some, option_map, option_and_then, IfSome, codes}
+use Rattle.std.specs.Prelude.{◌≡◌, Bool, true, false, if◌then◌else◌, Option, Some, None, is_some, option_map, option_and_then, IfSome, codes}
 use Rattle.serde_json.specs.Data.{Data, Num}
 use Rattle.serde_json.specs.Find.{at}
 use Rattle.model_readings.specs.Tree.{text_at, number_at, is_word_at, has_items, two}
 use Rattle.model_readings.specs.Graph.{Written, written_of}
-use Rattle.model_readings.specs.Script.{Target, target_of}
+use Rattle.model_readings.specs.Script.{target_of}
 use Rattle.model_scripts.specs.Word.{Bound, Word, add, remove, insert, inc, max, print, mark, bind, send, deliver, sync, settle, read, await, declare, bound_of, named, formed, word_of}
 
 -- whichever of two ways is taken

@@ -1,5 +1,5 @@
 -- What the parts of a word stand for.
-use Rattle.std.specs.Prelude.{ℕ, ℤ, pos, List, map, Option, Some, None, option_and_then, unwrap_or}
+use Rattle.std.specs.Prelude.{ℕ, pos, List, map, Option, option_and_then, unwrap_or}
 use Rattle.std.specs.Result.{result_unwrap_or}
 use Rattle.serde_json.specs.Data.{Data, Num}
 use Rattle.serde_json.specs.Find.{as_u64, as_i64}
@@ -8,7 +8,7 @@ use Rattle.lasp_value.specs.Json.{read_value}
 use Rattle.model_functions.specs.Library.{Library}
 use Rattle.model_graph.specs.Graph.{Decl, no_decl}
 use Rattle.model_readings.specs.Graph.{decl_read}
-use Rattle.model_readings.specs.Script.{Target, below, in_steps}
+use Rattle.model_readings.specs.Script.{below, in_steps}
 use Rattle.model_world.specs.Command as command
 use Rattle.model_world.specs.Command.{Until, Command}
 use Rattle.model_scripts.specs.Word.{Bound, at_least, above, count, added, removed, Word, add, remove, insert, inc, max, print, mark, bind, send, deliver, sync, settle, read, await, declare}

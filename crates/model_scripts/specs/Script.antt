@@ -3,7 +3,7 @@ use Rattle.std.specs.Prelude.{ℕ, List, [], ◌∷◌, if◌then◌else◌, nat
 use Rattle.serde_json.specs.Data.{Data}
 use Rattle.serde_json.specs.Find.{as_array, as_u64}
 use Rattle.model_functions.specs.Library.{Library}
-use Rattle.model_graph.specs.Chain.{◌>>=◌, check, or_else, refusing}
+use Rattle.model_graph.specs.Chain.{◌>>=◌, or_else, refusing}
 use Rattle.model_graph.specs.Graph.{Decl}
 use Rattle.model_readings.specs.declared.graph_why.GraphWhy.{GraphWhy}
 use Rattle.model_readings.specs.declared.graph_why.GraphWhy.TheVariants as graph_why

@@ -1,10 +1,8 @@
 //! Why one command is refused: a table of the checks in their order. Each line has as premises that the checks above it pass.
 
-ghost use Rattle.std.specs.Prelude.{◌≡◌, ◌≢◌, ◌↔◌, ◌<◌, ◌≤◌, ℕ, List, length, None, Some, Ok, Err};
+ghost use Rattle.std.specs.Prelude.{◌≡◌, ◌↔◌, ℕ, None, Some, Ok, Err};
 ghost use Rattle.serde_json.specs.Data.{Data};
-ghost use Rattle.serde_json.specs.Find.{as_u64};
 ghost use Rattle.model_functions.specs.Library.{Library};
-ghost use Rattle.model_graph.specs.Graph.{Decl};
 ghost use Rattle.model_readings.specs.declared.graph_why.GraphWhy.{GraphWhy};
 ghost use Rattle.model_readings.specs.Graph.{decl_read};
 ghost use Rattle.model_scripts.specs.declared.script_why.ScriptWhy.{ScriptWhy};
