@@ -34,7 +34,7 @@ use Rattle.model_scripts.proofs.Firsts.{read-one}
 
 -- ---- words
 
-abbrev known : old.Word → Word
+abbrev pub known : old.Word → Word
 known (old.add t v) = add t v
 known (old.remove t v) = remove t v
 known (old.insert t v) = insert t v
@@ -43,14 +43,14 @@ known (old.max t k) = max t k
 known (old.print t) = print t
 
 -- whichever of two ways is taken
-if-alike : (b : Bool) (o p : Option old.Word) (q r : Option Word) (w : old.Word) → (o ≡ Some w → q ≡ Some (known w)) → (p ≡ Some w → r ≡ Some (known w))
-    → (if b then o else p) ≡ Some w → (if b then q else r) ≡ Some (known w)
-if-alike true o p q r w h k e = h e
-if-alike false o p q r w h k e = k e
+pub if-alike : {A B : Type 0} (b : Bool) (o p : Option A) (q r : Option B) (x : A) (y : B) → (o ≡ Some x → q ≡ Some y) → (p ≡ Some x → r ≡ Some y)
+    → (if b then o else p) ≡ Some x → (if b then q else r) ≡ Some y
+if-alike true o p q r x y h k e = h e
+if-alike false o p q r x y h k e = k e
 
-size-alike : (b : Bool) (o : Option old.Word) (q : Option Word) (w : old.Word) → (o ≡ Some w → q ≡ Some (known w)) → (if b then o else None) ≡ Some w → (if b then q else None) ≡ Some (known w)
-size-alike true o q w h e = h e
-size-alike false o q w h e = absurd cc
+pub size-alike : {A B : Type 0} (b : Bool) (o : Option A) (q : Option B) (x : A) (y : B) → (o ≡ Some x → q ≡ Some y) → (if b then o else None) ≡ Some x → (if b then q else None) ≡ Some y
+size-alike true o q x y h e = h e
+size-alike false o q x y h e = absurd cc
 
 two-alike : {A B : Type 0} (f : A → B → old.Word) (g : A → B → Word) → ((a : A) (b : B) → known (f a b) ≡ g a b) → (o : Option A) (p : Option B) (w : old.Word) → two f o p ≡ Some w → two g o p ≡ Some (known w)
 two-alike f g h None p w e = absurd cc
@@ -64,12 +64,12 @@ map-alike (Some t) w e = let same : old.print t ≡ w = cc in ap (λ (v : old.Wo
 word-alike : (d : Data) (w : old.Word) → old.word_of d ≡ Some w → word_of d ≡ Some (known w)
 unfolding old.word_of old.value_form old.number_form old.place_form word_of
 word-alike d w e =
-    if-alike (is_word_at 0 (codes "add") d) _ _ _ _ w (size-alike (has_items 4 d) _ _ w (two-alike old.add add (λ t v. refl) (target_of d) (at 3 d) w))
-    (if-alike (is_word_at 0 (codes "remove") d) _ _ _ _ w (size-alike (has_items 4 d) _ _ w (two-alike old.remove remove (λ t v. refl) (target_of d) (at 3 d) w))
-    (if-alike (is_word_at 0 (codes "insert") d) _ _ _ _ w (size-alike (has_items 4 d) _ _ w (two-alike old.insert insert (λ t v. refl) (target_of d) (at 3 d) w))
-    (if-alike (is_word_at 0 (codes "inc") d) _ _ _ _ w (size-alike (has_items 4 d) _ _ w (two-alike old.inc inc (λ t k. refl) (target_of d) (number_at 3 d) w))
-    (if-alike (is_word_at 0 (codes "max") d) _ _ _ _ w (size-alike (has_items 4 d) _ _ w (two-alike old.max max (λ t k. refl) (target_of d) (number_at 3 d) w))
-    (if-alike (is_word_at 0 (codes "print") d) _ None _ _ w (size-alike (has_items 3 d) _ _ w (map-alike (target_of d) w)) (λ h. absurd cc)))))) e
+    if-alike (is_word_at 0 (codes "add") d) _ _ _ _ w (known w) (size-alike (has_items 4 d) _ _ w (known w) (two-alike old.add add (λ t v. refl) (target_of d) (at 3 d) w))
+    (if-alike (is_word_at 0 (codes "remove") d) _ _ _ _ w (known w) (size-alike (has_items 4 d) _ _ w (known w) (two-alike old.remove remove (λ t v. refl) (target_of d) (at 3 d) w))
+    (if-alike (is_word_at 0 (codes "insert") d) _ _ _ _ w (known w) (size-alike (has_items 4 d) _ _ w (known w) (two-alike old.insert insert (λ t v. refl) (target_of d) (at 3 d) w))
+    (if-alike (is_word_at 0 (codes "inc") d) _ _ _ _ w (known w) (size-alike (has_items 4 d) _ _ w (known w) (two-alike old.inc inc (λ t k. refl) (target_of d) (number_at 3 d) w))
+    (if-alike (is_word_at 0 (codes "max") d) _ _ _ _ w (known w) (size-alike (has_items 4 d) _ _ w (known w) (two-alike old.max max (λ t k. refl) (target_of d) (number_at 3 d) w))
+    (if-alike (is_word_at 0 (codes "print") d) _ None _ _ w (known w) (size-alike (has_items 3 d) _ _ w (known w) (map-alike (target_of d) w)) (λ h. absurd cc)))))) e
 
 -- ---- checks
 

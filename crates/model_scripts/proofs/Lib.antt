@@ -12,3 +12,4 @@ pub mod Reached
 pub mod ExampleLaws
 pub mod ByteLaws
 pub mod AlikeLaws
+pub mod AlikeBack

@@ -127,19 +127,19 @@ reached-start lib nodes g = record {
 }
 
 -- a word that was read, and what stands behind it
-record IsStep (lib : Library) (nodes : ℕ) (p : Progress) (d : Data) (next : Progress) : Type 0 where
-  word : Word
-  is : word_of d ≡ Some word
-  can : CanDeclare lib p.stage.graph word
-  passing : Passing nodes p word
-  next_is : after nodes p word (command_of lib nodes p word) ≡ next
+pub record IsStep (lib : Library) (nodes : ℕ) (p : Progress) (d : Data) (next : Progress) : Type 0 where
+  pub word : Word
+  pub is : word_of d ≡ Some word
+  pub can : CanDeclare lib p.stage.graph word
+  pub passing : Passing nodes p word
+  pub next_is : after nodes p word (command_of lib nodes p word) ≡ next
 
 worded-same : (w v : Word) (r s : Result (Unit {0}) ScriptWhy) → (r >>= λ _. s >>= λ _. Ok w) ≡ Ok v → w ≡ v
 worded-same w v (Ok t) (Ok u) h = cc
 worded-same w v (Ok t) (Err e) h = absurd cc
 worded-same w v (Err e) s h = absurd cc
 
-step-next_read : (lib : Library) (nodes : ℕ) (p : Progress) (d : Data) (next : Progress) → next_read lib nodes p d ≡ Ok next → IsStep lib nodes p d next
+pub step-next_read : (lib : Library) (nodes : ℕ) (p : Progress) (d : Data) (next : Progress) → next_read lib nodes p d ≡ Ok next → IsStep lib nodes p d next
 unfolding next_read
 step-next_read lib nodes p d next e =
     let read = passed (word_read lib nodes p d) _ next e in

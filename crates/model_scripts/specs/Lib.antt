@@ -6,3 +6,4 @@ pub mod Script
 pub mod Needs
 pub mod First
 pub mod Example
+pub mod Alike
