@@ -21,9 +21,8 @@ use Rattle.model_readings.proofs.Chains.{passed, or_else_passed, refusing_passed
 use Rattle.model_world.specs.Command as command
 use Rattle.model_world.specs.Command.{Command, Script}
 use Rattle.model_world.specs.Lawful.{node_limit}
-use Rattle.model_scripts.specs.declared.script_why.ScriptWhy.{ScriptWhy}
 use Rattle.model_scripts.specs.declared.script_why.ScriptWhy.TheVariants as why
-use Rattle.model_scripts.specs.Word.{Bound, Word, add, remove, insert, inc, max, print, mark, bind, send, deliver, sync, settle, read, await, declare, bound_of, named, formed, word_of}
+use Rattle.model_scripts.specs.Word.{Word, add, remove, insert, inc, max, print, mark, bind, send, deliver, sync, settle, read, await, declare, bound_of, named, formed, word_of}
 use Rattle.model_scripts.specs.Progress.{Progress, opening, next_number, after, place_at, kind_in}
 use Rattle.model_scripts.specs.Parts.{number_below, step_of, index_below, value_of, command_of}
 use Rattle.model_scripts.specs.Check.{has_room_beside}
@@ -197,9 +196,9 @@ next-known : (lib : Library) (nodes : ℕ) (p : Progress) (d : Data) (v : old.Wo
 unfolding old.next_read old.command_read
 next-known lib nodes p d v is a = record {
   is =
-    ap (λ (o : Option old.Word). (or_else o old_why.Shape >>= old.word_read p.stage.graph nodes) >>= λ k. check (nat_lt (next_number p) command_limit) old_why.TooMany >>= λ _. Ok k) (word-back d (known v) v (old-known v) is)
-    ∙ ap (λ (r : Result Command OldWhy). r >>= λ k. check (nat_lt (next_number p) command_limit) old_why.TooMany >>= λ _. Ok k) (word-read-back lib nodes p v a)
-    ∙ ap (λ (b : Bool). check b old_why.TooMany >>= λ _. Ok (command_of lib nodes p (known v))) (and_parts (nat_lt (next_number p) command_limit) (has_room_beside p (known v)) a.room).0;
+      ap (λ (o : Option old.Word). (or_else o old_why.Shape >>= old.word_read p.stage.graph nodes) >>= λ k. check (nat_lt (next_number p) command_limit) old_why.TooMany >>= λ _. Ok k) (word-back d (known v) v (old-known v) is)
+      ∙ ap (λ (r : Result Command OldWhy). r >>= λ k. check (nat_lt (next_number p) command_limit) old_why.TooMany >>= λ _. Ok k) (word-read-back lib nodes p v a)
+      ∙ ap (λ (b : Bool). check b old_why.TooMany >>= λ _. Ok (command_of lib nodes p (known v))) (and_parts (nat_lt (next_number p) command_limit) (has_room_beside p (known v)) a.room).0;
   graph = graph-old lib nodes p v;
 }
 
@@ -216,9 +215,9 @@ old-step lib nodes p d next s =
       command = command_of lib nodes p s.word;
       commands = refl;
       back = λ h.
-        let v = old-word lib nodes p s.word h in
-        subst (λ (w : Word). IsNextBack lib nodes p d (command_of lib nodes p w) (after nodes p w (command_of lib nodes p w))) (sym v.same)
-        (next-known lib nodes p d v.word (s.is ∙ ap (λ (w : Word). Some w) v.same) (subst (Passing nodes p) v.same s.passing));
+          let v = old-word lib nodes p s.word h in
+          subst (λ (w : Word). IsNextBack lib nodes p d (command_of lib nodes p w) (after nodes p w (command_of lib nodes p w))) (sym v.same)
+          (next-known lib nodes p d v.word (s.is ∙ ap (λ (w : Word). Some w) v.same) (subst (Passing nodes p) v.same s.passing));
     })
 
 -- what commands come to begins with what stands before them
