@@ -16,7 +16,7 @@ use Rattle.model_scripts.specs.Word.{bound_of, word_of}
 use Rattle.model_scripts.specs.Progress.{mark_of}
 use Rattle.model_scripts.specs.Parts.{number_below, step_of}
 use Rattle.model_scripts.specs.Script.{word_read, next_read, commands_read, nodes_of, parts_read, tree_read}
-use Rattle.model_scripts.specs.Example.{list, text, whole, variable, example_graph, example_library, nodes, command, declaration, told, all_words}
+use Rattle.model_scripts.specs.Example.{list, text, whole, variable, example_graph, example_library, nodes, call, declaration, told, all_words}
 
 pub read-told : told all_words ≡ Ok (script_from 2 (Add 0 0 (int (pos 5)) ∷ Remove 1 1 (pair (int (pos 5)) (value.text (codes "x"))) ∷ Insert 0 3 (value.text (codes "x")) ∷ Inc 1 4 3 ∷ Max 0 5 (negsuc 4) ∷ Mark 0 0 ∷ Bind 1 0 0 ∷ Send 0 ∷ Sync ∷ Deliver 1 2 ∷ Settle ∷ Declare (variable (codes "n") (Map 2 0 (Abs ∷ []))) ∷ Print 0 6 ∷ Read 0 0 (AtLeast 0) ∷ Read 1 0 (Above 0) ∷ Read 1 6 (Added (int (pos 5) ∷ [])) ∷ Await 0 4 (Count 0) ∷ Await 0 2 (Removed []) ∷ []))
 unfolding is_word_at has_items nodes_of parts_read tree_read place_of mark_of number_below step_of read_value bound_of written_of form_of names_of inputs_read input_read function_named function_read decl_read word_of word_read next_read commands_read
@@ -50,39 +50,39 @@ pub capital-told : told (list (text (codes "Sync") ∷ []) ∷ []) ≡ Err (1, w
 unfolding is_word_at has_items nodes_of parts_read tree_read place_of mark_of number_below step_of read_value bound_of written_of form_of names_of inputs_read input_read function_named function_read decl_read word_of word_read next_read commands_read
 capital-told = refl
 
-pub mark_name-told : told (command (codes "mark") 0 (codes "a") (text (codes "K")) ∷ []) ≡ Err (1, why.Shape)
+pub mark_name-told : told (call (codes "mark") 0 (codes "a") (text (codes "K")) ∷ []) ≡ Err (1, why.Shape)
 unfolding is_word_at has_items nodes_of parts_read tree_read place_of mark_of number_below step_of read_value bound_of written_of form_of names_of inputs_read input_read function_named function_read decl_read word_of word_read next_read commands_read
 mark_name-told = refl
 
-pub no_such_node-told : told (list (text (codes "settle") ∷ []) ∷ command (codes "add") 2 (codes "z") (whole 1) ∷ []) ≡ Err (2, why.NoSuchNode)
+pub no_such_node-told : told (list (text (codes "settle") ∷ []) ∷ call (codes "add") 2 (codes "z") (whole 1) ∷ []) ≡ Err (2, why.NoSuchNode)
 unfolding is_word_at has_items nodes_of parts_read tree_read place_of mark_of number_below step_of read_value bound_of written_of form_of names_of inputs_read input_read function_named function_read decl_read word_of word_read next_read commands_read
 no_such_node-told = refl
 
-pub unknown_var-told : told (command (codes "add") 1 (codes "z") (whole 1) ∷ []) ≡ Err (1, why.UnknownVar)
+pub unknown_var-told : told (call (codes "add") 1 (codes "z") (whole 1) ∷ []) ≡ Err (1, why.UnknownVar)
 unfolding is_word_at has_items nodes_of parts_read tree_read place_of mark_of number_below step_of read_value bound_of written_of form_of names_of inputs_read input_read function_named function_read decl_read word_of word_read next_read commands_read
 unknown_var-told = refl
 
-pub unknown_mark-told : told (command (codes "bind") 0 (codes "u") (text (codes "K")) ∷ []) ≡ Err (1, why.UnknownMark)
+pub unknown_mark-told : told (call (codes "bind") 0 (codes "u") (text (codes "K")) ∷ []) ≡ Err (1, why.UnknownMark)
 unfolding is_word_at has_items nodes_of parts_read tree_read place_of mark_of number_below step_of read_value bound_of written_of form_of names_of inputs_read input_read function_named function_read decl_read word_of word_read next_read commands_read
 unknown_mark-told = refl
 
-pub mark_taken-told : told (command (codes "mark") 0 (codes "a") (text (codes "k")) ∷ command (codes "mark") 1 (codes "u") (text (codes "k")) ∷ []) ≡ Err (2, why.MarkTaken)
+pub mark_taken-told : told (call (codes "mark") 0 (codes "a") (text (codes "k")) ∷ call (codes "mark") 1 (codes "u") (text (codes "k")) ∷ []) ≡ Err (2, why.MarkTaken)
 unfolding is_word_at has_items nodes_of parts_read tree_read place_of mark_of number_below step_of read_value bound_of written_of form_of names_of inputs_read input_read function_named function_read decl_read word_of word_read next_read commands_read
 mark_taken-told = refl
 
-pub wrong_op-told : told (command (codes "add") 0 (codes "c") null ∷ []) ≡ Err (1, why.WrongOp)
+pub wrong_op-told : told (call (codes "add") 0 (codes "c") null ∷ []) ≡ Err (1, why.WrongOp)
 unfolding is_word_at has_items nodes_of parts_read tree_read place_of mark_of number_below step_of read_value bound_of written_of form_of names_of inputs_read input_read function_named function_read decl_read word_of word_read next_read commands_read
 wrong_op-told = refl
 
-pub other_mark-told : told (command (codes "mark") 0 (codes "a") (text (codes "k")) ∷ command (codes "read") 0 (codes "b") (list (text (codes "at_least") ∷ text (codes "k") ∷ [])) ∷ []) ≡ Err (2, why.WrongOp)
+pub other_mark-told : told (call (codes "mark") 0 (codes "a") (text (codes "k")) ∷ call (codes "read") 0 (codes "b") (list (text (codes "at_least") ∷ text (codes "k") ∷ [])) ∷ []) ≡ Err (2, why.WrongOp)
 unfolding is_word_at has_items nodes_of parts_read tree_read place_of mark_of number_below step_of read_value bound_of written_of form_of names_of inputs_read input_read function_named function_read decl_read word_of word_read next_read commands_read
 other_mark-told = refl
 
-pub value_refused-told : told (command (codes "add") 0 (codes "a") null ∷ []) ≡ Err (1, why.ValueRefused)
+pub value_refused-told : told (call (codes "add") 0 (codes "a") null ∷ []) ≡ Err (1, why.ValueRefused)
 unfolding is_word_at has_items nodes_of parts_read tree_read place_of mark_of number_below step_of read_value bound_of written_of form_of names_of inputs_read input_read function_named function_read decl_read word_of word_read next_read commands_read
 value_refused-told = refl
 
-pub step-told : told (command (codes "inc") 0 (codes "c") (whole 0) ∷ []) ≡ Err (1, why.ValueRefused)
+pub step-told : told (call (codes "inc") 0 (codes "c") (whole 0) ∷ []) ≡ Err (1, why.ValueRefused)
 unfolding is_word_at has_items nodes_of parts_read tree_read place_of mark_of number_below step_of read_value bound_of written_of form_of names_of inputs_read input_read function_named function_read decl_read word_of word_read next_read commands_read
 step-told = refl
 

@@ -10,6 +10,7 @@ pub mod FollowLaws
 pub mod DoneLaws
 pub mod Reached
 pub mod ExampleLaws
+pub mod BoundLaws
 pub mod ByteLaws
 pub mod AlikeLaws
 pub mod AlikeBack

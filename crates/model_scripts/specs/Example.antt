@@ -1,11 +1,13 @@
 -- Worked scripts, as trees.
-use Rattle.std.specs.Prelude.{ℕ, ℤ, negsuc, List, [], ◌∷◌, codes, Result}
+use Rattle.std.specs.Prelude.{ℕ, ℤ, negsuc, List, [], ◌∷◌, codes, replicate, Result}
 use Rattle.serde_json.specs.Data.{Data, unsigned, negative, number, string, array, Items, no_items, item}
 use Rattle.model_functions.specs.Map.{Abs}
 use Rattle.model_functions.specs.Library.{Library}
 use Rattle.model_graph.specs.Graph.{Kind, OrSet, GSet, Counter, MaxReg, Union, Decl}
-use Rattle.model_world.specs.Command.{Script}
+use Rattle.model_world.specs.Command.{Command, Script}
+use Rattle.model_world.specs.Lawful.{opening_stage}
 use Rattle.model_scripts.specs.declared.script_why.ScriptWhy.{ScriptWhy}
+use Rattle.model_scripts.specs.Progress.{Progress}
 use Rattle.model_scripts.specs.Script.{tree_read}
 
 -- the array of these parts
@@ -41,8 +43,8 @@ abbrev pub nodes : ℕ → Data
 nodes n = list (text (codes "nodes") ∷ whole n ∷ [])
 
 -- a command of a word, a node, a variable and one part more
-abbrev pub command : List ℕ → ℕ → List ℕ → Data → Data
-command word p x part = list (text word ∷ whole p ∷ text x ∷ part ∷ [])
+abbrev pub call : List ℕ → ℕ → List ℕ → Data → Data
+call word p x part = list (text word ∷ whole p ∷ text x ∷ part ∷ [])
 
 abbrev pub declaration : List Data → Data
 declaration ds = list (text (codes "declare") ∷ list ds ∷ [])
@@ -54,25 +56,41 @@ told ds = tree_read example_library example_graph (list (nodes 2 ∷ ds))
 -- each word once, and each threshold
 abbrev pub all_words : List Data
 all_words =
-    command (codes "add") 0 (codes "a") (whole 5)
-    ∷ command (codes "remove") 1 (codes "b") (list (whole 5 ∷ text (codes "x") ∷ []))
-    ∷ command (codes "insert") 0 (codes "g") (text (codes "x"))
-    ∷ command (codes "inc") 1 (codes "c") (whole 3)
-    ∷ command (codes "max") 0 (codes "m") (below_zero (negsuc 4))
-    ∷ command (codes "mark") 0 (codes "a") (text (codes "k"))
-    ∷ command (codes "bind") 1 (codes "a") (text (codes "k"))
+    call (codes "add") 0 (codes "a") (whole 5)
+    ∷ call (codes "remove") 1 (codes "b") (list (whole 5 ∷ text (codes "x") ∷ []))
+    ∷ call (codes "insert") 0 (codes "g") (text (codes "x"))
+    ∷ call (codes "inc") 1 (codes "c") (whole 3)
+    ∷ call (codes "max") 0 (codes "m") (below_zero (negsuc 4))
+    ∷ call (codes "mark") 0 (codes "a") (text (codes "k"))
+    ∷ call (codes "bind") 1 (codes "a") (text (codes "k"))
     ∷ list (text (codes "send") ∷ whole 0 ∷ [])
     ∷ list (text (codes "sync") ∷ [])
     ∷ list (text (codes "deliver") ∷ whole 1 ∷ whole 2 ∷ [])
     ∷ list (text (codes "settle") ∷ [])
     ∷ declaration (text (codes "n") ∷ text (codes "map") ∷ text (codes "u") ∷ text (codes "abs") ∷ [])
     ∷ list (text (codes "print") ∷ whole 0 ∷ text (codes "n") ∷ [])
-    ∷ command (codes "read") 0 (codes "a") (list (text (codes "at_least") ∷ text (codes "k") ∷ []))
-    ∷ command (codes "read") 1 (codes "a") (list (text (codes "above") ∷ text (codes "k") ∷ []))
-    ∷ command (codes "read") 1 (codes "n") (list (text (codes "added") ∷ list (whole 5 ∷ []) ∷ []))
-    ∷ command (codes "await") 0 (codes "c") (list (text (codes "count") ∷ whole 0 ∷ []))
-    ∷ command (codes "await") 0 (codes "u") (list (text (codes "removed") ∷ list [] ∷ []))
+    ∷ call (codes "read") 0 (codes "a") (list (text (codes "at_least") ∷ text (codes "k") ∷ []))
+    ∷ call (codes "read") 1 (codes "a") (list (text (codes "above") ∷ text (codes "k") ∷ []))
+    ∷ call (codes "read") 1 (codes "n") (list (text (codes "added") ∷ list (whole 5 ∷ []) ∷ []))
+    ∷ call (codes "await") 0 (codes "c") (list (text (codes "count") ∷ whole 0 ∷ []))
+    ∷ call (codes "await") 0 (codes "u") (list (text (codes "removed") ∷ list [] ∷ []))
     ∷ []
+
+-- behind a number of commands, over this graph
+abbrev pub behind : ℕ → Command → List Decl → Progress
+behind n k g = record { commands = replicate n k; stage = opening_stage g; names = [] }
+
+-- `["read",0,"a",["added",[]]]`
+abbrev pub any_read : Data
+any_read = call (codes "read") 0 (codes "a") (list (text (codes "added") ∷ list [] ∷ []))
+
+-- `["mark",0,"a","k"]`
+abbrev pub any_mark : Data
+any_mark = call (codes "mark") 0 (codes "a") (text (codes "k"))
+
+-- a declaration of a set n
+abbrev pub any_declaration : Data
+any_declaration = declaration (text (codes "n") ∷ text (codes "orset") ∷ [])
 
 -- a script as it stands in a file
 abbrev pub example_bytes : List ℕ
