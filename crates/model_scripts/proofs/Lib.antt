@@ -1,0 +1,16 @@
+pub mod Firsts
+pub mod Failing
+pub mod Deciding
+pub mod DeclarationLaws
+pub mod WordForms
+pub mod CommandLaws
+pub mod Small
+pub mod PartLaws
+pub mod FollowLaws
+pub mod DoneLaws
+pub mod Reached
+pub mod ExampleLaws
+pub mod BoundLaws
+pub mod ByteLaws
+pub mod AlikeLaws
+pub mod AlikeBack
