@@ -1,6 +1,5 @@
 -- Groups read one after the other, and their rows put behind those before.
-use Rattle.std.proofs.Common.{◌≡◌, ℕ, zero, suc, ◌-◌, ◌+◌, ◌≤◌, ◌<◌, Bool, List, [], ◌∷◌, ◌++◌, length, map, Option, Some, None, Result, Ok, Err, refl, sym, ap, subst, ◌∙◌, append_assoc, arith}
-use Rattle.std.specs.List.{flat_map}
+use Rattle.std.proofs.Common.{◌≡◌, ℕ, suc, ◌-◌, ◌+◌, ◌≤◌, ◌<◌, Bool, List, [], ◌∷◌, ◌++◌, length, map, Option, Some, Ok, Err, refl, sym, ap, subst, ◌∙◌, append_assoc, arith}
 use Rattle.std.specs.Option.{option_map}
 use Rattle.std.proofs.lemmas.List.{append-nil, length-map, length-append}
 use Rattle.model_values.specs.Value.{Val}
@@ -8,12 +7,11 @@ use Rattle.model_values.specs.Token.{Tok}
 use Rattle.model_values.specs.Row.{Row}
 use Rattle.model_messages.specs.Spelling.{Group}
 use Rattle.model_graph.specs.Chain.{◌>>=◌}
-use Rattle.model_wire.specs.declared.wire_why.WireWhy.{WireWhy}
 use Rattle.model_wire.specs.Reader.{Reading, onto, list_at}
 use Rattle.model_wire.specs.Message.{Before, row_of, rows_of_group, rows_of, after_group, group_at}
 use Rattle.lasp_wire.specs.declared.refused.ReadError.{ReadError}
 use Rattle.lasp_wire.specs.declared.refused.ReadError.TheVariants as error
-use Rattle.lasp_wire.specs.Read.{Fails, last_of, last_value_of, before_of}
+use Rattle.lasp_wire.specs.Read.{Fails, last_value_of, before_of}
 use Rattle.lasp_wire.proofs.Loop.{last_pushed}
 
 -- the rows before, and those of the groups behind them
@@ -54,7 +52,7 @@ unfolding list_at
 goes_on_groups nodes front count i bytes g after total lt some h so_far =
     let k : count - i ≡ suc (count - (i + 1)) = omega (arith, lt) in
     let one : with_rows front (Groups nodes (count - i) (before_of front) bytes) ≡ with_rows (front ++ rows_of_group g) (Groups nodes (count - (i + 1)) (after_group (before_of front) g) after) =
-        rw (k, h) (regroup front g (Groups nodes (count - (i + 1)) (after_group (before_of front) g) after)) in
+    rw (k, h) (regroup front g (Groups nodes (count - (i + 1)) (after_group (before_of front) g) after)) in
     subst (λ (b : Before). with_rows (front ++ rows_of_group g) (Groups nodes (count - (i + 1)) b after) ≡ total) (sym (told front g.value g.tokens some)) (sym one ∙ so_far)
 
 pub ends_groups : (e : ReadError) (nodes : ℕ) (front : List Row) (count i : ℕ) (bytes : List ℕ) (total : Reading (List Row)) → i < count → Fails e (group_at nodes (before_of front) bytes)

@@ -1,9 +1,8 @@
 -- Items read one after the other, as a loop does.
-use Rattle.std.proofs.Common.{◌≡◌, ℕ, zero, suc, ◌-◌, ◌+◌, ◌≤◌, ◌<◌, List, [], ◌∷◌, ◌++◌, length, Option, Some, Result, Ok, Err, refl, sym, ap, subst, ◌∙◌, append_assoc, arith}
+use Rattle.std.proofs.Common.{◌≡◌, ℕ, zero, suc, ◌-◌, ◌+◌, ◌≤◌, ◌<◌, List, [], ◌∷◌, ◌++◌, length, Option, Some, Ok, Err, refl, sym, ap, subst, ◌∙◌, append_assoc, arith}
 use Rattle.std.specs.List.{slice_get}
 use Rattle.std.proofs.lemmas.List.{append-nil}
 use Rattle.model_graph.specs.Chain.{◌>>=◌}
-use Rattle.model_wire.specs.declared.wire_why.WireWhy.{WireWhy}
 use Rattle.model_wire.specs.Reader.{Reading, Reader, onto, list_at}
 use Rattle.model_wire.specs.Value.{latest}
 use Rattle.lasp_wire.specs.declared.refused.ReadError.{ReadError}
@@ -39,7 +38,7 @@ module _ (S X : Type 0) (read : S → Reader X) (next : S → X → S) where
   goes_on front count i s bytes x after total lt h so_far =
       let k : count - i ≡ suc (count - (i + 1)) = omega (arith, lt) in
       let one : with_front front (list_at read next (count - i) s bytes) ≡ with_front (front ++ x ∷ []) (list_at read next (count - (i + 1)) (next s x) after) =
-          rw (k, h) (regroup X front x (list_at read next (count - (i + 1)) (next s x) after)) in
+      rw (k, h) (regroup X front x (list_at read next (count - (i + 1)) (next s x) after)) in
       sym one ∙ so_far
 
   -- an item that can't be read
@@ -66,7 +65,7 @@ pub goes_on_last : (X : Type 0) (read : Option X → Reader X) (front : List X) 
     → with_front front (list_at read latest (count - i) (last_of front) bytes) ≡ total → with_front (front ++ x ∷ []) (list_at read latest (count - (i + 1)) (last_of (front ++ x ∷ [])) after) ≡ total
 goes_on_last X read front count i bytes x after total lt h so_far =
     subst (λ (o : Option X). with_front (front ++ x ∷ []) (list_at read latest (count - (i + 1)) o after) ≡ total) (sym (last_pushed X front x))
-        (goes_on (Option X) X read latest front count i (last_of front) bytes x after total lt h so_far)
+    (goes_on (Option X) X read latest front count i (last_of front) bytes x after total lt h so_far)
 
 -- so many items are read
 shorter : (X : Type 0) (n : ℕ) (x : X) (xs : List X × List ℕ) (r : Reading (List X)) → ((ys : List X × List ℕ) → r ≡ Ok ys → length ys.0 ≡ n) → (r >>= onto x) ≡ Ok xs → length xs.0 ≡ suc n

@@ -1,10 +1,10 @@
 -- What is of a name's shape is UTF-8.
-use Rattle.std.proofs.Common.{◌≡◌, ℕ, zero, suc, ◌<◌, ◌≤◌, Bool, true, false, ◌&&◌, ◌||◌, ◌==◌, nat_le, nat_lt, List, [], ◌∷◌, length, refl, arith}
-use Rattle.std.specs.List.{list_all, slice_index}
-use Rattle.std.specs.Str.{is_utf8, IsUtf8, IsAscii}
+use Rattle.std.proofs.Common.{◌≡◌, ℕ, zero, suc, ◌<◌, true, List, [], ◌∷◌, arith}
+use Rattle.std.specs.List.{list_all}
+use Rattle.std.specs.Str.{is_utf8, IsAscii}
 use Rattle.std.proofs.lemmas.Bool.{and_parts}
 use Rattle.std.proofs.lemmas.Str.{IsUtf8-from_ascii, is_utf8-from_IsUtf8}
-use Rattle.lasp_value.specs.Name.{is_small_letter, is_digit, is_name_byte, is_name}
+use Rattle.lasp_value.specs.Name.{is_name_byte, is_name}
 
 small : (b : ℕ) → is_name_byte b ≡ true → b < 128
 small b h = grind arith

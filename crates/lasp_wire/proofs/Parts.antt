@@ -1,15 +1,10 @@
 -- A pair's second part is read as its first part was.
-use Rattle.std.proofs.Common.{◌≡◌, ℕ, suc, ◌+◌, ◌-◌, ◌<◌, ◌≤◌, Bool, true, false, cond, eqb, List, length, Result, Ok, Err, refl, sym, ap, ◌∙◌, arith}
-use Rattle.std.proofs.lemmas.Bool.{eqb-false, ne_eqb}
+use Rattle.std.proofs.Common.{◌≡◌, ℕ, suc, ◌-◌, ◌<◌, false, eqb, List, Ok, ap, ◌∙◌, arith}
+use Rattle.std.proofs.lemmas.Bool.{ne_eqb}
 use Rattle.model_graph.specs.Chain.{◌>>=◌}
-use Rattle.model_wire.specs.declared.wire_why.WireWhy.{WireWhy}
 use Rattle.model_wire.specs.Reader.{Reading, remade, kind_at}
-use Rattle.model_wire.specs.Value.{Part, part, pair_part, part_at}
+use Rattle.model_wire.specs.Value.{Part, pair_part, part_at}
 use Rattle.model_wire.proofs.DepthLaws.{fewer, enough}
-use Rattle.lasp_wire.specs.declared.refused.ReadError.{ReadError}
-use Rattle.lasp_wire.specs.declared.refused.ReadError.TheVariants as error
-use Rattle.lasp_wire.specs.Read.{Fails, Gives}
-use Rattle.lasp_value.specs.Value.{val_of}
 
 -- what is read of a pair whose first part was read
 pub second_read : (pairs room : ℕ) (bytes : List ℕ) (tag : ℕ × List ℕ) (a : Part × List ℕ) → kind_at 0 2 bytes ≡ Ok tag → 1 < tag.0 → 0 < pairs → part_at (suc (pairs - 1)) (pairs - 1) room tag.1 ≡ Ok a
@@ -22,4 +17,4 @@ second_read pairs room bytes tag a kind more some first =
     let depth : part_at pairs (pairs - 1) room tag.1 ≡ Ok a = enough pairs (suc (pairs - 1)) (pairs - 1) room tag.1 (omega (arith, some)) (omega (arith, some)) ∙ first in
     let few = fewer pairs (pairs - 1) room tag.1 a depth in
     rw (kind, not-int, not-text, not-none, depth)
-        (ap (λ (r : Reading Part). r >>= remade (pair_part a.0.value)) (enough pairs (suc a.0.pairs) a.0.pairs a.0.room a.1 (omega (arith, some, few)) (omega arith)))
+    (ap (λ (r : Reading Part). r >>= remade (pair_part a.0.value)) (enough pairs (suc a.0.pairs) a.0.pairs a.0.room a.1 (omega (arith, some, few)) (omega arith)))

@@ -1,6 +1,6 @@
 -- What is read of sets is in order.
-use Rattle.std.proofs.Common.{◌≡◌, ℕ, ◌<◌, ◌≤◌, ◌+◌, Bool, true, ◌&&◌, if◌then◌else◌, List, [], ◌∷◌, ◌++◌, length, map, take, drop, Result, Ok, refl, sym, ap, subst, ◌∙◌, arith}
-use Rattle.std.specs.FinMap.Entries.{is_sorted, below_all}
+use Rattle.std.proofs.Common.{◌≡◌, ℕ, ◌≤◌, true, List, [], ◌∷◌, ◌++◌, Ok, refl, arith}
+use Rattle.std.specs.FinMap.Entries.{below_all}
 use Rattle.std.proofs.lemmas.Bool.{and_parts, and_from}
 use Rattle.model_values.specs.Value.{Val}
 use Rattle.model_values.specs.Row.{Row, key_cmp}
@@ -8,7 +8,7 @@ use Rattle.model_sets.specs.Rows.{IsAscending}
 use Rattle.model_sets.specs.Values.{AreAscending}
 use Rattle.model_states.specs.Counts.{count_max}
 use Rattle.model_wire.specs.Message.{rows_at, elements_at, numbers_at}
-use Rattle.model_wire.specs.Lawful.{IsBytes, IsNodes, AreAtMost}
+use Rattle.model_wire.specs.Lawful.{IsBytes, AreAtMost}
 use Rattle.model_wire.proofs.SourceLaws.{rows_codec, numbers_codec}
 use Rattle.model_wire.proofs.SetLaws.{elements_codec}
 

@@ -1,12 +1,12 @@
 -- The sources of a message are short enough to be written.
-use Rattle.std.proofs.Common.{◌≡◌, ℕ, ◌≤◌, Bool, true, ◌&&◌, List, [], ◌∷◌, length, map, subst, arith}
-use Rattle.std.specs.List.{AllByRecursion, list_all, slice_index}
+use Rattle.std.proofs.Common.{◌≡◌, ℕ, ◌≤◌, true, List, [], ◌∷◌, length, map, arith}
+use Rattle.std.specs.List.{AllByRecursion}
 use Rattle.std.proofs.lemmas.Bool.{and_parts}
 use Rattle.model_values.specs.Value.{Val}
 use Rattle.model_values.specs.Row.{Row}
 use Rattle.model_wire.specs.Lawful.{IsSourceValue, IsRow, IsSource, IsSent}
 use Rattle.model_wire.proofs.ValueLaws.{within_range}
-use Rattle.lasp_value.specs.Name.{is_name, is_name_byte, is_small_letter}
+use Rattle.lasp_value.specs.Name.{is_name}
 use Rattle.lasp_state.specs.declared.state.State.{State}
 use Rattle.lasp_state.specs.declared.state.State.TheVariants.{Set, Grow, Count, Max, Fold}
 use Rattle.lasp_state.specs.State.{content_of}

@@ -1,5 +1,5 @@
 -- Rows that are written first to last are written by their values.
-use Rattle.std.proofs.Common.{◌≡◌, ℕ, zero, suc, Bool, true, false, not, cond, if◌then◌else◌, List, [], ◌∷◌, ◌++◌, length, Option, Some, None, refl, sym, ap, subst, ◌∙◌, append_assoc, append-nil}
+use Rattle.std.proofs.Common.{◌≡◌, ℕ, suc, Bool, true, false, not, cond, if◌then◌else◌, List, [], ◌∷◌, ◌++◌, length, Option, Some, None, refl, ap, ◌∙◌, append_assoc}
 use Rattle.std.specs.List.{flat_map}
 use Rattle.std.specs.Ordering.{is_eq, eq_by_cmp}
 use Rattle.std.specs.declared.cmp.Ordering.{Ordering}
@@ -8,7 +8,7 @@ use Rattle.model_values.specs.Value.{Val, val_cmp, val_exact}
 use Rattle.model_values.specs.Token.{Tok}
 use Rattle.model_values.specs.Row.{Row}
 use Rattle.model_messages.specs.Spelling.{number, truth, spelled_value, spelled_token, Group, with_row, groups_of, spelled_group, spelled_rows}
-use Rattle.lasp_wire.specs.Written.{spelled_mark, run, is_first, spelled_head, spelled_after, values_after}
+use Rattle.lasp_wire.specs.Written.{spelled_mark, run, is_first, spelled_after, values_after}
 
 abbrev same : Val → Val → Bool
 same v w = eq_by_cmp val_cmp v w
@@ -116,13 +116,13 @@ text_more : (before : Option Val) (r : Row) (g : Group) (gs : List Group) (b : B
 text_more before r g gs true h =
     let n : run_of r.0.0 (g ∷ gs) ≡ length g.tokens = ap (λ (b : Bool). cond b (length g.tokens) 0) h in
     let t : text_of (Some r.0.0) (g ∷ gs) ≡ flat_map mark g.tokens ++ flat_map spelled_group gs =
-        ap (λ (b : Bool). cond (not b) (spelled_value g.value ++ number 4 (length g.tokens)) [] ++ (flat_map mark g.tokens ++ flat_map spelled_group gs)) h in
+    ap (λ (b : Bool). cond (not b) (spelled_value g.value ++ number 4 (length g.tokens)) [] ++ (flat_map mark g.tokens ++ flat_map spelled_group gs)) h in
     rw (n, t) (ap (λ (w : Val). (start before w (suc (length g.tokens)) ++ mark (mark_in r)) ++ (flat_map mark g.tokens ++ flat_map spelled_group gs)) (is_same r.0.0 g.value h)
-        ∙ regroup (start before g.value (suc (length g.tokens))) (mark (mark_in r)) (flat_map mark g.tokens) (flat_map spelled_group gs))
+    ∙ regroup (start before g.value (suc (length g.tokens))) (mark (mark_in r)) (flat_map mark g.tokens) (flat_map spelled_group gs))
 text_more before r g gs false h =
     let n : run_of r.0.0 (g ∷ gs) ≡ 0 = ap (λ (b : Bool). cond b (length g.tokens) 0) h in
     let t : text_of (Some r.0.0) (g ∷ gs) ≡ flat_map spelled_group (g ∷ gs) =
-        ap (λ (b : Bool). cond (not b) (spelled_value g.value ++ number 4 (length g.tokens)) [] ++ (flat_map mark g.tokens ++ flat_map spelled_group gs)) h ∙ text_all (g ∷ gs) in
+    ap (λ (b : Bool). cond (not b) (spelled_value g.value ++ number 4 (length g.tokens)) [] ++ (flat_map mark g.tokens ++ flat_map spelled_group gs)) h ∙ text_all (g ∷ gs) in
     rw (n, t) (regroup (start before r.0.0 1) (mark (mark_in r)) [] (flat_map spelled_group (g ∷ gs)))
 
 text_with : (before : Option Val) (r : Row) (gs : List Group) → (start before r.0.0 (suc (run_of r.0.0 gs)) ++ mark (mark_in r)) ++ text_of (Some r.0.0) gs ≡ text_of before (with_row r gs)

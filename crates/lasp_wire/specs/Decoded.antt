@@ -1,5 +1,5 @@
 -- What decoding answered, beside what the bytes are.
-use Rattle.std.specs.Prelude.{◌≡◌, ℕ, List, map, Result, Ok, Err}
+use Rattle.std.specs.Prelude.{◌≡◌, ℕ, map, Result, Ok, Err}
 use Rattle.model_messages.specs.Message.{Message}
 use Rattle.model_wire.specs.declared.wire_why.WireWhy.{WireWhy}
 use Rattle.lasp_wire.specs.declared.refused.WireRefused.{WireRefused}

@@ -1,8 +1,8 @@
 -- Messages as plain data, and as trees of numbers.
-use Rattle.std.specs.Prelude.{ℕ, List, [], ◌∷◌, ◌++◌, map, refl}
+use Rattle.std.specs.Prelude.{ℕ, List, [], ◌∷◌, ◌++◌, refl}
 use Rattle.std.specs.Coded.{Coded, code_by, coded×, coded_ℕ, coded_list}
 use Rattle.model_states.specs.Content.{Content}
-use Rattle.model_graph.specs.Graph.{Kind, OrSet, GSet, Counter, MaxReg, Union, Decl}
+use Rattle.model_graph.specs.Graph.{Kind, OrSet, GSet, Counter, MaxReg, Union}
 use Rattle.model_messages.specs.Message.{Sent, Message}
 use Rattle.model_wire.specs.Message.{Held}
 use Rattle.lasp_graph.specs.Coded.{coded_kind}

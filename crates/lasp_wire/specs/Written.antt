@@ -1,5 +1,5 @@
 -- The rows of a set as they are written, first to last: a value and the number of its rows stand before the first of its rows.
-use Rattle.std.specs.Prelude.{ℕ, zero, suc, ◌≤◌, ◌++◌, not, Bool, true, List, [], ◌∷◌, length, map, if◌then◌else◌, Option, Some, None}
+use Rattle.std.specs.Prelude.{ℕ, suc, ◌≤◌, ◌++◌, not, Bool, true, List, [], ◌∷◌, length, if◌then◌else◌, Option, Some, None}
 use Rattle.std.specs.List.{AllByRecursion}
 use Rattle.std.specs.Ordering.{eq_by_cmp}
 use Rattle.model_values.specs.Value.{Val, val_cmp}

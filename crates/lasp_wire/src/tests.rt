@@ -9,10 +9,12 @@ use std::alloc::{AllocError, Global};
 use std::test::Fail;
 
 /// Two nodes, of which the first counted 1, and a set `a` with the value 5.
-const OLD: &[u8; 49] = b"LASP\x01\x02\0\0\0\0\0\0\0\x01\0\0\0\0\0\0\0\0\x01\x01a\x01\0\0\0\x01\0\0\0\0\0\0\0\0\x05\0\0\0\0\0\0\0\0\x01\0";
+const OLD: &[u8; 49] =
+    b"LASP\x01\x02\0\0\0\0\0\0\0\x01\0\0\0\0\0\0\0\0\x01\x01a\x01\0\0\0\x01\0\0\0\0\0\0\0\0\x05\0\0\0\0\0\0\0\0\x01\0";
 
 /// The same message in version 2.
-const NEW: &[u8; 53] = b"LASP\x02\x02\0\0\0\0\0\0\0\x01\0\0\0\0\0\0\0\0\x01\x01a\x01\0\0\0\x01\0\0\0\0\0\0\0\0\x05\0\0\0\x01\0\0\0\0\0\0\0\0\x01\0";
+const NEW: &[u8; 53] =
+    b"LASP\x02\x02\0\0\0\0\0\0\0\x01\0\0\0\0\0\0\0\0\x01\x01a\x01\0\0\0\x01\0\0\0\0\0\0\0\0\x05\0\0\0\x01\0\0\0\0\0\0\0\0\x01\0";
 
 /// The row of 5 with the first update of node 1, in version 1.
 const ROW: &[u8; 19] = b"\0\0\0\0\0\0\0\0\x05\x01\0\0\0\0\0\0\0\x01\x01";
@@ -28,12 +30,7 @@ fn is_refused(alloc: Global, bytes: &[u8], place: u64, why: WireWhy) -> bool {
 }
 
 /// The bytes with some put in place of those from a place on, or behind the last.
-fn changed(
-    alloc: Global,
-    bytes: &[u8],
-    at: usize,
-    others: &[u8],
-) -> Result<Vec<u8>, AllocError> {
+fn changed(alloc: Global, bytes: &[u8], at: usize, others: &[u8]) -> Result<Vec<u8>, AllocError> {
     let mut all = Vec::from_slice(alloc, bytes)?;
     let mut place = at;
     for byte in others {
@@ -61,12 +58,16 @@ fn last_within(starts: &[usize], place: usize) -> u64 {
 #[test]
 fn a_cut_message_is_short_where_its_last_field_begins(rt: HostRuntime) -> Result<(), Fail> {
     let alloc = rt.alloc();
-    let old = [0, 1, 2, 3, 4, 5, 6, 14, 22, 23, 24, 25, 26, 30, 31, 39, 40, 48];
+    let old = [
+        0, 1, 2, 3, 4, 5, 6, 14, 22, 23, 24, 25, 26, 30, 31, 39, 40, 48,
+    ];
     for len in 0..OLD.len() {
         let place = last_within(&old, len);
         assert!(rt; is_refused(alloc, &OLD[..len], place, WireWhy::Short));
     }
-    let new = [0, 1, 2, 3, 4, 5, 6, 14, 22, 23, 24, 25, 26, 30, 31, 39, 43, 44, 52];
+    let new = [
+        0, 1, 2, 3, 4, 5, 6, 14, 22, 23, 24, 25, 26, 30, 31, 39, 43, 44, 52,
+    ];
     for len in 0..NEW.len() {
         let place = last_within(&new, len);
         assert!(rt; is_refused(alloc, &NEW[..len], place, WireWhy::Short));
@@ -139,9 +140,12 @@ fn is_written(alloc: Global, bytes: &[u8], others: &[u8]) -> Result<bool, AllocE
 fn both_versions_are_read_and_the_second_is_written(rt: HostRuntime) -> Result<(), Fail> {
     let alloc = rt.alloc();
     let head = b"\x01\0\0\0\0\0\0\0\x04\x05\x01s\x01";
-    let old_rows = b"\0\0\0\x03\0\xff\xff\xff\xff\xff\xff\xff\xff\0\0\0\0\0\0\0\0\x01\0\0\xff\xff\xff\xff\xff\xff\xff\xff\0\0\0\0\0\0\0\0\x02\x01\x02\x01\0\x02\xc3\xa9\0\0\0\0\0\0\0\0\x07\0\0\0\0\0\0\0\0\x04\0";
-    let new_rows = b"\0\0\0\x02\0\xff\xff\xff\xff\xff\xff\xff\xff\0\0\0\x02\0\0\0\0\0\0\0\0\x01\0\0\0\0\0\0\0\0\0\x02\x01\x02\x01\0\x02\xc3\xa9\0\0\0\0\0\0\0\0\x07\0\0\0\x01\0\0\0\0\0\0\0\0\x04\0";
-    let rest = b"\x01g\x02\0\0\0\x02\0\0\0\0\0\0\0\0\x05\x01\0\x01x\x01c\x03\0\0\0\0\0\0\0\x09\x02m1\x04\x01\x80\0\0\0\0\0\0\0\x02m2\x04\0";
+    let old_rows =
+        b"\0\0\0\x03\0\xff\xff\xff\xff\xff\xff\xff\xff\0\0\0\0\0\0\0\0\x01\0\0\xff\xff\xff\xff\xff\xff\xff\xff\0\0\0\0\0\0\0\0\x02\x01\x02\x01\0\x02\xc3\xa9\0\0\0\0\0\0\0\0\x07\0\0\0\0\0\0\0\0\x04\0";
+    let new_rows =
+        b"\0\0\0\x02\0\xff\xff\xff\xff\xff\xff\xff\xff\0\0\0\x02\0\0\0\0\0\0\0\0\x01\0\0\0\0\0\0\0\0\0\x02\x01\x02\x01\0\x02\xc3\xa9\0\0\0\0\0\0\0\0\x07\0\0\0\x01\0\0\0\0\0\0\0\0\x04\0";
+    let rest =
+        b"\x01g\x02\0\0\0\x02\0\0\0\0\0\0\0\0\x05\x01\0\x01x\x01c\x03\0\0\0\0\0\0\0\x09\x02m1\x04\x01\x80\0\0\0\0\0\0\0\x02m2\x04\0";
     let mut old = Vec::from_slice(alloc, b"LASP\x01")?;
     old.extend_from_slice(head)?;
     old.extend_from_slice(old_rows)?;

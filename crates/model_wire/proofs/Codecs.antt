@@ -61,16 +61,17 @@ itself t = t
 
 pub bytes_codec : (n : ℕ) → IsCodec (List ℕ) (IsLong n) itself (bytes_at n)
 bytes_codec n = record { took = took; again = again } where
-    took : (bytes : List ℕ) (x : List ℕ × List ℕ) → IsBytes bytes → bytes_at n bytes ≡ Ok x → Takes bytes x.0 x.1 × IsLong n x.0
-    took bytes x fits e =
-        let g = not_short (ltb (length bytes) n) (length bytes, why.Short) (take n bytes, drop n bytes) x e in
-        let long : n ≤ length bytes = ltb-false _ _ g.0 in
-        subst (λ (p : List ℕ × List ℕ). Takes bytes p.0 p.1 × IsLong n p.0) g.1
-            (record { parts = sym (take-append-drop n bytes); behind = behind_drop n bytes fits }, omega (arith, length-take n bytes))
-    again : (x rest : List ℕ) → IsLong n x → bytes_at n (x ++ rest) ≡ Ok (x, rest)
-    again x rest h =
-        let long : ltb (length (x ++ rest)) n ≡ false = le-ltb _ _ (omega (arith, h, length-append x rest)) in
-        rw (long, take_at x rest n h, drop_at x rest n h) refl
+  took : (bytes : List ℕ) (x : List ℕ × List ℕ) → IsBytes bytes → bytes_at n bytes ≡ Ok x → Takes bytes x.0 x.1 × IsLong n x.0
+  took bytes x fits e =
+      let g = not_short (ltb (length bytes) n) (length bytes, why.Short) (take n bytes, drop n bytes) x e in
+      let long : n ≤ length bytes = ltb-false _ _ g.0 in
+      subst (λ (p : List ℕ × List ℕ). Takes bytes p.0 p.1 × IsLong n p.0) g.1
+      (record { parts = sym (take-append-drop n bytes); behind = behind_drop n bytes fits }, omega (arith, length-take n bytes))
+
+  again : (x rest : List ℕ) → IsLong n x → bytes_at n (x ++ rest) ≡ Ok (x, rest)
+  again x rest h =
+      let long : ltb (length (x ++ rest)) n ≡ false = le-ltb _ _ (omega (arith, h, length-append x rest)) in
+      rw (long, take_at x rest n h, drop_at x rest n h) refl
 
 -- a width with the first number that it hasn't
 pub record IsWide (w : Width) (limit : ℕ) : Type 0 where
@@ -121,18 +122,19 @@ IsBelow limit n = n < limit
 
 pub number_codec : (w : Width) (limit : ℕ) → IsWide w limit → IsCodec ℕ (IsBelow limit) (to_be_bytes w) (number_at w)
 number_codec w limit wide = record { took = took; again = again } where
-    took : (bytes : List ℕ) (x : ℕ × List ℕ) → IsBytes bytes → number_at w bytes ≡ Ok x → Takes bytes (to_be_bytes w x.0) x.1 × IsBelow limit x.0
-    took bytes x fits e =
-        let p = passed (bytes_at (byte_len w) bytes) (remade (from_be_bytes w)) x e in
-        let g = not_short (ltb (length bytes) (byte_len w)) (length bytes, why.Short) (take (byte_len w) bytes, drop (byte_len w) bytes) p.value p.first in
-        let small : IsBytes p.value.0 = subst (λ (q : List ℕ × List ℕ). IsBytes q.0) g.1 (within_take (byte_len w) bytes fits) in
-        let t = (bytes_codec (byte_len w)).took bytes p.value fits p.first in
-        let spelled : to_be_bytes w (from_be_bytes w p.value.0) ≡ p.value.0 = wide.back p.value.0 t.1 small in
-        let front : Takes bytes (to_be_bytes w (from_be_bytes w p.value.0)) p.value.1 = rw spelled t.0 in
-        let is : (from_be_bytes w p.value.0, p.value.1) ≡ x = cc in
-        subst (λ (q : ℕ × List ℕ). Takes bytes (to_be_bytes w q.0) q.1 × IsBelow limit q.0) is (front, wide.below p.value.0 small)
-    again : (x : ℕ) (rest : List ℕ) → IsBelow limit x → number_at w (to_be_bytes w x ++ rest) ≡ Ok (x, rest)
-    again x rest h = rw ((bytes_codec (byte_len w)).again (to_be_bytes w x) rest (wide.len x), wide.again x h) refl
+  took : (bytes : List ℕ) (x : ℕ × List ℕ) → IsBytes bytes → number_at w bytes ≡ Ok x → Takes bytes (to_be_bytes w x.0) x.1 × IsBelow limit x.0
+  took bytes x fits e =
+      let p = passed (bytes_at (byte_len w) bytes) (remade (from_be_bytes w)) x e in
+      let g = not_short (ltb (length bytes) (byte_len w)) (length bytes, why.Short) (take (byte_len w) bytes, drop (byte_len w) bytes) p.value p.first in
+      let small : IsBytes p.value.0 = subst (λ (q : List ℕ × List ℕ). IsBytes q.0) g.1 (within_take (byte_len w) bytes fits) in
+      let t = (bytes_codec (byte_len w)).took bytes p.value fits p.first in
+      let spelled : to_be_bytes w (from_be_bytes w p.value.0) ≡ p.value.0 = wide.back p.value.0 t.1 small in
+      let front : Takes bytes (to_be_bytes w (from_be_bytes w p.value.0)) p.value.1 = rw spelled t.0 in
+      let is : (from_be_bytes w p.value.0, p.value.1) ≡ x = cc in
+      subst (λ (q : ℕ × List ℕ). Takes bytes (to_be_bytes w q.0) q.1 × IsBelow limit q.0) is (front, wide.below p.value.0 small)
+
+  again : (x : ℕ) (rest : List ℕ) → IsBelow limit x → number_at w (to_be_bytes w x ++ rest) ≡ Ok (x, rest)
+  again x rest h = rw ((bytes_codec (byte_len w)).again (to_be_bytes w x) rest (wide.len x), wide.again x h) refl
 
 -- ---- readers put together
 
@@ -142,14 +144,15 @@ HasTested X Has test x = Has x × (test x ≡ true)
 
 pub tested_codec : (X : Type 0) (Has : X → Type 0) (spell : X → List ℕ) (read : Reader X) (test : X → Bool) (w : WireWhy) → IsCodec X Has spell read → IsCodec X (HasTested X Has test) spell (tested read test w)
 tested_codec X Has spell read test w codec = record { took = took; again = again } where
-    took : (bytes : List ℕ) (x : X × List ℕ) → IsBytes bytes → tested read test w bytes ≡ Ok x → Takes bytes (spell x.0) x.1 × HasTested X Has test x.0
-    took bytes x fits e =
-        let p = passed (read bytes) (if_passes test (length bytes, w)) x e in
-        let t = codec.took bytes p.value fits p.first in
-        let g = test_passed (test p.value.0) (length bytes, w) p.value x p.then in
-        subst (λ (q : X × List ℕ). Takes bytes (spell q.0) q.1 × HasTested X Has test q.0) g.1 (t.0, (t.1, g.0))
-    again : (x : X) (rest : List ℕ) → HasTested X Has test x → tested read test w (spell x ++ rest) ≡ Ok (x, rest)
-    again x rest h = rw (codec.again x rest h.0, h.1) refl
+  took : (bytes : List ℕ) (x : X × List ℕ) → IsBytes bytes → tested read test w bytes ≡ Ok x → Takes bytes (spell x.0) x.1 × HasTested X Has test x.0
+  took bytes x fits e =
+      let p = passed (read bytes) (if_passes test (length bytes, w)) x e in
+      let t = codec.took bytes p.value fits p.first in
+      let g = test_passed (test p.value.0) (length bytes, w) p.value x p.then in
+      subst (λ (q : X × List ℕ). Takes bytes (spell q.0) q.1 × HasTested X Has test q.0) g.1 (t.0, (t.1, g.0))
+
+  again : (x : X) (rest : List ℕ) → HasTested X Has test x → tested read test w (spell x ++ rest) ≡ Ok (x, rest)
+  again x rest h = rw (codec.again x rest h.0, h.1) refl
 
 -- the first, and a second that the first allows
 abbrev pub HasBoth : (X Y : Type 0) → (X → Type 0) → (X → Y → Type 0) → X × Y → Type 0
@@ -161,18 +164,19 @@ spell_both X Y spellX spellY p = spellX p.0 ++ spellY p.1
 pub both_codec : (X Y : Type 0) (HasX : X → Type 0) (HasY : X → Y → Type 0) (spellX : X → List ℕ) (spellY : Y → List ℕ) (read : Reader X) (next : X → Reader Y)
     → IsCodec X HasX spellX read → ((x : X) → HasX x → IsCodec Y (HasY x) spellY (next x)) → IsCodec (X × Y) (HasBoth X Y HasX HasY) (spell_both X Y spellX spellY) (both_at read next)
 both_codec X Y HasX HasY spellX spellY read next first second = record { took = took; again = again } where
-    took : (bytes : List ℕ) (p : (X × Y) × List ℕ) → IsBytes bytes → both_at read next bytes ≡ Ok p → Takes bytes (spell_both X Y spellX spellY p.0) p.1 × HasBoth X Y HasX HasY p.0
-    took bytes p fits e =
-        let a = passed (read bytes) (λ x. next x.0 x.1 >>= paired x.0) p e in
-        let s = first.took bytes a.value fits a.first in
-        let b = passed (next a.value.0 a.value.1) (paired a.value.0) p a.then in
-        let t = (second a.value.0 s.1).took a.value.1 b.value s.0.behind b.first in
-        let is : ((a.value.0, b.value.0), b.value.1) ≡ p = cc in
-        subst (λ (q : (X × Y) × List ℕ). Takes bytes (spell_both X Y spellX spellY q.0) q.1 × HasBoth X Y HasX HasY q.0) is
-            (takes_both bytes (spellX a.value.0) a.value.1 (spellY b.value.0) b.value.1 s.0 t.0, (s.1, t.1))
-    again : (p : X × Y) (rest : List ℕ) → HasBoth X Y HasX HasY p → both_at read next (spell_both X Y spellX spellY p ++ rest) ≡ Ok (p, rest)
-    again p rest h =
-        rw (append_assoc (spellX p.0) (spellY p.1) rest, first.again p.0 (spellY p.1 ++ rest) h.0, (second p.0 h.0).again p.1 rest h.1) refl
+  took : (bytes : List ℕ) (p : (X × Y) × List ℕ) → IsBytes bytes → both_at read next bytes ≡ Ok p → Takes bytes (spell_both X Y spellX spellY p.0) p.1 × HasBoth X Y HasX HasY p.0
+  took bytes p fits e =
+      let a = passed (read bytes) (λ x. next x.0 x.1 >>= paired x.0) p e in
+      let s = first.took bytes a.value fits a.first in
+      let b = passed (next a.value.0 a.value.1) (paired a.value.0) p a.then in
+      let t = (second a.value.0 s.1).took a.value.1 b.value s.0.behind b.first in
+      let is : ((a.value.0, b.value.0), b.value.1) ≡ p = cc in
+      subst (λ (q : (X × Y) × List ℕ). Takes bytes (spell_both X Y spellX spellY q.0) q.1 × HasBoth X Y HasX HasY q.0) is
+      (takes_both bytes (spellX a.value.0) a.value.1 (spellY b.value.0) b.value.1 s.0 t.0, (s.1, t.1))
+
+  again : (p : X × Y) (rest : List ℕ) → HasBoth X Y HasX HasY p → both_at read next (spell_both X Y spellX spellY p ++ rest) ≡ Ok (p, rest)
+  again p rest h =
+      rw (append_assoc (spellX p.0) (spellY p.1) rest, first.again p.0 (spellY p.1 ++ rest) h.0, (second p.0 h.0).again p.1 rest h.1) refl
 
 -- a content whose number or kind stands before it
 abbrev pub spell_counted : (X Y : Type 0) → (X → List ℕ) → (Y → X) → (Y → List ℕ) → Y → List ℕ
@@ -185,17 +189,18 @@ pub counted_codec : (X Y : Type 0) (HasX : X → Type 0) (HasY : X → Y → Typ
     → IsCodec X HasX spellX read → ((x : X) → HasX x → IsCodec Y (HasY x) spellY (next x)) → ((x : X) (y : Y) → HasX x → HasY x y → told y ≡ x)
     → IsCodec Y (HasCounted X Y HasX told HasY) (spell_counted X Y spellX told spellY) (counted read next)
 counted_codec X Y HasX HasY spellX spellY told read next first second tells = record { took = took; again = again } where
-    took : (bytes : List ℕ) (y : Y × List ℕ) → IsBytes bytes → counted read next bytes ≡ Ok y → Takes bytes (spell_counted X Y spellX told spellY y.0) y.1 × HasCounted X Y HasX told HasY y.0
-    took bytes y fits e =
-        let a = passed (read bytes) (λ x. next x.0 x.1) y e in
-        let s = first.took bytes a.value fits a.first in
-        let t = (second a.value.0 s.1).took a.value.1 y s.0.behind a.then in
-        let is : a.value.0 ≡ told y.0 = sym (tells a.value.0 y.0 s.1 t.1) in
-        subst (λ (x : X). Takes bytes (spellX x ++ spellY y.0) y.1 × (HasX x × HasY x y.0)) is
-            (takes_both bytes (spellX a.value.0) a.value.1 (spellY y.0) y.1 s.0 t.0, (s.1, t.1))
-    again : (y : Y) (rest : List ℕ) → HasCounted X Y HasX told HasY y → counted read next (spell_counted X Y spellX told spellY y ++ rest) ≡ Ok (y, rest)
-    again y rest h =
-        rw (append_assoc (spellX (told y)) (spellY y) rest, first.again (told y) (spellY y ++ rest) h.0) ((second (told y) h.0).again y rest h.1)
+  took : (bytes : List ℕ) (y : Y × List ℕ) → IsBytes bytes → counted read next bytes ≡ Ok y → Takes bytes (spell_counted X Y spellX told spellY y.0) y.1 × HasCounted X Y HasX told HasY y.0
+  took bytes y fits e =
+      let a = passed (read bytes) (λ x. next x.0 x.1) y e in
+      let s = first.took bytes a.value fits a.first in
+      let t = (second a.value.0 s.1).took a.value.1 y s.0.behind a.then in
+      let is : a.value.0 ≡ told y.0 = sym (tells a.value.0 y.0 s.1 t.1) in
+      subst (λ (x : X). Takes bytes (spellX x ++ spellY y.0) y.1 × (HasX x × HasY x y.0)) is
+      (takes_both bytes (spellX a.value.0) a.value.1 (spellY y.0) y.1 s.0 t.0, (s.1, t.1))
+
+  again : (y : Y) (rest : List ℕ) → HasCounted X Y HasX told HasY y → counted read next (spell_counted X Y spellX told spellY y ++ rest) ≡ Ok (y, rest)
+  again y rest h =
+      rw (append_assoc (spellX (told y)) (spellY y) rest, first.again (told y) (spellY y ++ rest) h.0) ((second (told y) h.0).again y rest h.1)
 
 -- the parts of what is said otherwise
 pub record IsRemade (X Y : Type 0) (HasX : X → Type 0) (HasY : Y → Type 0) (spellX : X → List ℕ) (spellY : Y → List ℕ) (make : X → Y) (parts : Y → X) : Type 0 where
@@ -207,18 +212,19 @@ pub record IsRemade (X Y : Type 0) (HasX : X → Type 0) (HasY : Y → Type 0) (
 pub made_codec : (X Y : Type 0) (HasX : X → Type 0) (HasY : Y → Type 0) (spellX : X → List ℕ) (spellY : Y → List ℕ) (make : X → Y) (parts : Y → X) (read : Reader X)
     → IsCodec X HasX spellX read → IsRemade X Y HasX HasY spellX spellY make parts → IsCodec Y HasY spellY (made make read)
 made_codec X Y HasX HasY spellX spellY make parts read codec re = record { took = took; again = again } where
-    took : (bytes : List ℕ) (y : Y × List ℕ) → IsBytes bytes → made make read bytes ≡ Ok y → Takes bytes (spellY y.0) y.1 × HasY y.0
-    took bytes y fits e =
-        let p = passed (read bytes) (remade make) y e in
-        let t = codec.took bytes p.value fits p.first in
-        let is : (make p.value.0, p.value.1) ≡ y = cc in
-        subst (λ (q : Y × List ℕ). Takes bytes (spellY q.0) q.1 × HasY q.0) is
-            (subst (λ (text : List ℕ). Takes bytes text p.value.1) (re.spelled p.value.0 t.1) t.0, re.has p.value.0 t.1)
-    again : (y : Y) (rest : List ℕ) → HasY y → made make read (spellY y ++ rest) ≡ Ok (y, rest)
-    again y rest h =
-        let text : spellY y ≡ spellX (parts y) = ap spellY (sym (re.remakes y h)) ∙ sym (re.spelled (parts y) (re.has_parts y h)) in
-        let one : made make read (spellX (parts y) ++ rest) ≡ Ok (make (parts y), rest) = rw (codec.again (parts y) rest (re.has_parts y h)) refl in
-        rw text (one ∙ ap (λ (z : Y). Ok (z, rest)) (re.remakes y h))
+  took : (bytes : List ℕ) (y : Y × List ℕ) → IsBytes bytes → made make read bytes ≡ Ok y → Takes bytes (spellY y.0) y.1 × HasY y.0
+  took bytes y fits e =
+      let p = passed (read bytes) (remade make) y e in
+      let t = codec.took bytes p.value fits p.first in
+      let is : (make p.value.0, p.value.1) ≡ y = cc in
+      subst (λ (q : Y × List ℕ). Takes bytes (spellY q.0) q.1 × HasY q.0) is
+      (subst (λ (text : List ℕ). Takes bytes text p.value.1) (re.spelled p.value.0 t.1) t.0, re.has p.value.0 t.1)
+
+  again : (y : Y) (rest : List ℕ) → HasY y → made make read (spellY y ++ rest) ≡ Ok (y, rest)
+  again y rest h =
+      let text : spellY y ≡ spellX (parts y) = ap spellY (sym (re.remakes y h)) ∙ sym (re.spelled (parts y) (re.has_parts y h)) in
+      let one : made make read (spellX (parts y) ++ rest) ≡ Ok (make (parts y), rest) = rw (codec.again (parts y) rest (re.has_parts y h)) refl in
+      rw text (one ∙ ap (λ (z : Y). Ok (z, rest)) (re.remakes y h))
 
 -- what is had, said otherwise
 pub has_codec : (X : Type 0) (Has Known : X → Type 0) (spell : X → List ℕ) (read : Reader X) → IsCodec X Has spell read → ((x : X) → Has x → Known x) → ((x : X) → Known x → Has x) → IsCodec X Known spell read
@@ -260,7 +266,7 @@ list_took S X Has spell read next codec (suc n) s bytes xs fits e =
     let u = list_took S X Has spell read next codec n (next s a.value.0) a.value.1 b.value t.0.behind b.first in
     let is : (a.value.0 ∷ b.value.0, b.value.1) ≡ xs = cc in
     subst (λ (q : List X × List ℕ). Takes bytes (spell_all X spell q.0) q.1 × HasMany S X Has next (suc n) s q.0) is
-        (takes_both bytes (spell a.value.0) a.value.1 (spell_all X spell b.value.0) b.value.1 t.0 u.0, (ap (λ (m : ℕ). suc m) u.1.0, (t.1, u.1.1)))
+    (takes_both bytes (spell a.value.0) a.value.1 (spell_all X spell b.value.0) b.value.1 t.0 u.0, (ap (λ (m : ℕ). suc m) u.1.0, (t.1, u.1.1)))
 
 list_again : (S X : Type 0) (Has : S → X → Type 0) (spell : X → List ℕ) (read : S → Reader X) (next : S → X → S) → ((s : S) → IsCodec X (Has s) spell (read s))
     → (n : ℕ) (s : S) (xs : List X) (rest : List ℕ) → length xs ≡ n → AllHave S X Has next s xs → list_at read next n s (spell_all X spell xs ++ rest) ≡ Ok (xs, rest)
@@ -269,8 +275,11 @@ list_again S X Has spell read next codec zero s [] rest len all = refl
 list_again S X Has spell read next codec zero s (x ∷ xs) rest len all = absurd (omega arith)
 list_again S X Has spell read next codec (suc n) s [] rest len all = absurd (omega arith)
 list_again S X Has spell read next codec (suc n) s (x ∷ xs) rest len all =
-    rw (append_assoc (spell x) (spell_all X spell xs) rest, (codec s).again x (spell_all X spell xs ++ rest) all.0,
-        list_again S X Has spell read next codec n (next s x) xs rest (omega arith) all.1) refl
+    rw (
+      append_assoc (spell x) (spell_all X spell xs) rest,
+      (codec s).again x (spell_all X spell xs ++ rest) all.0,
+      list_again S X Has spell read next codec n (next s x) xs rest (omega arith) all.1,
+    ) refl
 
 pub list_codec : (S X : Type 0) (Has : S → X → Type 0) (spell : X → List ℕ) (read : S → Reader X) (next : S → X → S) → ((s : S) → IsCodec X (Has s) spell (read s))
     → (n : ℕ) (s : S) → IsCodec (List X) (HasMany S X Has next n s) (spell_all X spell) (list_at read next n s)

@@ -37,17 +37,17 @@ fewer zero pairs room bytes p e = absurd cc
 fewer (suc depth) pairs room bytes p e =
     let a = passed (kind_at 0 2 bytes) (behind_tag (length bytes) depth pairs room) p e in
     either pairs (eqb a.value.0 0) (made (int_part pairs room) signed_at a.value.1) _
-        (remade_fewer ℤ pairs (int_part pairs room) (signed_at a.value.1) (λ n. omega arith))
-        (either pairs (eqb a.value.0 1) (made (text_part pairs room) (text_at room) a.value.1) _
-            (remade_fewer (List ℕ) pairs (text_part pairs room) (text_at room a.value.1) (λ t. omega arith))
-            (either pairs (eqb pairs 0) (Err (length bytes, why.Range)) (pair_behind depth pairs room a.value.1) (λ q h. absurd cc)
-                (λ q h.
-                    let b = passed (part_at depth (pairs - 1) room a.value.1) (λ x. second_part depth x.0 x.1) q h in
-                    let c = passed (part_at depth b.value.0.pairs b.value.0.room b.value.1) (remade (pair_part b.value.0.value)) q b.then in
-                    let is : (pair_part b.value.0.value c.value.0, c.value.1) ≡ q = cc in
-                    subst (λ (r : Part × List ℕ). r.0.pairs ≤ pairs) is
-                        (omega (arith, fewer depth (pairs - 1) room a.value.1 b.value b.first, fewer depth b.value.0.pairs b.value.0.room b.value.1 c.value c.first)))))
-        p a.then
+    (remade_fewer ℤ pairs (int_part pairs room) (signed_at a.value.1) (λ n. omega arith))
+    (either pairs (eqb a.value.0 1) (made (text_part pairs room) (text_at room) a.value.1) _
+    (remade_fewer (List ℕ) pairs (text_part pairs room) (text_at room a.value.1) (λ t. omega arith))
+    (either pairs (eqb pairs 0) (Err (length bytes, why.Range)) (pair_behind depth pairs room a.value.1) (λ q h. absurd cc)
+    (λ q h.
+    let b = passed (part_at depth (pairs - 1) room a.value.1) (λ x. second_part depth x.0 x.1) q h in
+    let c = passed (part_at depth b.value.0.pairs b.value.0.room b.value.1) (remade (pair_part b.value.0.value)) q b.then in
+    let is : (pair_part b.value.0.value c.value.0, c.value.1) ≡ q = cc in
+    subst (λ (r : Part × List ℕ). r.0.pairs ≤ pairs) is
+    (omega (arith, fewer depth (pairs - 1) room a.value.1 b.value b.first, fewer depth b.value.0.pairs b.value.0.room b.value.1 c.value c.first)))))
+    p a.then
 
 -- steps that agree where they are taken
 agree : {A B E : Type 0} (r : Result A E) (f g : A → Result B E) → ((x : A) → r ≡ Ok x → f x ≡ g x) → (r >>= f) ≡ (r >>= g)
@@ -64,10 +64,10 @@ enough zero e pairs room bytes h k = absurd (omega (arith, h))
 enough (suc d) zero pairs room bytes h k = absurd (omega (arith, k))
 enough (suc d) (suc e) pairs room bytes h k =
     agree (kind_at 0 2 bytes) (behind_tag (length bytes) d pairs room) (behind_tag (length bytes) e pairs room)
-        (λ tag is. choice (eqb tag.0 0) _ _ _ (λ not-int. choice (eqb tag.0 1) _ _ _ (λ not-text. choice (eqb pairs 0) _ _ _ (λ some.
-            let more = eqb-false pairs 0 some in
-            ap (λ (r : Reading Part). r >>= (λ x. second_part d x.0 x.1)) (enough d e (pairs - 1) room tag.1 (omega (arith, h, more)) (omega (arith, k, more)))
-            ∙ agree (part_at e (pairs - 1) room tag.1) (λ x. second_part d x.0 x.1) (λ x. second_part e x.0 x.1)
-                (λ x read.
-                    let few = fewer e (pairs - 1) room tag.1 x read in
-                    ap (λ (r : Reading Part). r >>= remade (pair_part x.0.value)) (enough d e x.0.pairs x.0.room x.1 (omega (arith, h, more, few)) (omega (arith, k, more, few))))))))
+    (λ tag is. choice (eqb tag.0 0) _ _ _ (λ not-int. choice (eqb tag.0 1) _ _ _ (λ not-text. choice (eqb pairs 0) _ _ _ (λ some.
+    let more = eqb-false pairs 0 some in
+    ap (λ (r : Reading Part). r >>= (λ x. second_part d x.0 x.1)) (enough d e (pairs - 1) room tag.1 (omega (arith, h, more)) (omega (arith, k, more)))
+    ∙ agree (part_at e (pairs - 1) room tag.1) (λ x. second_part d x.0 x.1) (λ x. second_part e x.0 x.1)
+    (λ x read.
+    let few = fewer e (pairs - 1) room tag.1 x read in
+    ap (λ (r : Reading Part). r >>= remade (pair_part x.0.value)) (enough d e x.0.pairs x.0.room x.1 (omega (arith, h, more, few)) (omega (arith, k, more, few))))))))

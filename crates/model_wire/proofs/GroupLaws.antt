@@ -81,7 +81,7 @@ groups_rows : (nodes : ℕ) (before : Option Val) (q : Option Row) (gs : List Gr
 groups_rows nodes before q [] allows h = tt
 groups_rows nodes before q (g ∷ gs) allows h =
     first_rows nodes before q g (rows_of gs) allows h.0 h.1 h.2 h.3
-        (λ s. groups_rows nodes (Some g.value) (Some (row_of g.value s)) gs (λ v t above. rw (less (val_cmp g.value v) above) refl) h.4)
+    (λ s. groups_rows nodes (Some g.value) (Some (row_of g.value s)) gs (λ v t above. rw (less (val_cmp g.value v) above) refl) h.4)
 
 -- grouping the rows of one value that stand before those of greater values
 marks_grouped : (v : Val) (t : Mark) (marks : List Mark) (rest : List Row) (gs : List Group) → groups_of rest ≡ gs → with_row (row_of v t) gs ≡ record { value = v; tokens = t ∷ [] } ∷ gs
@@ -192,9 +192,10 @@ groups_have : (nodes : ℕ) (before : Before) (gs : List Group) → Rise nodes b
 groups_have nodes before [] h few = tt
 groups_have nodes before (g ∷ gs) h few =
     let long = length_group g gs in
-    let room : length g.tokens ≤ 65536 - before.1 = omega (arith, few, long) in
-    (((h.1, h.0), ((omega (arith, room), in_range 1 (65536 - before.1) (length g.tokens) h.2 room), (refl, h.3))),
-     groups_have nodes (after_group before g) gs h.4 (omega (arith, few, long)))
+    let room : length g.tokens ≤ 65536 - before.1 = omega (arith, few, long) in (
+      ((h.1, h.0), ((omega (arith, room), in_range 1 (65536 - before.1) (length g.tokens) h.2 room), (refl, h.3))),
+      groups_have nodes (after_group before g) gs h.4 (omega (arith, few, long)),
+    )
 
 -- ---- version 2
 
@@ -205,13 +206,13 @@ group_codec nodes n before =
     (spell_both Val (List Mark) spelled_value (spell_counted ℕ (List Mark) (to_be_bytes w32) length (spell_all Mark spelled_mark))) spelled_group group_made (λ g. (g.value, g.tokens))
     (both_at (value_after_at before.0) (λ _. counted (ranged_at w32 1 (65536 - before.1)) (tokens_at nodes)))
     (both_codec Val (List Mark) (HasTested Val IsSourceValue (is_above val_cmp before.0)) (λ _. HasMarks nodes (65536 - before.1)) spelled_value (spell_counted ℕ (List Mark) (to_be_bytes w32) length (spell_all Mark spelled_mark))
-        (value_after_at before.0) (λ _. counted (ranged_at w32 1 (65536 - before.1)) (tokens_at nodes))
-        (tested_codec Val IsSourceValue spelled_value value_at (is_above val_cmp before.0) why.Order value_codec)
-        (λ _ _. counted_codec ℕ (List Mark) (HasRange 4294967296 1 (65536 - before.1)) (λ m. HasMany (Option Mark) Mark (λ s. HasTested Mark (IsToken nodes) (is_above mark_cmp s)) latest m None) (to_be_bytes w32) (spell_all Mark spelled_mark) length
-            (ranged_at w32 1 (65536 - before.1)) (tokens_at nodes) (ranged_codec w32 4294967296 wide32 1 (65536 - before.1))
-            (λ m _. list_codec (Option Mark) Mark (λ s. HasTested Mark (IsToken nodes) (is_above mark_cmp s)) spelled_mark (token_after_at nodes) latest
-                (λ s. tested_codec Mark (IsToken nodes) spelled_mark (token_at nodes) (is_above mark_cmp s) why.Order (token_codec nodes n)) m None)
-            (λ m marks _ h. h.0)))
+    (value_after_at before.0) (λ _. counted (ranged_at w32 1 (65536 - before.1)) (tokens_at nodes))
+    (tested_codec Val IsSourceValue spelled_value value_at (is_above val_cmp before.0) why.Order value_codec)
+    (λ _ _. counted_codec ℕ (List Mark) (HasRange 4294967296 1 (65536 - before.1)) (λ m. HasMany (Option Mark) Mark (λ s. HasTested Mark (IsToken nodes) (is_above mark_cmp s)) latest m None) (to_be_bytes w32) (spell_all Mark spelled_mark) length
+    (ranged_at w32 1 (65536 - before.1)) (tokens_at nodes) (ranged_codec w32 4294967296 wide32 1 (65536 - before.1))
+    (λ m _. list_codec (Option Mark) Mark (λ s. HasTested Mark (IsToken nodes) (is_above mark_cmp s)) spelled_mark (token_after_at nodes) latest
+    (λ s. tested_codec Mark (IsToken nodes) spelled_mark (token_at nodes) (is_above mark_cmp s) why.Order (token_codec nodes n)) m None)
+    (λ m marks _ h. h.0)))
     (record { has = λ p h. h; spelled = λ p h. sym (append_assoc (spelled_value p.0) (to_be_bytes w32 (length p.1)) (spell_all Mark spelled_mark p.1)); has_parts = λ g h. h; remakes = λ g h. refl })
 
 abbrev GroupsHad : ℕ → List Group → Type 0

@@ -35,7 +35,7 @@ unfolding counts_at
 counts_codec =
     has_codec (List ℕ) CountsHad AreCounts spelled_all_counts counts_at
     (counted_codec ℕ (List ℕ) (HasRange 256 1 8) (HasNumbers 100000) (to_be_bytes w8) spelled_counts length nodes_at (numbers_at update_limit) (ranged_codec w8 256 wide8 1 8)
-        (λ n _. numbers_codec 100000 n (omega arith)) (λ n counts _ h. h.0))
+    (λ n _. numbers_codec 100000 n (omega arith)) (λ n counts _ h. h.0))
     (λ counts h. let range = within_range 1 8 (length counts) h.0.1 in (record { some = range.0; few = range.1 }, h.1.1))
     (λ counts h. ((omega (arith, h.0.few), in_range 1 8 (length counts) h.0.some h.0.few), (refl, h.1)))
 
@@ -66,9 +66,9 @@ unfolding sources_at
 sources_codec version nodes n =
     has_codec (List Sent) (SourcesHad nodes) (AreSources nodes) (spelled_sources version) (sources_at version nodes)
     (counted_codec ℕ (List Sent) (HasRange 256 0 64) (λ m. HasMany (Unit {0}) Sent (SentHas nodes) nothing_of_sources m tt) (to_be_bytes w8) (spell_all Sent (spelled_source_in version)) length
-        (ranged_at w8 0 source_limit) (λ m. list_at (any_source_at version nodes) nothing_of_sources m tt) (ranged_codec w8 256 wide8 0 64)
-        (λ m _. list_codec (Unit {0}) Sent (SentHas nodes) (spelled_source_in version) (any_source_at version nodes) nothing_of_sources (λ _. source_codec version nodes n) m tt)
-        (λ m xs _ h. h.0))
+    (ranged_at w8 0 source_limit) (λ m. list_at (any_source_at version nodes) nothing_of_sources m tt) (ranged_codec w8 256 wide8 0 64)
+    (λ m _. list_codec (Unit {0}) Sent (SentHas nodes) (spelled_source_in version) (any_source_at version nodes) nothing_of_sources (λ _. source_codec version nodes n) m tt)
+    (λ m xs _ h. h.0))
     (λ xs h. ((within_range 0 64 (length xs) h.0.1).1, all_sent nodes xs h.1.1))
     (λ xs h. ((omega (arith, h.0), in_range 0 64 (length xs) (omega arith) h.0), (refl, sent_all nodes xs h.1)))
 
@@ -86,7 +86,7 @@ body_codec version =
     made_codec (List ℕ × List Sent) Message BodyHas IsMessage (spell_both (List ℕ) (List Sent) spelled_all_counts (spelled_sources version)) (spelled_body version) message_made (λ m. (m.counts, m.sources))
     (both_at counts_at (λ counts. sources_at version (length counts)))
     (both_codec (List ℕ) (List Sent) AreCounts (λ counts. AreSources (length counts)) spelled_all_counts (spelled_sources version) counts_at (λ counts. sources_at version (length counts)) counts_codec
-        (λ counts h. sources_codec version (length counts) h.0))
+    (λ counts h. sources_codec version (length counts) h.0))
     (record {
       has = λ p h. record { nodes = h.0.0; counts = h.0.1; few = h.1.0; sources = h.1.1 };
       spelled = λ p h. refl;
@@ -127,8 +127,8 @@ version_codec : IsCodec ℕ IsVersion spelled_version version_at
 unfolding version_at
 version_codec =
     behind_magic 76 IsVersion _ _ (omega arith) (behind_magic 65 IsVersion _ _ (omega arith) (behind_magic 83 IsVersion _ _ (omega arith) (behind_magic 80 IsVersion (to_be_bytes w8) (tested (number_at w8) is_version why.Magic) (omega arith)
-        (has_codec ℕ (HasTested ℕ (IsBelow 256) is_version) IsVersion (to_be_bytes w8) (tested (number_at w8) is_version why.Magic)
-            (tested_codec ℕ (IsBelow 256) (to_be_bytes w8) (number_at w8) is_version why.Magic (number_codec w8 256 wide8)) (λ v h. h.1) (λ v h. (version_small v h, h))))))
+    (has_codec ℕ (HasTested ℕ (IsBelow 256) is_version) IsVersion (to_be_bytes w8) (tested (number_at w8) is_version why.Magic)
+    (tested_codec ℕ (IsBelow 256) (to_be_bytes w8) (number_at w8) is_version why.Magic (number_codec w8 256 wide8)) (λ v h. h.1) (λ v h. (version_small v h, h))))))
 
 -- ---- messages
 
@@ -150,7 +150,7 @@ letter_took bytes l fits e =
     let t = (body_codec a.value.0).took a.value.1 b.value s.0.behind b.first in
     let is : ((a.value.0, b.value.0), b.value.1) ≡ l = cc in
     subst (λ (q : Letter × List ℕ). Takes bytes (spelled_letter q.0) q.1 × IsLetter q.0) is
-        (takes_both bytes (spelled_version a.value.0) a.value.1 (spelled_body a.value.0 b.value.0) b.value.1 s.0 t.0, (s.1, t.1))
+    (takes_both bytes (spelled_version a.value.0) a.value.1 (spelled_body a.value.0 b.value.0) b.value.1 s.0 t.0, (s.1, t.1))
 
 letter_again : (l : Letter) (rest : List ℕ) → IsLetter l → message_at (spelled_letter l ++ rest) ≡ Ok (l, rest)
 unfolding message_at
@@ -239,7 +239,7 @@ no_prefix v w m n more hv hw hm hn same =
     let one : message_at (spelled_letter (v, m) ++ more) ≡ Ok ((v, m), more) = letter_codec.again (v, m) more (hv, hm) in
     let other : message_at (spelled_letter (w, n) ++ []) ≡ Ok ((w, n), []) = letter_codec.again (w, n) [] (hw, hn) in
     let text : spelled_letter (v, m) ++ more ≡ spelled_letter (w, n) ++ [] =
-        ap (λ (t : List ℕ). t ++ more) (sym (letter_spelled v m hv)) ∙ same ∙ letter_spelled w n hw ∙ sym (append-nil (spelled_letter (w, n))) in
+    ap (λ (t : List ℕ). t ++ more) (sym (letter_spelled v m hv)) ∙ same ∙ letter_spelled w n hw ∙ sym (append-nil (spelled_letter (w, n))) in
     rest_is ((v, m), more) ((w, n), []) (sym one ∙ ap message_at text ∙ other)
   where
     rest_is : (x y : Letter × List ℕ) → read_ok x ≡ read_ok y → x.1 ≡ y.1

@@ -26,7 +26,7 @@ parts_codec nodes =
     both_codec ℕ (ℕ × ℕ) (HasRange 256 0 (nodes - 1)) (λ _. HasBoth ℕ ℕ (HasRange 18446744073709551616 1 100000) (λ _. HasRange 256 0 1)) (to_be_bytes w8) (spell_both ℕ ℕ (to_be_bytes w64) (to_be_bytes w8))
     (ranged_at w8 0 (nodes - 1)) (λ _. both_at (ranged_at w64 1 100000) (λ _. kind_at 0 1)) (ranged_codec w8 256 wide8 0 (nodes - 1))
     (λ _ _. both_codec ℕ ℕ (HasRange 18446744073709551616 1 100000) (λ _. HasRange 256 0 1) (to_be_bytes w64) (to_be_bytes w8) (ranged_at w64 1 100000) (λ _. kind_at 0 1)
-        (ranged_codec w64 18446744073709551616 wide64 1 100000) (λ _ _. kind_codec 0 1))
+    (ranged_codec w64 18446744073709551616 wide64 1 100000) (λ _ _. kind_codec 0 1))
 
 -- a token with whether it is dead
 abbrev pub spelled_mark : Tok × Bool → List ℕ
@@ -69,9 +69,10 @@ token_spelled nodes p h =
     rw (dead, append_assoc (number 1 p.0) (number 8 p.1.0) (to_be_bytes w8 p.1.1)) refl
 
 token_has_parts : (nodes : ℕ) → IsNodes nodes → (t : Tok × Bool) → IsToken nodes t → HasParts nodes (token_parts t)
-token_has_parts nodes n (single q k, dead) h =
-    ((omega (arith, h.0, n.few), in_range 0 (nodes - 1) q (omega arith) (omega (arith, h.0))),
-     ((omega (arith, h.2), in_range 1 100000 k h.1 h.2), (omega (arith, flag_few dead), in_range 0 1 (flag dead) (omega arith) (flag_few dead))))
+token_has_parts nodes n (single q k, dead) h = (
+  (omega (arith, h.0, n.few), in_range 0 (nodes - 1) q (omega arith) (omega (arith, h.0))),
+  ((omega (arith, h.2), in_range 1 100000 k h.1 h.2), (omega (arith, flag_few dead), in_range 0 1 (flag dead) (omega arith) (flag_few dead))),
+)
 token_has_parts nodes n (both t s, dead) h = absurd h
 
 token_remakes : (nodes : ℕ) (t : Tok × Bool) → IsToken nodes t → token_made (token_parts t) ≡ t
@@ -94,4 +95,3 @@ row_codec nodes n =
     (both_at value_at (λ _. token_at nodes))
     (both_codec Val (Tok × Bool) IsSourceValue (λ _. IsToken nodes) spelled_value spelled_mark value_at (λ _. token_at nodes) value_codec (λ _ _. token_codec nodes n))
     (record { has = λ p h. h; spelled = λ p h. refl; has_parts = λ r h. h; remakes = λ r h. refl })
-

@@ -43,10 +43,10 @@ unfolding single_rows_at
 single_rows_codec nodes n =
     has_codec (List Row) (RowsHad nodes) (AreRows nodes) spelled_single_rows (single_rows_at nodes)
     (counted_codec ℕ (List Row) (HasRange 4294967296 0 65536) (λ m. HasMany (Option Row) Row (λ s. HasTested Row (IsRow nodes) (is_above row_cmp s)) latest m None) (to_be_bytes w32) (spell_all Row spelled_row) length
-        (ranged_at w32 0 65536) (λ m. list_at (row_after_at nodes) latest m None) (ranged_codec w32 4294967296 wide32 0 65536)
-        (λ m _. list_codec (Option Row) Row (λ s. HasTested Row (IsRow nodes) (is_above row_cmp s)) spelled_row (row_after_at nodes) latest
-            (λ s. tested_codec Row (IsRow nodes) spelled_row (row_at nodes) (is_above row_cmp s) why.Order (row_codec nodes n)) m None)
-        (λ m rows _ h. h.0))
+    (ranged_at w32 0 65536) (λ m. list_at (row_after_at nodes) latest m None) (ranged_codec w32 4294967296 wide32 0 65536)
+    (λ m _. list_codec (Option Row) Row (λ s. HasTested Row (IsRow nodes) (is_above row_cmp s)) spelled_row (row_after_at nodes) latest
+    (λ s. tested_codec Row (IsRow nodes) spelled_row (row_at nodes) (is_above row_cmp s) why.Order (row_codec nodes n)) m None)
+    (λ m rows _ h. h.0))
     (λ rows h. rows_known nodes None rows (within_range 0 65536 (length rows) h.0.1).1 h.1.1)
     (λ rows h. ((omega (arith, h.few), in_range 0 65536 (length rows) (omega arith) h.few), (refl, rows_rise nodes rows h)))
 
@@ -63,10 +63,10 @@ unfolding elements_at
 elements_codec =
     has_codec (List Val) ElementsHad AreElements spelled_values elements_at
     (counted_codec ℕ (List Val) (HasRange 4294967296 0 65536) (λ m. HasMany (Option Val) Val (λ s. HasTested Val IsSourceValue (is_above val_cmp s)) latest m None) (to_be_bytes w32) (spell_all Val spelled_value) length
-        (ranged_at w32 0 65536) (λ m. list_at value_after_at latest m None) (ranged_codec w32 4294967296 wide32 0 65536)
-        (λ m _. list_codec (Option Val) Val (λ s. HasTested Val IsSourceValue (is_above val_cmp s)) spelled_value value_after_at latest
-            (λ s. tested_codec Val IsSourceValue spelled_value value_at (is_above val_cmp s) why.Order value_codec) m None)
-        (λ m values _ h. h.0))
+    (ranged_at w32 0 65536) (λ m. list_at value_after_at latest m None) (ranged_codec w32 4294967296 wide32 0 65536)
+    (λ m _. list_codec (Option Val) Val (λ s. HasTested Val IsSourceValue (is_above val_cmp s)) spelled_value value_after_at latest
+    (λ s. tested_codec Val IsSourceValue spelled_value value_at (is_above val_cmp s) why.Order value_codec) m None)
+    (λ m values _ h. h.0))
     (λ values h. record {
       ascending = rise_sorted Val Val (Unit {0}) entry val_cmp val_total IsSourceValue None values h.1.1;
       few = (within_range 0 65536 (length values) h.0.1).1;

@@ -86,6 +86,7 @@ some_codec =
     parts : (o : Option ℤ) → HasTop 1 o → FitsSigned words.w64 (from_top o)
     parts None h = absurd (omega (arith, h.0))
     parts (Some n) h = h.1
+
     back : (o : Option ℤ) → HasTop 1 o → some_number (from_top o) ≡ o
     back None h = absurd (omega (arith, h.0))
     back (Some n) h = refl
@@ -117,8 +118,8 @@ unfolding top_at
 top_codec =
     has_codec (Option ℤ) (HasCounted ℕ (Option ℤ) (HasRange 256 0 1) present HasTop) FitsTop spelled_top top_at
     (spelled_codec (Option ℤ) (HasCounted ℕ (Option ℤ) (HasRange 256 0 1) present HasTop) (spell_counted ℕ (Option ℤ) (to_be_bytes w8) present number_of) spelled_top (counted (kind_at 0 1) top_behind)
-        (counted_codec ℕ (Option ℤ) (HasRange 256 0 1) HasTop (to_be_bytes w8) number_of present (kind_at 0 1) top_behind (kind_codec 0 1) behind_codec (λ n o _ h. h.0))
-        (λ o h. top_told o))
+    (counted_codec ℕ (Option ℤ) (HasRange 256 0 1) HasTop (to_be_bytes w8) number_of present (kind_at 0 1) top_behind (kind_codec 0 1) behind_codec (λ n o _ h. h.0))
+    (λ o h. top_told o))
     (λ o h. h.1.1) (λ o h. (present_ranged o, (refl, h)))
 
 -- ---- what a source holds
@@ -272,8 +273,8 @@ unfolding held_at
 held_codec version nodes n =
     has_codec Held (HeldHas nodes) (IsHeld nodes) (spelled_held version) (held_at version nodes)
     (spelled_codec Held (HeldHas nodes) (spell_counted ℕ Held (to_be_bytes w8) number_of_held (behind_kind version)) (spelled_held version) (counted (kind_at 1 4) (held_behind version nodes))
-        (counted_codec ℕ Held (HasRange 256 1 4) (HasKind nodes) (to_be_bytes w8) (behind_kind version) number_of_held (kind_at 1 4) (held_behind version nodes) (kind_codec 1 4) (behind_kind_codec version nodes n) (λ k h _ has. has.0))
-        (λ h has. held_spelled version nodes h has.1.1))
+    (counted_codec ℕ Held (HasRange 256 1 4) (HasKind nodes) (to_be_bytes w8) (behind_kind version) number_of_held (kind_at 1 4) (held_behind version nodes) (kind_codec 1 4) (behind_kind_codec version nodes n) (λ k h _ has. has.0))
+    (λ h has. held_spelled version nodes h has.1.1))
     (λ h has. has.1.1) (λ h has. (kind_ranged nodes h has, (refl, has)))
 
 -- ---- names and sources
@@ -299,7 +300,7 @@ unfolding name_at
 name_codec =
     has_codec (List ℕ) NameHas IsName spelled_name name_at
     (counted_codec ℕ (List ℕ) (HasRange 256 1 32) (λ n. HasTested (List ℕ) (IsLong n) is_name) (to_be_bytes w8) itself length (ranged_at w8 1 32) (λ n. tested (bytes_at n) is_name why.Text)
-        (ranged_codec w8 256 wide8 1 32) (λ n _. tested_codec (List ℕ) (IsLong n) itself (bytes_at n) is_name why.Text (bytes_codec n)) (λ n t _ h. h.0))
+    (ranged_codec w8 256 wide8 1 32) (λ n _. tested_codec (List ℕ) (IsLong n) itself (bytes_at n) is_name why.Text (bytes_codec n)) (λ n t _ h. h.0))
     (λ t h. h.1.1) (λ t h. let long = name_long t h in ((omega (arith, long.1), in_range 1 32 (length t) long.0 long.1), (refl, h)))
 
 pub source_codec : (version nodes : ℕ) → IsNodes nodes → IsCodec Sent (IsSent nodes) (spelled_source_in version) (source_at version nodes)

@@ -90,7 +90,7 @@ int_took pairs room bytes tag p t is-tag h =
     let is : (int_part pairs room b.value.0, b.value.1) ≡ p = cc in
     let front : Takes bytes (to_be_bytes w8 0) tag.1 = subst (λ (n : ℕ). Takes bytes (to_be_bytes w8 n) tag.1) is-tag t in
     subst (PartRead pairs room bytes) is
-        (takes_both bytes (to_be_bytes w8 0) tag.1 (signed_number b.value.0) b.value.1 front s.0, record { pairs_left = omega arith; room_left = omega arith; parts = s.1 })
+    (takes_both bytes (to_be_bytes w8 0) tag.1 (signed_number b.value.0) b.value.1 front s.0, record { pairs_left = omega arith; room_left = omega arith; parts = s.1 })
 
 text_took : (pairs room : ℕ) (bytes : List ℕ) (tag : ℕ × List ℕ) (p : Part × List ℕ) → Takes bytes (to_be_bytes w8 tag.0) tag.1 → tag.0 ≡ 1 → made (text_part pairs room) (text_at room) tag.1 ≡ Ok p → PartRead pairs room bytes p
 text_took pairs room bytes tag p t is-tag h =
@@ -100,7 +100,7 @@ text_took pairs room bytes tag p t is-tag h =
     let front : Takes bytes (to_be_bytes w8 1) tag.1 = subst (λ (n : ℕ). Takes bytes (to_be_bytes w8 n) tag.1) is-tag t in
     let small = (within_range 0 room (length b.value.0) s.1.0.1).1 in
     subst (PartRead pairs room bytes) is
-        (takes_both bytes (to_be_bytes w8 1) tag.1 (spelled_text b.value.0) b.value.1 front s.0, record { pairs_left = omega arith; room_left = omega (arith, small); parts = s.1.1.1 })
+    (takes_both bytes (to_be_bytes w8 1) tag.1 (spelled_text b.value.0) b.value.1 front s.0, record { pairs_left = omega arith; room_left = omega (arith, small); parts = s.1.1.1 })
 
 -- what a reader of one depth took
 abbrev Took : ℕ → Type 0
@@ -115,9 +115,10 @@ pair_took depth pairs room bytes tag p shallower t is-tag some h =
     let is : (pair_part b.value.0.value c.value.0, c.value.1) ≡ p = cc in
     let front : Takes bytes (to_be_bytes w8 2) tag.1 = subst (λ (n : ℕ). Takes bytes (to_be_bytes w8 n) tag.1) is-tag t in
     let parts = takes_both tag.1 (spelled_value b.value.0.value) b.value.1 (spelled_value c.value.0.value) c.value.1 u.0 v.0 in
-    subst (PartRead pairs room bytes) is
-        (takes_both bytes (to_be_bytes w8 2) tag.1 (spelled_value b.value.0.value ++ spelled_value c.value.0.value) c.value.1 front parts,
-         record { pairs_left = omega (arith, some, u.1.pairs_left, v.1.pairs_left); room_left = omega (arith, u.1.room_left, v.1.room_left); parts = (u.1.parts, v.1.parts) })
+    subst (PartRead pairs room bytes) is (
+      takes_both bytes (to_be_bytes w8 2) tag.1 (spelled_value b.value.0.value ++ spelled_value c.value.0.value) c.value.1 front parts,
+      record { pairs_left = omega (arith, some, u.1.pairs_left, v.1.pairs_left); room_left = omega (arith, u.1.room_left, v.1.room_left); parts = (u.1.parts, v.1.parts) },
+    )
 
 part_took : (depth : ℕ) → Took depth
 unfolding part_at
@@ -129,12 +130,12 @@ part_took (suc depth) pairs room bytes p fits e =
     elim (chosen (eqb a.value.0 0) _ _ (Ok p) a.then) [
       | first b h ↦ int_took pairs room bytes a.value p t.0 (eqb-true a.value.0 0 b) h
       | second b h ↦ elim (chosen (eqb a.value.0 1) _ _ (Ok p) h) [
-          | first c k ↦ text_took pairs room bytes a.value p t.0 (eqb-true a.value.0 1 c) k
-          | second c k ↦ elim (chosen (eqb pairs 0) _ _ (Ok p) k) [
-              | first d l ↦ absurd cc
-              | second d l ↦ pair_took depth pairs room bytes a.value p (part_took depth) t.0 (omega (arith, eqb-false a.value.0 0 b, eqb-false a.value.0 1 c, most)) (omega (arith, eqb-false pairs 0 d)) l
-            ]
+        | first c k ↦ text_took pairs room bytes a.value p t.0 (eqb-true a.value.0 1 c) k
+        | second c k ↦ elim (chosen (eqb pairs 0) _ _ (Ok p) k) [
+          | first d l ↦ absurd cc
+          | second d l ↦ pair_took depth pairs room bytes a.value p (part_took depth) t.0 (omega (arith, eqb-false a.value.0 0 b, eqb-false a.value.0 1 c, most)) (omega (arith, eqb-false pairs 0 d)) l
         ]
+      ]
     ]
 
 leaves_some : (v : Val) → 1 ≤ leaves v
@@ -170,9 +171,13 @@ pair_again a b front back (suc depth) pairs room p q rest deep small has-pairs h
     let some = leaves_some a in
     let more = leaves_some b in
     let not-none : eqb pairs 0 ≡ false = ne_eqb pairs 0 (λ e. absurd (omega (arith, some, more))) in
-    rw (append_assoc (spelled_value a) (spelled_value b) rest, (kind_codec 0 2).again 2 (spelled_value a ++ (spelled_value b ++ rest)) (omega arith, refl), not-none,
-        front depth (pairs - 1) room (pairs - leaves a) (room - text_bytes a) (spelled_value b ++ rest) (omega (arith, some, more)) small (omega (arith, some, more)) (omega arith) fits.0,
-        back depth (pairs - leaves a) (room - text_bytes a) p q rest (omega (arith, some, more)) (omega arith) (omega (arith, some, more)) (omega arith) fits.1) refl
+    rw (
+      append_assoc (spelled_value a) (spelled_value b) rest,
+      (kind_codec 0 2).again 2 (spelled_value a ++ (spelled_value b ++ rest)) (omega arith, refl),
+      not-none,
+      front depth (pairs - 1) room (pairs - leaves a) (room - text_bytes a) (spelled_value b ++ rest) (omega (arith, some, more)) small (omega (arith, some, more)) (omega arith) fits.0,
+      back depth (pairs - leaves a) (room - text_bytes a) p q rest (omega (arith, some, more)) (omega arith) (omega (arith, some, more)) (omega arith) fits.1,
+    ) refl
 
 part_again : (v : Val) → Again v
 part_again (int n) = int_again n

@@ -57,15 +57,15 @@ counted_inside X Y read next h k bytes =
 both_inside : (X Y : Type 0) (read : Reader X) (next : X → Reader Y) → IsInside read → ((x : X) → IsInside (next x)) → IsInside (both_at read next)
 both_inside X Y read next h k bytes =
     bind_inside X (X × Y) (length bytes) (read bytes) (λ x. next x.0 x.1 >>= paired x.0) (h bytes)
-        (λ x le. bind_inside Y (X × Y) (length bytes) (next x.0 x.1) (paired x.0) (lower Y (length x.1) (length bytes) (next x.0 x.1) le (k x.0 x.1)) (λ y le'. le'))
+    (λ x le. bind_inside Y (X × Y) (length bytes) (next x.0 x.1) (paired x.0) (lower Y (length x.1) (length bytes) (next x.0 x.1) le (k x.0 x.1)) (λ y le'. le'))
 
 list_inside : (S X : Type 0) (read : S → Reader X) (next : S → X → S) → ((s : S) → IsInside (read s)) → (n : ℕ) (s : S) → IsInside (list_at read next n s)
 unfolding list_at
 list_inside S X read next h zero s bytes = omega arith
 list_inside S X read next h (suc n) s bytes =
     bind_inside X (List X) (length bytes) (read s bytes) (λ x. list_at read next n (next s x.0) x.1 >>= onto x.0) (h s bytes)
-        (λ x le. bind_inside (List X) (List X) (length bytes) (list_at read next n (next s x.0) x.1) (onto x.0)
-            (lower (List X) (length x.1) (length bytes) (list_at read next n (next s x.0) x.1) le (list_inside S X read next h n (next s x.0) x.1)) (λ xs le'. le'))
+    (λ x le. bind_inside (List X) (List X) (length bytes) (list_at read next n (next s x.0) x.1) (onto x.0)
+    (lower (List X) (length x.1) (length bytes) (list_at read next n (next s x.0) x.1) le (list_inside S X read next h n (next s x.0) x.1)) (λ xs le'. le'))
 
 -- ---- the fields
 
@@ -100,14 +100,14 @@ unfolding part_at
 part_inside zero pairs room bytes = omega arith
 part_inside (suc depth) pairs room bytes =
     bind_inside ℕ Part (length bytes) (kind_at 0 2 bytes) (behind_tag (length bytes) depth pairs room) (kind_inside 0 2 bytes)
-        (λ tag le. choice_inside Part (length bytes) (eqb tag.0 0) (made (int_part pairs room) signed_at tag.1) (cond (eqb tag.0 1) (made (text_part pairs room) (text_at room) tag.1) (cond (eqb pairs 0) (Err (length bytes, why.Range)) (pair_behind depth pairs room tag.1)))
-            (lower Part (length tag.1) (length bytes) (made (int_part pairs room) signed_at tag.1) le (made_inside ℤ Part (int_part pairs room) signed_at signed_inside tag.1))
-            (choice_inside Part (length bytes) (eqb tag.0 1) (made (text_part pairs room) (text_at room) tag.1) (cond (eqb pairs 0) (Err (length bytes, why.Range)) (pair_behind depth pairs room tag.1))
-                (lower Part (length tag.1) (length bytes) (made (text_part pairs room) (text_at room) tag.1) le (made_inside (List ℕ) Part (text_part pairs room) (text_at room) (text_inside room) tag.1))
-                (choice_inside Part (length bytes) (eqb pairs 0) (Err (length bytes, why.Range)) (pair_behind depth pairs room tag.1) (omega arith)
-                    (lower Part (length tag.1) (length bytes) (pair_behind depth pairs room tag.1) le
-                        (counted_inside Part Part (part_at depth (pairs - 1) room) (λ a. made (pair_part a.value) (part_at depth a.pairs a.room)) (part_inside depth (pairs - 1) room)
-                            (λ a. made_inside Part Part (pair_part a.value) (part_at depth a.pairs a.room) (part_inside depth a.pairs a.room)) tag.1)))))
+    (λ tag le. choice_inside Part (length bytes) (eqb tag.0 0) (made (int_part pairs room) signed_at tag.1) (cond (eqb tag.0 1) (made (text_part pairs room) (text_at room) tag.1) (cond (eqb pairs 0) (Err (length bytes, why.Range)) (pair_behind depth pairs room tag.1)))
+    (lower Part (length tag.1) (length bytes) (made (int_part pairs room) signed_at tag.1) le (made_inside ℤ Part (int_part pairs room) signed_at signed_inside tag.1))
+    (choice_inside Part (length bytes) (eqb tag.0 1) (made (text_part pairs room) (text_at room) tag.1) (cond (eqb pairs 0) (Err (length bytes, why.Range)) (pair_behind depth pairs room tag.1))
+    (lower Part (length tag.1) (length bytes) (made (text_part pairs room) (text_at room) tag.1) le (made_inside (List ℕ) Part (text_part pairs room) (text_at room) (text_inside room) tag.1))
+    (choice_inside Part (length bytes) (eqb pairs 0) (Err (length bytes, why.Range)) (pair_behind depth pairs room tag.1) (omega arith)
+    (lower Part (length tag.1) (length bytes) (pair_behind depth pairs room tag.1) le
+    (counted_inside Part Part (part_at depth (pairs - 1) room) (λ a. made (pair_part a.value) (part_at depth a.pairs a.room)) (part_inside depth (pairs - 1) room)
+    (λ a. made_inside Part Part (pair_part a.value) (part_at depth a.pairs a.room) (part_inside depth a.pairs a.room)) tag.1)))))
 
 value_inside : IsInside value_at
 unfolding value_at
@@ -118,7 +118,7 @@ unfolding token_at
 token_inside nodes =
     made_inside (ℕ × (ℕ × ℕ)) (Tok × Bool) token_made (token_parts_at nodes)
     (both_inside ℕ (ℕ × ℕ) (ranged_at w8 0 (nodes - 1)) (λ _. both_at (ranged_at w64 1 100000) (λ _. kind_at 0 1)) (ranged_inside w8 0 (nodes - 1))
-        (λ _. both_inside ℕ ℕ (ranged_at w64 1 100000) (λ _. kind_at 0 1) (ranged_inside w64 1 100000) (λ _. kind_inside 0 1)))
+    (λ _. both_inside ℕ ℕ (ranged_at w64 1 100000) (λ _. kind_at 0 1) (ranged_inside w64 1 100000) (λ _. kind_inside 0 1)))
 
 row_inside : (nodes : ℕ) → IsInside (row_at nodes)
 unfolding row_at
@@ -148,7 +148,7 @@ unfolding group_at
 group_inside nodes before =
     made_inside (Val × List (Tok × Bool)) Group group_made (both_at (value_after_at before.0) (λ _. counted (ranged_at w32 1 (row_limit - before.1)) (tokens_at nodes)))
     (both_inside Val (List (Tok × Bool)) (value_after_at before.0) (λ _. counted (ranged_at w32 1 (row_limit - before.1)) (tokens_at nodes)) (value_after_inside before.0)
-        (λ _. counted_inside ℕ (List (Tok × Bool)) (ranged_at w32 1 (row_limit - before.1)) (tokens_at nodes) (ranged_inside w32 1 (row_limit - before.1)) (tokens_inside nodes)))
+    (λ _. counted_inside ℕ (List (Tok × Bool)) (ranged_at w32 1 (row_limit - before.1)) (tokens_at nodes) (ranged_inside w32 1 (row_limit - before.1)) (tokens_inside nodes)))
 
 grouped_rows_inside : (nodes : ℕ) → IsInside (grouped_rows_at nodes)
 unfolding grouped_rows_at groups_at
@@ -176,15 +176,20 @@ held_inside version nodes = counted_inside ℕ Held (kind_at 1 4) (held_behind v
   where
     set : IsInside (made held_set (rows_at version nodes))
     set = made_inside (List Row) Held held_set (rows_at version nodes) (rows_inside version nodes)
+
     grow : IsInside (made held_elements elements_at)
     grow = made_inside (List Val) Held held_elements elements_at elements_inside
+
     counter : IsInside (made held_counts (numbers_at count_max nodes))
     counter = made_inside (List ℕ) Held held_counts (numbers_at count_max nodes) (numbers_inside count_max nodes)
+
     register : IsInside (made held_top top_at)
     register = made_inside (Option ℤ) Held held_top top_at top_inside
+
     either : (b : Bool) (r s : Reader Held) → IsInside r → IsInside s → IsInside (cond b r s)
     either true r s h k = h
     either false r s h k = k
+
     behind : (k : ℕ) → IsInside (held_behind version nodes k)
     behind k = either (eqb k 1) _ _ set (either (eqb k 2) _ _ grow (either (eqb k 3) _ _ counter register))
 

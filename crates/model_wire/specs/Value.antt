@@ -43,9 +43,9 @@ part_at zero pairs room bytes = Err (length bytes, why.Range)
 part_at (suc depth) pairs room bytes = do
   tag ← kind_at 0 2 bytes
   if tag.0 == 0 then made (int_part pairs room) signed_at tag.1
-    else (if tag.0 == 1 then made (text_part pairs room) (text_at room) tag.1
-    else (if pairs == 0 then Err (length bytes, why.Range)
-    else counted (part_at depth (pairs - 1) room) (λ a. made (pair_part a.value) (part_at depth a.pairs a.room)) tag.1))
+      else (if tag.0 == 1 then made (text_part pairs room) (text_at room) tag.1
+      else (if pairs == 0 then Err (length bytes, why.Range)
+      else counted (part_at depth (pairs - 1) room) (λ a. made (pair_part a.value) (part_at depth a.pairs a.room)) tag.1))
 
 abbrev pub part_value : Part → Val
 part_value p = p.value

@@ -47,11 +47,7 @@ fn last_value(values: &[Value]) -> Option<&Value>
     values.last()
 }
 
-fn elements_of(
-    alloc: Global,
-    count: u32,
-    bytes: &[u8],
-) -> Result<(Vec<Value>, &[u8]), ReadError>
+fn elements_of(alloc: Global, count: u32, bytes: &[u8]) -> Result<(Vec<Value>, &[u8]), ReadError>
     ensures { Gives (λ x. (map val_of x.0.items, x.1.now)) result (list_at value_after_at latest count None bytes.now) }
 {
     let mut values: Vec<Value> = Vec::new(alloc);

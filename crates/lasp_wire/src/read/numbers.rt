@@ -41,7 +41,10 @@ pub fn u32_at(bytes: &[u8]) -> Result<(u32, &[u8]), ReadError>
     ensures { Gives (λ x. (x.0, x.1.now)) result (number_at w32 bytes.now) }
 {
     let (field, rest) = bytes_at(bytes, 4)?;
-    Ok((u32::from_be_bytes([field[0], field[1], field[2], field[3]]), rest))
+    Ok((
+        u32::from_be_bytes([field[0], field[1], field[2], field[3]]),
+        rest,
+    ))
 }
 
 /// A number of 64 bits.

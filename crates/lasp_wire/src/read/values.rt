@@ -47,12 +47,7 @@ pub struct Part {
 
 /// A value in which so many pairs and bytes of text may stand.
 #[tactic(auto, unfolding(model_wire::specs::Value::part_at))]
-fn part_in(
-    alloc: Global,
-    bytes: &[u8],
-    pairs: u8,
-    room: u16,
-) -> Result<(Part, &[u8]), ReadError>
+fn part_in(alloc: Global, bytes: &[u8], pairs: u8, room: u16) -> Result<(Part, &[u8]), ReadError>
     ensures exact { Gives (λ x. (part (val_of x.0.value) x.0.pairs x.0.room, x.1.now)) result (part_at (suc pairs) pairs room bytes.now) }
     ensures fewer { IfOk result (λ x. x.0.pairs ≤ pairs) }
 {

@@ -1,4 +1,4 @@
-use Rattle.std.proofs.Common.{List, length, map, sym, subst}
+use Rattle.std.proofs.Common.{List, length, sym, subst}
 use Rattle.std.specs.List.{AllByRecursion}
 use Rattle.model_messages.specs.Message.{Sent}
 use Rattle.model_wire.specs.Lawful.{IsSent}

@@ -16,7 +16,7 @@ append-requires c =
     let rest = into_iter_items c.next.new.self in
     let steps : into_iter_items at.row-iterator ≡ x ∷ rest = c.in-Some.ensures.steps.0 in
     let all : (at.yielded ++ x ∷ []) ++ rest ≡ c.args.rows.items =
-        append_assoc at.yielded (x ∷ []) rest ∙ ap (λ (l : List Row). at.yielded ++ l) (sym steps) ∙ at.invariant.0 ∙ c.into_iter-row-iterator.ensures.into_iter_gives.0 in
+    append_assoc at.yielded (x ∷ []) rest ∙ ap (λ (l : List Row). at.yielded ++ l) (sym steps) ∙ at.invariant.0 ∙ c.into_iter-row-iterator.ensures.into_iter_gives.0 in
     rw at.invariant.1 (ascending_front (at.yielded ++ x ∷ []) rest (subst IsAscending (sym all) c.requires))
 
 pub returns : goal.returns
