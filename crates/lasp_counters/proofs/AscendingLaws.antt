@@ -1,12 +1,13 @@
 -- Rows that keep ascending values ascend, and so do the first of them.
-use Rattle.std.proofs.Common.{◌≡◌, true, List, [], ◌∷◌, ◌++◌, map, refl, subst, ◌∙◌, append_assoc}
-use Rattle.std.specs.FinMap.Entries.{below_all}
+use Rattle.std.proofs.Common.{◌≡◌, Bool, true, ◌&&◌, IsTrue, List, [], ◌∷◌, ◌++◌, map, refl, sym, ap, subst, ◌∙◌, append_assoc}
+use Rattle.std.specs.Ordering.{is_lt}
+use Rattle.std.specs.FinMap.Entries.{is_sorted, below_all}
 use Rattle.std.proofs.lemmas.Bool.{and_parts, and_from}
 use Rattle.std.proofs.lemmas.List.{map-append}
-use Rattle.model_values.specs.Value.{Val}
+use Rattle.model_values.specs.Value.{Val, val_cmp}
 use Rattle.model_values.specs.Row.{Row, key_cmp}
 use Rattle.model_sets.specs.Rows.{IsAscending}
-use Rattle.model_sets.specs.Values.{AreAscending}
+use Rattle.model_sets.specs.Values.{entries_of, AreAscending}
 use Rattle.lasp_counters.specs.Members.{member}
 use Rattle.lasp_counters.proofs.MemberLaws.{sorted-member}
 

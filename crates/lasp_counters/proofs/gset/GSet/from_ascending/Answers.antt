@@ -1,10 +1,13 @@
 use Rattle.std.proofs.Common.{◌≡◌, ◌++◌, ◌∷◌, [], List, length, map, refl, sym, ap, subst, ◌∙◌, append-nil, arith}
 use Rattle.std.specs.Vec.Iter.{into_iter_items}
 use Rattle.std.proofs.lemmas.List.{map-append}
+use Rattle.model_values.specs.Value.{Val}
+use Rattle.model_values.specs.Row.{Row}
+use Rattle.model_sets.specs.Rows.{IsAscending}
 use Rattle.model_sets.specs.Values.{AreAscending}
 use Rattle.lasp_value.specs.Value.{val_of}
 use Rattle.lasp_value.specs.declared.value.Value.{Value}
-use Rattle.lasp_counters.specs.Members.{values_of, AreMembers}
+use Rattle.lasp_counters.specs.Members.{member, values_of, AreMembers}
 use Rattle.lasp_counters.proofs.MemberLaws.{are_members, values_of-member}
 use Rattle.lasp_counters.proofs.AscendingLaws.{ascending_next}
 use Rattle.lasp_counters.proofs.gset.GSet.from_ascending.Goals as goal
