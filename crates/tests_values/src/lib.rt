@@ -1,0 +1,15 @@
+//! Tests of values, of sources, of files and outputs, and of the lock.
+#![tactic(auto)]
+
+#[cfg(test)]
+mod counters;
+#[cfg(test)]
+mod edge;
+#[cfg(test)]
+mod histlock;
+#[cfg(test)]
+mod json;
+#[cfg(test)]
+mod orset;
+#[cfg(test)]
+mod value;
