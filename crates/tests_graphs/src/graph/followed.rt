@@ -227,10 +227,10 @@ fn a_variable_by_its_changed_rows_is_the_same_as_from_scratch(rt: HostRuntime) -
 }
 
 /// Rows of so many numbers from 0 on, each under its own token.
-fn rows_up_to(alloc: Global, most: u64) -> Result<Vec<(i64, u64, bool)>, AllocError> {
+fn rows_up_to(alloc: Global, most: u32) -> Result<Vec<(i64, u64, bool)>, AllocError> {
     let mut rows = Vec::new(alloc);
     for k in 0..most {
-        rows.push((k as i64, k, false))?;
+        rows.push((k as i64, k as u64, false))?;
     }
     Ok(rows)
 }
