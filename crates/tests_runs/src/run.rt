@@ -1,6 +1,7 @@
 //! What no clause says: that runs succeed with texts that were worked out by hand, and that reads and writes fail where they are told to.
 
 mod faults;
+mod functions;
 mod refused;
 mod runs;
 

@@ -4,6 +4,7 @@ use super::{FIRST_REPORT, FIRST_SCRIPT, PLAIN, UNION, ends, files_of, words_of};
 use lasp_edge::{MemFiles, MemSink};
 use lasp_fns::Library;
 use lasp_run::one_thread;
+use std::alloc::{AllocError, Global};
 use std::test::Fail;
 
 /// The files that are there, the read that is set to fail, and the file that is told.
@@ -77,21 +78,31 @@ fn files_are_read_up_to_16777216_bytes(rt: HostRuntime) -> Result<(), Fail> {
     Ok(())
 }
 
+/// The status, and what was written to both outputs, where the first takes so many bytes and then fails.
+fn left_by(
+    alloc: Global,
+    files: &mut MemFiles,
+    taken: Option<u64>,
+    room: u64,
+) -> Result<(u8, MemSink, MemSink), AllocError> {
+    let words = words_of(alloc, PLAIN)?;
+    let lib = Library::new(alloc);
+    let mut out = MemSink::new(alloc, 18)?;
+    let mut err = MemSink::new(alloc, room)?;
+    if let Some(taken) = taken {
+        out.fail_at(0, taken)?;
+    }
+    let status = one_thread(alloc, &words, files, &mut out, &mut err, &lib);
+    Ok((status, out, err))
+}
+
 #[test]
 fn a_failed_write_leaves_a_first_part(rt: HostRuntime) -> Result<(), Fail> {
     let alloc = rt.alloc();
-    let words = words_of(alloc, PLAIN)?;
-    let lib = Library::new(alloc);
     for taken in 0..18 {
         let mut files = files_of(alloc, UNION.as_bytes(), FIRST_SCRIPT.as_bytes())?;
-        let mut out = MemSink::new(alloc, 18)?;
-        let mut err = MemSink::new(alloc, 256)?;
-        out.fail_at(0, taken)?;
-        assert_eq!(rt;
-            one_thread(alloc, &words, &mut files, &mut out, &mut err, &lib),
-            5,
-            "after {taken}"
-        );
+        let (status, out, err) = left_by(alloc, &mut files, Some(taken), 256)?;
+        assert_eq!(rt; status, 5, "after {taken}");
         assert_eq!(rt;
             out.bytes(),
             FIRST_REPORT.as_bytes().get(..taken as usize).unwrap_or(b""),
@@ -100,12 +111,8 @@ fn a_failed_write_leaves_a_first_part(rt: HostRuntime) -> Result<(), Fail> {
         assert_eq!(rt; err.bytes(), b"write fault\n".as_slice(), "after {taken}");
     }
     let mut files = files_of(alloc, b"{}", b"[]")?;
-    let mut out = MemSink::new(alloc, 0)?;
-    let mut err = MemSink::new(alloc, 3)?;
-    assert_eq!(rt;
-        one_thread(alloc, &words, &mut files, &mut out, &mut err, &lib),
-        2
-    );
+    let (status, out, err) = left_by(alloc, &mut files, None, 3)?;
+    assert_eq!(rt; status, 2);
     assert_eq!(rt; out.bytes(), b"".as_slice());
     assert_eq!(rt; err.bytes(), b"gra".as_slice());
     Ok(())

@@ -1,0 +1,178 @@
+//! Runs of graphs that name functions: a library of four functions, made of closures.
+
+ghost use Rattle.std.specs.Prelude.{◌≡◌};
+ghost use Rattle.model_values.specs.Size.{IsSized};
+ghost use Rattle.model_functions.specs.Predicate.{passes};
+ghost use Rattle.model_functions.specs.Lift as lift;
+ghost use Rattle.model_functions.specs.Lift.{lifted};
+ghost use Rattle.lasp_value.specs.Value.{val_of};
+ghost use Rattle.lasp_fns.specs.Answers.{Answers};
+
+use super::{CHECK, PLAIN, ends_over, files_of};
+use lasp_fns::{
+    Library, LiftOp, MapOp, MapOps, PredOp, PredOps, StoredLift, StoredMap, StoredPred, apply_lift,
+    apply_map, apply_pred,
+};
+use lasp_value::Value;
+use std::alloc::{AllocError, Global};
+use std::test::Fail;
+
+/// Each words, graph and script with the status, the report and the line on `err`.
+const RUNS: [(&str, &str, &str, u8, &str, &str); 11] = [
+    // two values that a function makes one go one by one
+    (
+        PLAIN,
+        "[[\"a\",\"orset\"],[\"m\",\"map\",\"a\",\"abs\"]]",
+        "[[\"nodes\",1],[\"add\",0,\"a\",-3],[\"add\",0,\"a\",3],[\"print\",0,\"m\"],[\"remove\",0,\"a\",3],[\"print\",0,\"m\"],[\"remove\",0,\"a\",-3],[\"print\",0,\"m\"],[\"add\",0,\"a\",-3],[\"print\",0,\"m\"]]",
+        0,
+        "0 m [3]\n0 m [3]\n0 m []\n0 m [3]\nknown 0 5\n",
+        "",
+    ),
+    (
+        PLAIN,
+        "[[\"a\",\"orset\"],[\"e\",\"filter\",\"a\",\"even\"],[\"m\",\"map\",\"e\",\"abs\"]]",
+        "[[\"nodes\",1],[\"add\",0,\"a\",-4],[\"add\",0,\"a\",3],[\"add\",0,\"a\",\"x\"],[\"print\",0,\"e\"],[\"print\",0,\"m\"]]",
+        0,
+        "0 e [-4]\n0 m [4]\nknown 0 3\n",
+        "",
+    ),
+    // a number stays within 64 bits
+    (
+        PLAIN,
+        "[[\"a\",\"orset\"],[\"m\",\"map\",\"a\",\"succ\"]]",
+        "[[\"nodes\",1],[\"add\",0,\"a\",9223372036854775807],[\"print\",0,\"m\"]]",
+        0,
+        "0 m [9223372036854775807]\nknown 0 1\n",
+        "",
+    ),
+    (
+        CHECK,
+        "[[\"a\",\"orset\"],[\"e\",\"filter\",\"a\",\"even\"],[\"m\",\"map\",\"e\",\"abs\"]]",
+        "",
+        0,
+        "a orset 1\ne filter 1\nm map 1\n",
+        "",
+    ),
+    // a predicate is no map function
+    (
+        PLAIN,
+        "[[\"a\",\"orset\"],[\"m\",\"map\",\"a\",\"even\"]]",
+        "",
+        2,
+        "",
+        "graph 1 UnknownFunction\n",
+    ),
+    (
+        CHECK,
+        "[[\"a\",\"orset\"],[\"m\",\"filter\",\"a\",\"abs\"]]",
+        "",
+        2,
+        "",
+        "graph 1 UnknownFunction\n",
+    ),
+    // a value that was added twice counts once, and no more once it is removed
+    (
+        PLAIN,
+        "[[\"a\",\"orset\"],[\"s\",\"fold\",\"a\",\"sum\",\"itself\"]]",
+        "[[\"nodes\",1],[\"print\",0,\"s\"],[\"add\",0,\"a\",7],[\"add\",0,\"a\",7],[\"print\",0,\"s\"],[\"add\",0,\"a\",\"x\"],[\"remove\",0,\"a\",7],[\"print\",0,\"s\"]]",
+        0,
+        "0 s 0\n0 s 7\n0 s 0\nknown 0 4\n",
+        "",
+    ),
+    (
+        PLAIN,
+        "[[\"a\",\"orset\"],[\"s\",\"fold\",\"a\",\"sum\",\"itself\"],[\"x\",\"fold\",\"a\",\"xor\",\"itself\"],[\"r\",\"fold\",\"a\",[\"modulo\",4],\"itself\"]]",
+        "[[\"nodes\",1],[\"add\",0,\"a\",-1],[\"add\",0,\"a\",5],[\"print\",0,\"s\"],[\"print\",0,\"x\"],[\"print\",0,\"r\"]]",
+        0,
+        "0 s 4\n0 x -6\n0 r 0\nknown 0 2\n",
+        "",
+    ),
+    (
+        CHECK,
+        "[[\"a\",\"orset\"],[\"p\",\"product\",\"a\",\"a\"],[\"r\",\"fold\",\"p\",[\"modulo\",4294967295],\"itself\"]]",
+        "",
+        0,
+        "a orset 1\np product 2\nr fold 2\n",
+        "",
+    ),
+    // a map function is no lift
+    (
+        CHECK,
+        "[[\"a\",\"orset\"],[\"s\",\"fold\",\"a\",\"sum\",\"abs\"]]",
+        "",
+        2,
+        "",
+        "graph 1 UnknownFunction\n",
+    ),
+    // a fold is no set
+    (
+        CHECK,
+        "[[\"a\",\"orset\"],[\"s\",\"fold\",\"a\",\"sum\",\"itself\"],[\"u\",\"union\",\"a\",\"s\"]]",
+        "",
+        2,
+        "",
+        "graph 2 WrongKind\n",
+    ),
+];
+
+/// A map function of one step.
+fn map_of(alloc: Global, step: MapOp) -> Result<StoredMap, AllocError> {
+    let mut steps = MapOps::new(alloc);
+    steps.push(step)?;
+    let mine = steps.try_clone()?;
+    let f = move |v: &Value| -> Result<Value, AllocError>
+        requires { IsSized (val_of v.now) }
+        ensures { Answers mine (val_of v.entry.now) result }
+    { apply_map(alloc, &mine, v) };
+    Ok(StoredMap::new(steps, Box::new(alloc, f)?))
+}
+
+/// The predicate that even numbers pass.
+fn even(alloc: Global) -> Result<StoredPred, AllocError> {
+    let mut conditions = PredOps::new(alloc);
+    conditions.push(PredOp::Even)?;
+    let own = conditions.try_clone()?;
+    let p = move |v: &Value| -> bool
+        requires { IsSized (val_of v.now) }
+        ensures { result ≡ passes own (val_of v.entry.now) }
+    { apply_pred(&own, v) };
+    Ok(StoredPred::new(conditions, Box::new(alloc, p)?))
+}
+
+/// The lift that leaves numbers as they are.
+fn itself(alloc: Global) -> Result<StoredLift, AllocError> {
+    let l = |v: &Value| -> i64
+        requires { IsSized (val_of v.now) }
+        ensures { result ≡ lifted lift.Itself (val_of v.entry.now) }
+    { apply_lift(&LiftOp::Itself, v) };
+    Ok(StoredLift::new(LiftOp::Itself, Box::new(alloc, l)?))
+}
+
+/// The first run that ends otherwise than its row says.
+fn first_other(
+    alloc: Global,
+    lib: &Library,
+    runs: &[(&str, &str, &str, u8, &str, &str)],
+) -> Result<Option<u64>, AllocError> {
+    let mut at = 0u64;
+    for (line, graph, script, status, report, told) in runs {
+        let mut files = files_of(alloc, graph.as_bytes(), script.as_bytes())?;
+        if !ends_over(alloc, lib, line, &mut files, *status, report, told)? {
+            return Ok(Some(at));
+        }
+        at = at.saturating_add(1);
+    }
+    Ok(None)
+}
+
+#[test]
+fn functions_are_those_of_the_library(rt: HostRuntime) -> Result<(), Fail> {
+    let alloc = rt.alloc();
+    let mut lib = Library::new(alloc);
+    lib.add_map("abs", map_of(alloc, MapOp::Abs)?)?;
+    lib.add_map("succ", map_of(alloc, MapOp::Add(1))?)?;
+    lib.add_lift("itself", itself(alloc)?)?;
+    lib.add_pred("even", even(alloc)?)?;
+    assert_eq!(rt; first_other(alloc, &lib, &RUNS)?, None);
+    Ok(())
+}
