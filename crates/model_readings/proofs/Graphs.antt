@@ -11,7 +11,7 @@ use Rattle.model_graph.specs.Lawful.{variable_limit, width_limit, width_of, widt
 use Rattle.lasp_value.specs.Name.{is_name}
 use Rattle.model_readings.specs.declared.graph_why.GraphWhy.TheVariants as why
 use Rattle.model_readings.specs.Tree.{json_of, list_of, text_at, number_at, is_word_at, has_items, two}
-use Rattle.model_readings.specs.Graph.{Form, orset, gset, counter, maxreg, union, product, intersection, map, filter, fold, Written, source_form, names_of, process_form, modulo_limit, modulo_by, modulo_of, fold_op_of, operand, folded, fold_form, form_of, written, written_of, place_of, known, stored, function_named, inputs_read, input_read, function_read, pair_read, applied_read, kind_read, declaration, decl_read, next_read, numbered, decls_read, tree_read, graph_of}
+use Rattle.model_readings.specs.Graph.{Form, orset, gset, counter, maxreg, union, product, intersection, map, filter, fold, Written, names_of, modulo_limit, modulo_by, modulo_of, fold_op_of, operand, folded, fold_form, form_of, written, written_of, place_of, known, stored, function_named, inputs_read, input_read, function_read, pair_read, applied_read, kind_read, declaration, decl_read, next_read, numbered, decls_read, tree_read, graph_of}
 use Rattle.model_readings.specs.Lawful.{IsSetAt, AreInputs, Fits, IsNext, IsGraph, FitsAll}
 use Rattle.model_readings.proofs.Chains.{passed, check_passed, or_else_passed, refusing_passed}
 use Rattle.model_readings.proofs.Names.{none_named, found_at}

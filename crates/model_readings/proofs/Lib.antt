@@ -1,5 +1,4 @@
 pub mod Chains
 pub mod Names
 pub mod Graphs
-pub mod Scripts
 pub mod Forms

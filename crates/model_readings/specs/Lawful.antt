@@ -1,12 +1,9 @@
--- What accepted graphs and scripts are.
-use Rattle.std.specs.Prelude.{◌≡◌, ◌≢◌, ℕ, ◌<◌, ◌≤◌, List, length, take, slice_get, Some, IsTrue, Bool}
-use Rattle.model_values.specs.Size.{IsOfWidth}
+-- What accepted graphs are.
+use Rattle.std.specs.Prelude.{◌≡◌, ◌≢◌, ℕ, ◌≤◌, List, length, take, slice_get, Some, IsTrue}
 use Rattle.model_functions.specs.Library.{Library, operations_at}
 use Rattle.model_graph.specs.Graph.{Kind, OrSet, GSet, Counter, MaxReg, Union, Product, Intersection, Map, Filter, Fold, Decl, is_set}
 use Rattle.model_graph.specs.Lawful.{variable_limit, width_limit, width_of, widths, IsKind}
-use Rattle.model_world.specs.Command.{Command, Add, Remove, Insert, Inc, Max, Print, Script}
 use Rattle.lasp_value.specs.Name.{is_name}
-use Rattle.model_readings.specs.Script.{command_limit, node_limit, step_limit, is_orset, is_gset, is_counter, is_maxreg}
 
 -- the variable is declared, and is a set
 pub record IsSetAt (g : List Decl) (x : ℕ) : Type 0 where
@@ -50,26 +47,3 @@ pub record IsGraph (g : List Decl) : Type 0 where
 -- each function of the graph is the library's
 abbrev pub FitsAll : Library → List Decl → Type 0
 FitsAll lib g = (i : ℕ) (d : Decl) → slice_get g i ≡ Some d → Fits lib d.kind
-
--- the variable is declared, of a kind that passes the test
-pub record IsKindAt (is_kind : Kind → Bool) (g : List Decl) (x : ℕ) : Type 0 where
-  pub decl : Decl
-  pub declared : slice_get g x ≡ Some decl
-  pub kind : IsTrue (is_kind decl.kind)
-
--- the node is one of the script, the variable is one of the graph and of a kind that the command works on, and what an update brings is in its range
-abbrev pub IsLawful : List Decl → ℕ → Command → Type 0
-IsLawful g nodes (Add p x v) = (p < nodes) × IsKindAt is_orset g x × IsOfWidth 1 v
-IsLawful g nodes (Remove p x v) = (p < nodes) × IsKindAt is_orset g x × IsOfWidth 1 v
-IsLawful g nodes (Insert p x v) = (p < nodes) × IsKindAt is_gset g x × IsOfWidth 1 v
-IsLawful g nodes (Inc p x k) = (p < nodes) × IsKindAt is_counter g x × (1 ≤ k) × (k ≤ step_limit)
-IsLawful g nodes (Max p x n) = (p < nodes) × IsKindAt is_maxreg g x
-IsLawful g nodes (Print p x) = (p < nodes) × (x < length g)
-IsLawful g nodes _ = ⊥
-
--- a script against a graph: 1 node, fewer than 100,000 commands behind the one that tells it, each lawful
-pub record IsScript (g : List Decl) (s : Script) : Type 0 where
-  pub some : 1 ≤ s.nodes
-  pub most : s.nodes ≤ node_limit
-  pub few : length s.commands < command_limit
-  pub each : (i : ℕ) (k : Command) → slice_get s.commands i ≡ Some k → IsLawful g s.nodes k

@@ -1,4 +1,3 @@
 pub mod Tree
 pub mod Graph
-pub mod Script
 pub mod Lawful

@@ -6,10 +6,8 @@ ghost use Rattle.model_functions.specs.Library.{Library};
 ghost use Rattle.model_graph.specs.Graph.{Decl};
 ghost use Rattle.model_graph.specs.Lawful.{variable_limit};
 ghost use Rattle.model_graph.specs.Lawful as graphs;
-ghost use Rattle.model_world.specs.Command.{Script};
 ghost use Rattle.model_readings.specs.Graph.{decl_read, graph_of};
-ghost use Rattle.model_readings.specs.Script.{script_of};
-ghost use Rattle.model_readings.specs.Lawful.{Fits, IsNext, IsGraph, FitsAll, IsScript};
+ghost use Rattle.model_readings.specs.Lawful.{Fits, IsNext, IsGraph, FitsAll};
 
 /// A declaration that is read may follow those that it is read against, and its function is the library's.
 pub fn read_declarations_are_lawful()
@@ -28,9 +26,4 @@ pub fn accepted_graphs_are_lawful()
 /// A graph that may be accepted is one of the definitions: each declaration may follow those before it.
 pub fn accepted_graphs_are_graphs()
     ensures { (g : List Decl) → IsGraph g → graphs.IsGraph g }
-{}
-
-/// The commands of an accepted script name nodes of the script and variables of the graph, and change variables of their own kind alone, by values and numbers in their ranges.
-pub fn accepted_scripts_are_lawful()
-    ensures { (g : List Decl) (bytes : List ℕ) (s : Script) → script_of g bytes ≡ Ok s → IsScript g s }
 {}

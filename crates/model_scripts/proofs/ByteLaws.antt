@@ -19,13 +19,12 @@ use Rattle.model_graph.specs.Chain.{◌>>=◌, or_else}
 use Rattle.model_graph.specs.Graph.{Map}
 use Rattle.model_readings.specs.Tree.{is_word_at, has_items, json_of}
 use Rattle.model_readings.specs.Graph.{written_of, form_of, names_of, place_of, input_read, function_named, function_read, decl_read}
-use Rattle.model_readings.specs.Script.{script_from}
 use Rattle.model_world.specs.Command.{Added, Add, Mark, Sync, Deliver, Declare, Await}
 use Rattle.model_scripts.specs.declared.script_why.ScriptWhy.TheVariants.{NotJson}
 use Rattle.model_scripts.specs.Word.{bound_of, word_of}
 use Rattle.model_scripts.specs.Progress.{mark_of}
 use Rattle.model_scripts.specs.Parts.{number_below}
-use Rattle.model_scripts.specs.Script.{word_read, next_read, commands_read, nodes_of, parts_read, tree_read, script_of}
+use Rattle.model_scripts.specs.Script.{script_from, word_read, next_read, commands_read, nodes_of, parts_read, tree_read, script_of}
 use Rattle.model_scripts.specs.Example.{variable, example_graph, example_library, example_bytes}
 
 ascii : (bytes : List ℕ) → list_all (λ b. nat_lt b 128) bytes ≡ true → (i : ℕ) → slice_index bytes i < 128

@@ -17,13 +17,12 @@ use Rattle.model_states.specs.Threshold.{is_counted, has_values, has_rows}
 use Rattle.model_graph.specs.Graph.{Kind, Decl, no_decl, decl_at, kind_at, is_source}
 use Rattle.model_graph.specs.Lawful.{shape_of, variable_limit}
 use Rattle.model_readings.specs.Graph.{place_of}
-use Rattle.model_readings.specs.Script.{Target, below, in_steps, step_limit, command_limit, is_orset, is_gset, is_counter, is_maxreg}
 use Rattle.model_readings.proofs.Names.{none_before, none_named, found_at}
 use Rattle.model_world.specs.Lawful.{mark_limit, read_limit, is_mark, is_read}
-use Rattle.model_scripts.specs.Word.{Bound, at_least, above, count, added, removed, Word, add, remove, insert, inc, max, print, mark, bind, send, deliver, sync, settle, read, await, declare}
+use Rattle.model_scripts.specs.Word.{Target, Bound, at_least, above, count, added, removed, Word, add, remove, insert, inc, max, print, mark, bind, send, deliver, sync, settle, read, await, declare}
 use Rattle.model_scripts.specs.Progress.{Progress, next_number, mark_of}
-use Rattle.model_scripts.specs.Parts.{number_below, step_of}
-use Rattle.model_scripts.specs.Check.{node_in, var_in, mark_in, mark_in_bound, new_mark_in, message_in, holds, has_node, has_var, has_mark, has_new_mark, was_sent, suits_bound, is_right, is_value, is_brought_bound, is_brought, count_of, has_room_beside, has_room}
+use Rattle.model_scripts.specs.Parts.{below, in_steps, step_limit, number_below, step_of}
+use Rattle.model_scripts.specs.Check.{command_limit, is_orset, is_gset, is_counter, is_maxreg, node_in, var_in, mark_in, mark_in_bound, new_mark_in, message_in, holds, has_node, has_var, has_mark, has_new_mark, was_sent, suits_bound, is_right, is_value, is_brought_bound, is_brought, count_of, has_room_beside, has_room}
 use Rattle.model_scripts.specs.Needs.{Needs, IsBelow, IsDeclared, IsMarked, HasNode, HasVar, HasMark, HasNewMark, WasSent, IsOfKind, IsMarkOf, Suits, IsRight, IsValue, AreValues, IsStep, IsBroughtBound, IsBrought, HasRoomBeside, HasRoom}
 
 always : Decides true (Unit {0})

@@ -8,13 +8,12 @@ use Rattle.serde_json.specs.Data.{Data}
 use Rattle.model_functions.specs.Library.{Library}
 use Rattle.model_graph.specs.Graph.{Kind, OrSet, GSet, Counter, MaxReg, Decl, no_decl}
 use Rattle.model_readings.specs.Graph.{decl_read}
-use Rattle.model_readings.specs.Script.{Target, command_limit, is_orset, is_gset, is_counter, is_maxreg}
 use Rattle.model_readings.proofs.Graphs.{next-decl_read}
 use Rattle.model_world.specs.Lawful.{IsMarkOf, MayAsk, MayBeDone, IsSmallUntil, AsksSmall, mark_limit, read_limit, is_mark, is_read}
-use Rattle.model_scripts.specs.Word.{Bound, at_least, above, count, added, removed, Word, add, remove, insert, inc, max, print, mark, bind, send, deliver, sync, settle, read, await, declare}
+use Rattle.model_scripts.specs.Word.{Target, Bound, at_least, above, count, added, removed, Word, add, remove, insert, inc, max, print, mark, bind, send, deliver, sync, settle, read, await, declare}
 use Rattle.model_scripts.specs.Progress.{Progress, next_number, mark_of, mark_at, place_at}
 use Rattle.model_scripts.specs.Parts.{until_of, command_of, decl_of}
-use Rattle.model_scripts.specs.Check.{suits_bound, is_mark_of, is_brought_bound, has_room_beside, has_room, count_of, holds, mark_in_bound}
+use Rattle.model_scripts.specs.Check.{command_limit, is_orset, is_gset, is_counter, is_maxreg, suits_bound, is_mark_of, is_brought_bound, has_room_beside, has_room, count_of, holds, mark_in_bound}
 use Rattle.model_scripts.specs.Needs.{CanDeclare}
 use Rattle.model_scripts.proofs.CommandLaws.{Passing}
 use Rattle.model_scripts.proofs.FollowLaws.{next-follows}

@@ -9,13 +9,12 @@ use Rattle.model_functions.specs.Map.{Abs}
 use Rattle.model_graph.specs.Graph.{Map}
 use Rattle.model_readings.specs.Tree.{is_word_at, has_items}
 use Rattle.model_readings.specs.Graph.{written_of, form_of, names_of, place_of, inputs_read, input_read, function_named, function_read, decl_read}
-use Rattle.model_readings.specs.Script.{script_from}
 use Rattle.model_world.specs.Command.{AtLeast, Above, Count, Added, Removed, Add, Remove, Insert, Inc, Max, Mark, Bind, Send, Deliver, Sync, Settle, Print, Read, Await, Declare}
 use Rattle.model_scripts.specs.declared.script_why.ScriptWhy.TheVariants as why
 use Rattle.model_scripts.specs.Word.{bound_of, word_of}
 use Rattle.model_scripts.specs.Progress.{mark_of}
 use Rattle.model_scripts.specs.Parts.{number_below, step_of}
-use Rattle.model_scripts.specs.Script.{word_read, next_read, commands_read, nodes_of, parts_read, tree_read}
+use Rattle.model_scripts.specs.Script.{script_from, word_read, next_read, commands_read, nodes_of, parts_read, tree_read}
 use Rattle.model_scripts.specs.Example.{list, text, whole, variable, example_graph, example_library, nodes, call, declaration, told, all_words}
 
 pub read-told : told all_words ≡ Ok (script_from 2 (Add 0 0 (int (pos 5)) ∷ Remove 1 1 (pair (int (pos 5)) (value.text (codes "x"))) ∷ Insert 0 3 (value.text (codes "x")) ∷ Inc 1 4 3 ∷ Max 0 5 (negsuc 4) ∷ Mark 0 0 ∷ Bind 1 0 0 ∷ Send 0 ∷ Sync ∷ Deliver 1 2 ∷ Settle ∷ Declare (variable (codes "n") (Map 2 0 (Abs ∷ []))) ∷ Print 0 6 ∷ Read 0 0 (AtLeast 0) ∷ Read 1 0 (Above 0) ∷ Read 1 6 (Added (int (pos 5) ∷ [])) ∷ Await 0 4 (Count 0) ∷ Await 0 2 (Removed []) ∷ []))

@@ -12,5 +12,4 @@ pub mod Reached
 pub mod ExampleLaws
 pub mod BoundLaws
 pub mod ByteLaws
-pub mod AlikeLaws
-pub mod AlikeBack
+pub mod GrowthLaws

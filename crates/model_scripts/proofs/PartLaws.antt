@@ -16,11 +16,10 @@ use Rattle.lasp_value.specs.declared.refused.ValueRefused.{ValueRefused}
 use Rattle.lasp_value.specs.declared.refused.ValueRefused.TheVariants as value_why
 use Rattle.model_graph.specs.Graph.{Decl}
 use Rattle.model_readings.specs.Graph.{place_of}
-use Rattle.model_readings.specs.Script.{below, in_steps, step_limit}
 use Rattle.model_readings.proofs.Names.{found_within}
 use Rattle.model_world.specs.Lawful.{IsSourceValue, AreSourceValues}
 use Rattle.model_scripts.specs.Progress.{mark_of}
-use Rattle.model_scripts.specs.Parts.{number_below, step_of, value_of}
+use Rattle.model_scripts.specs.Parts.{below, in_steps, step_limit, number_below, step_of, value_of}
 use Rattle.model_scripts.specs.Check.{is_value}
 use Rattle.model_scripts.proofs.Small.{IsSmallNumber, IsSmall, AreSmallItems, AreSmall}
 

@@ -12,7 +12,6 @@ use Rattle.model_graph.specs.Graph.{Decl}
 use Rattle.model_graph.specs.Lawful.{variable_limit}
 use Rattle.model_readings.specs.Tree.{json_of, list_of, number_at, is_word_at, has_items}
 use Rattle.model_readings.specs.Graph.{decl_read, numbered}
-use Rattle.model_readings.specs.Script.{command_limit, script_from}
 use Rattle.model_readings.specs.Lawful.{Fits, IsGraph, FitsAll}
 use Rattle.model_readings.proofs.Chains.{passed, or_else_passed, refusing_passed}
 use Rattle.model_readings.proofs.Graphs.{Pushed, early, late, pushed, next-decl_read, graph-push}
@@ -22,11 +21,12 @@ use Rattle.model_world.specs.Lawful.{Stage, opening_stage, stage_after, MayBeDon
 use Rattle.model_scripts.specs.declared.script_why.ScriptWhy.{ScriptWhy}
 use Rattle.model_scripts.specs.declared.script_why.ScriptWhy.TheVariants as why
 use Rattle.model_scripts.specs.Word.{Word, add, remove, insert, inc, max, print, mark, bind, send, deliver, sync, settle, read, await, declare, word_of}
-use Rattle.model_scripts.specs.Progress.{Progress, opening, next_number, names_after, after, stage_behind}
+use Rattle.model_scripts.specs.Progress.{Progress, opening, next_number, names_after, after, stage_behind, grown}
 use Rattle.model_scripts.specs.Parts.{command_of, decl_of}
-use Rattle.model_scripts.specs.Check.{checks, all_checked, has_room_beside, count_of}
-use Rattle.model_scripts.specs.Script.{declared_checked, word_read, next_read, commands_read, in_range, nodes_of, parts_read, tree_read, script_of}
+use Rattle.model_scripts.specs.Check.{command_limit, checks, all_checked, has_room_beside, count_of}
+use Rattle.model_scripts.specs.Script.{script_from, declared_checked, word_read, next_read, commands_read, in_range, nodes_of, parts_read, tree_read, script_of}
 use Rattle.model_scripts.specs.Needs.{CanDeclare}
+use Rattle.model_scripts.proofs.GrowthLaws.{graph-stage_behind}
 use Rattle.model_scripts.proofs.CommandLaws.{worded, word-checks, Passing, word-passed}
 use Rattle.model_scripts.proofs.DoneLaws.{declared-read, room-beside, room-number, may-be-done, asks-small, room-mark, room-read}
 use Rattle.model_scripts.proofs.Small.{IsSmall, AreSmall, IsSmallWord, small-tree, small-parts, small-word}
@@ -205,17 +205,18 @@ nodes-within d k e = range-if (is_word_at 0 _ d && has_items 2 d) (option_and_th
 pub record IsAccepted (lib : Library) (g : List Decl) (s : Script) : Type 0 where
   pub lawful : world.IsLawful g s
   pub limits : IsWithinLimits s
-  pub graph : IsGraph g → IsGraph (stage_behind s.nodes (opening_stage g) s.commands).graph
-  pub fits : FitsAll lib g → FitsAll lib (stage_behind s.nodes (opening_stage g) s.commands).graph
+  pub graph : IsGraph g → IsGraph (grown g s.commands)
+  pub fits : FitsAll lib g → FitsAll lib (grown g s.commands)
 
 accepted-reached : (lib : Library) (nodes : ℕ) (g : List Decl) (p : Progress) → (1 ≤ nodes) × (nodes ≤ node_limit) → IsReached lib nodes g p → IsAccepted lib g (script_from nodes p.commands)
 accepted-reached lib nodes g p range h =
     let few = h.few in
+    let same : p.stage.graph ≡ grown g p.commands = sym (ap (λ (s : Stage). s.graph) h.stage) ∙ graph-stage_behind nodes (opening_stage g) p.commands in
     record {
       lawful = record { some = range.0; few = omega (arith, few); each = h.lawful };
       limits = record { nodes = range.1; few = h.few; marks = h.marks; reads = h.reads; asked = h.asked };
-      graph = λ good. subst (λ (s : Stage). IsGraph s.graph) (sym h.stage) (h.graph good);
-      fits = λ good. subst (λ (s : Stage). FitsAll lib s.graph) (sym h.stage) (h.fits good);
+      graph = λ good. subst (λ (all : List Decl). IsGraph all) same (h.graph good);
+      fits = λ good. subst (λ (all : List Decl). FitsAll lib all) same (h.fits good);
     }
 
 accepted-parts : (lib : Library) (g : List Decl) (ds : List Data) (s : Script) → AreSmall ds → parts_read lib g ds ≡ Ok s → IsAccepted lib g s

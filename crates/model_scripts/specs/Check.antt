@@ -1,22 +1,41 @@
 -- The checks of a command, each by itself, and their table.
-use Rattle.std.specs.Prelude.{ℕ, ◌&&◌, ◌==◌, nat_lt, List, [], ◌∷◌, length, filter, Bool, true, Option, Some, None, is_some, is_none, Result, Ok, is_ok}
+use Rattle.std.specs.Prelude.{ℕ, ◌&&◌, ◌==◌, nat_lt, List, [], ◌∷◌, length, filter, Bool, true, false, Option, Some, None, is_some, is_none, Result, Ok, is_ok}
 use Rattle.std.specs.List.{list_all}
 use Rattle.serde_json.specs.Data.{Data, Num}
 use Rattle.serde_json.specs.Find.{as_u64, as_i64}
 use Rattle.lasp_value.specs.Json.{read_value}
 use Rattle.model_states.specs.Threshold.{is_counted, has_values, has_rows}
 use Rattle.model_graph.specs.Chain.{◌>>=◌, check}
-use Rattle.model_graph.specs.Graph.{Decl, is_source}
+use Rattle.model_graph.specs.Graph.{Kind, OrSet, GSet, Counter, MaxReg, Decl, is_source}
 use Rattle.model_graph.specs.Lawful.{shape_of, variable_limit}
 use Rattle.model_readings.specs.Graph.{place_of}
-use Rattle.model_readings.specs.Script.{Target, command_limit, is_orset, is_gset, is_counter, is_maxreg}
 use Rattle.model_world.specs.Command.{Command}
 use Rattle.model_world.specs.Lawful.{mark_limit, read_limit, is_mark, is_read}
 use Rattle.model_scripts.specs.declared.script_why.ScriptWhy.{ScriptWhy}
 use Rattle.model_scripts.specs.declared.script_why.ScriptWhy.TheVariants as why
-use Rattle.model_scripts.specs.Word.{Bound, at_least, above, count, added, removed, Word, add, remove, insert, inc, max, print, mark, bind, send, deliver, sync, settle, read, await, declare}
+use Rattle.model_scripts.specs.Word.{Target, Bound, at_least, above, count, added, removed, Word, add, remove, insert, inc, max, print, mark, bind, send, deliver, sync, settle, read, await, declare}
 use Rattle.model_scripts.specs.Progress.{Progress, next_number, mark_of, place_at, kind_in, marked_at}
 use Rattle.model_scripts.specs.Parts.{number_below, step_of}
+
+-- how many commands a script may have, with the one that tells the nodes
+abbrev pub command_limit : ℕ
+command_limit = 100000
+
+abbrev pub is_orset : Kind → Bool
+is_orset OrSet = true
+is_orset _ = false
+
+abbrev pub is_gset : Kind → Bool
+is_gset GSet = true
+is_gset _ = false
+
+abbrev pub is_counter : Kind → Bool
+is_counter Counter = true
+is_counter _ = false
+
+abbrev pub is_maxreg : Kind → Bool
+is_maxreg MaxReg = true
+is_maxreg _ = false
 
 -- the number that is to be a node's
 abbrev pub node_in : Word → Option Num

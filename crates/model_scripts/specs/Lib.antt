@@ -6,4 +6,3 @@ pub mod Script
 pub mod Needs
 pub mod First
 pub mod Example
-pub mod Alike

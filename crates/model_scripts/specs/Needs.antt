@@ -11,13 +11,13 @@ use Rattle.model_graph.specs.Lawful.{shape_of, variable_limit}
 use Rattle.model_readings.specs.declared.graph_why.GraphWhy.{GraphWhy}
 use Rattle.model_readings.specs.declared.graph_why.GraphWhy.TheVariants as graph_why
 use Rattle.model_readings.specs.Graph.{place_of, decl_read}
-use Rattle.model_readings.specs.Script.{command_limit, step_limit, is_orset, is_gset, is_counter, is_maxreg}
 use Rattle.model_world.specs.Lawful.{mark_limit, read_limit, is_mark, is_read}
 use Rattle.model_scripts.specs.declared.script_why.ScriptWhy.{ScriptWhy}
 use Rattle.model_scripts.specs.declared.script_why.ScriptWhy.TheVariants as why
 use Rattle.model_scripts.specs.Word.{Bound, at_least, above, count, added, removed, Word, add, remove, insert, inc, max, mark, bind, read, await, declare}
 use Rattle.model_scripts.specs.Progress.{Progress, next_number, mark_of}
-use Rattle.model_scripts.specs.Check.{node_in, var_in, mark_in, new_mark_in, message_in, count_of}
+use Rattle.model_scripts.specs.Parts.{step_limit}
+use Rattle.model_scripts.specs.Check.{command_limit, is_orset, is_gset, is_counter, is_maxreg, node_in, var_in, mark_in, new_mark_in, message_in, count_of}
 
 -- what is there, if anything, has the property
 abbrev pub Needs : {A : Type 0} → (A → Type 0) → Option A → Type 0

@@ -1,5 +1,5 @@
 -- What the parts of a word stand for.
-use Rattle.std.specs.Prelude.{ℕ, pos, List, map, Option, option_and_then, unwrap_or}
+use Rattle.std.specs.Prelude.{ℕ, pos, ◌&&◌, nat_lt, nat_le, List, map, if◌then◌else◌, Option, Some, None, option_and_then, unwrap_or}
 use Rattle.std.specs.Result.{result_unwrap_or}
 use Rattle.serde_json.specs.Data.{Data, Num}
 use Rattle.serde_json.specs.Find.{as_u64, as_i64}
@@ -8,15 +8,24 @@ use Rattle.lasp_value.specs.Json.{read_value}
 use Rattle.model_functions.specs.Library.{Library}
 use Rattle.model_graph.specs.Graph.{Decl, no_decl}
 use Rattle.model_readings.specs.Graph.{decl_read}
-use Rattle.model_readings.specs.Script.{below, in_steps}
 use Rattle.model_world.specs.Command as command
 use Rattle.model_world.specs.Command.{Until, Command}
 use Rattle.model_scripts.specs.Word.{Bound, at_least, above, count, added, removed, Word, add, remove, insert, inc, max, print, mark, bind, send, deliver, sync, settle, read, await, declare}
 use Rattle.model_scripts.specs.Progress.{Progress, mark_at, place_at}
 
+abbrev pub below : ℕ → ℕ → Option ℕ
+below limit n = if nat_lt n limit then Some n else None
+
 -- the number of a node or a message, of which there are so many
 unfoldable pub number_below : ℕ → Num → Option ℕ
 number_below limit n = option_and_then (below limit) (as_u64 n)
+
+-- the most that one update counts
+abbrev pub step_limit : ℕ
+step_limit = 4294967295
+
+abbrev pub in_steps : ℕ → Option ℕ
+in_steps n = if nat_le 1 n && nat_le n step_limit then Some n else None
 
 -- how many more an update counts
 unfoldable pub step_of : Num → Option ℕ

@@ -4,10 +4,9 @@ use Rattle.std.specs.List.{position}
 use Rattle.std.specs.Str.{bytes_eq}
 use Rattle.model_graph.specs.Graph.{Kind, Decl, kind_at}
 use Rattle.model_readings.specs.Graph.{place_of}
-use Rattle.model_readings.specs.Script.{Target}
-use Rattle.model_world.specs.Command.{Command}
+use Rattle.model_world.specs.Command.{Command, Declare}
 use Rattle.model_world.specs.Lawful.{Stage, opening_stage, stage_after}
-use Rattle.model_scripts.specs.Word.{Word, mark}
+use Rattle.model_scripts.specs.Word.{Target, Word, mark}
 
 -- the commands so far, what stands behind them (the graph, the variable of each mark, how many messages were sent), and the names of the marks, by their numbers
 pub record Progress : Type 0 where
@@ -56,3 +55,13 @@ marked_at p m = slice_index_or p.stage.marked (mark_at p.names m) 0
 abbrev pub stage_behind : ℕ → Stage → List Command → Stage
 stage_behind nodes s [] = s
 stage_behind nodes s (k ∷ ks) = stage_behind nodes (stage_after nodes s k) ks
+
+-- the graph with what a command declares, if it declares anything
+abbrev pub grown_by : List Decl → Command → List Decl
+grown_by g (Declare d) = g ++ d ∷ []
+grown_by g _ = g
+
+-- the graph with all that commands declare, in order
+abbrev pub grown : List Decl → List Command → List Decl
+grown g [] = g
+grown g (k ∷ ks) = grown (grown_by g k) ks

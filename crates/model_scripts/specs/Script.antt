@@ -9,8 +9,7 @@ use Rattle.model_readings.specs.declared.graph_why.GraphWhy.{GraphWhy}
 use Rattle.model_readings.specs.declared.graph_why.GraphWhy.TheVariants as graph_why
 use Rattle.model_readings.specs.Tree.{json_of, list_of, number_at, is_word_at, has_items}
 use Rattle.model_readings.specs.Graph.{decl_read, numbered}
-use Rattle.model_readings.specs.Script.{script_from}
-use Rattle.model_world.specs.Command.{Script}
+use Rattle.model_world.specs.Command.{Command, Script}
 use Rattle.model_world.specs.Lawful.{node_limit}
 use Rattle.model_scripts.specs.declared.script_why.ScriptWhy.{ScriptWhy}
 use Rattle.model_scripts.specs.declared.script_why.ScriptWhy.TheVariants as why
@@ -65,6 +64,9 @@ unfoldable pub nodes_of : Data → Option ℕ
 nodes_of d =
     if is_word_at 0 (codes "nodes") d && has_items 2 d then option_and_then in_range (option_and_then as_u64 (number_at 1 d))
     else None
+
+abbrev pub script_from : ℕ → List Command → Script
+script_from nodes commands = record { nodes = nodes; commands = commands }
 
 -- the first part tells the nodes, the others are commands
 unfoldable pub parts_read : Library → List Decl → List Data → Result Script (ℕ × ScriptWhy)

@@ -5,7 +5,11 @@ use Rattle.serde_json.specs.Find.{at, as_array}
 use Rattle.lasp_value.specs.Name.{is_name}
 use Rattle.model_readings.specs.Tree.{list_of, text_at, number_at, is_word_at, has_items, two}
 use Rattle.model_readings.specs.Graph.{written_of}
-use Rattle.model_readings.specs.Script.{Target, target_of}
+
+-- what a command is about, as it is written: a number of JSON for the node, the variable's name
+pub record Target : Type 0 where
+  pub node : Num
+  pub var : List ℕ
 
 -- a threshold as it is written: the name of a mark, a number of JSON, or trees for values
 pub data Bound : Type 0 where
@@ -32,6 +36,13 @@ pub data Word : Type 0 where
   read : Target → Bound → Word
   await : Target → Bound → Word
   declare : Data → Word
+
+abbrev pub target : Num → List ℕ → Target
+target node var = record { node = node; var = var }
+
+-- the node and the variable, which stand behind the word
+abbrev pub target_of : Data → Option Target
+target_of d = two target (number_at 1 d) (text_at 2 d)
 
 -- what an array of so many parts is
 abbrev pub of_size : {A : Type 0} → ℕ → Data → Option A → Option A

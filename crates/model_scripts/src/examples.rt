@@ -6,10 +6,9 @@ ghost use Rattle.model_values.specs.Value.{int, pair};
 ghost use Rattle.model_values.specs.Value as value;
 ghost use Rattle.model_functions.specs.Map.{Abs};
 ghost use Rattle.model_graph.specs.Graph.{OrSet, Map};
-ghost use Rattle.model_readings.specs.Script.{script_from};
 ghost use Rattle.model_world.specs.Command.{AtLeast, Above, Count, Added, Removed, Add, Remove, Insert, Inc, Max, Mark, Bind, Send, Deliver, Sync, Settle, Print, Read, Await, Declare};
 ghost use Rattle.model_scripts.specs.declared.script_why.ScriptWhy.TheVariants as why;
-ghost use Rattle.model_scripts.specs.Script.{word_read, tree_read, script_of};
+ghost use Rattle.model_scripts.specs.Script.{script_from, word_read, tree_read, script_of};
 ghost use Rattle.model_scripts.specs.Example.{list, text, whole, variable, example_graph, example_library, nodes, call, declaration, told, all_words, behind, any_read, any_mark, any_declaration, example_bytes};
 
 /// Marks and messages are named by their numbers; three messages stand behind one send and one sync of two nodes; the variable that the script declares is the seventh.

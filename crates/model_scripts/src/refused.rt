@@ -6,11 +6,10 @@ ghost use Rattle.serde_json.specs.Find.{as_array};
 ghost use Rattle.model_functions.specs.Library.{Library};
 ghost use Rattle.model_graph.specs.Graph.{Decl};
 ghost use Rattle.model_readings.specs.Tree.{json_of, list_of};
-ghost use Rattle.model_readings.specs.Script.{script_from};
 ghost use Rattle.model_scripts.specs.declared.script_why.ScriptWhy.{ScriptWhy};
 ghost use Rattle.model_scripts.specs.declared.script_why.ScriptWhy.TheVariants as why;
 ghost use Rattle.model_scripts.specs.Progress.{Progress, opening};
-ghost use Rattle.model_scripts.specs.Script.{script_of, nodes_of, commands_read};
+ghost use Rattle.model_scripts.specs.Script.{script_from, script_of, nodes_of, commands_read};
 ghost use Rattle.model_scripts.specs.First.{AreRead, IsRefused};
 
 /// The bytes of a script are refused with number 0 where they aren't JSON, or no array that begins with the number of nodes; its commands exactly at the first that is refused behind those before it. They are accepted exactly where each is.

@@ -5,12 +5,11 @@ use Rattle.model_functions.specs.Library.{Library}
 use Rattle.model_graph.specs.Chain.{◌>>=◌, or_else}
 use Rattle.model_graph.specs.Graph.{Decl}
 use Rattle.model_readings.specs.Tree.{json_of, list_of}
-use Rattle.model_readings.specs.Script.{script_from}
 use Rattle.model_world.specs.Command.{Script}
 use Rattle.model_scripts.specs.declared.script_why.ScriptWhy.{ScriptWhy}
 use Rattle.model_scripts.specs.declared.script_why.ScriptWhy.TheVariants.{NotJson, Shape}
 use Rattle.model_scripts.specs.Progress.{Progress, opening}
-use Rattle.model_scripts.specs.Script.{script_of, tree_read, parts_read, nodes_of, commands_read}
+use Rattle.model_scripts.specs.Script.{script_from, script_of, tree_read, parts_read, nodes_of, commands_read}
 use Rattle.model_scripts.proofs.Firsts.{refused-found, refused-is, accepted-found, accepted-is}
 use Rattle.model_scripts.proofs.refused.scripts_are_refused_at_their_first_refusal.Goals as goal
 
