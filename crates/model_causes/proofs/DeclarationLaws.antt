@@ -11,7 +11,7 @@ use Rattle.lasp_value.specs.Name.{is_name}
 use Rattle.model_readings.specs.Graph.{Written, written_of, place_of, kind_read, width_checked, declaration, decl_read, next_read}
 use Rattle.model_readings.specs.declared.graph_why.GraphWhy.{GraphWhy}
 use Rattle.model_readings.specs.declared.graph_why.GraphWhy.TheVariants as why
-use Rattle.model_causes.specs.Named.{IsDeclared}
+use Rattle.model_scripts.specs.Needs.{IsDeclared}
 use Rattle.model_causes.specs.Declaration.{Takes, AreDeclared, IsUndeclared, AreSets, IsNoSet, HasFunction, IsDeclarationCause}
 use Rattle.model_causes.proofs.Failing.{via, of-same, fails-first, check-fails, or_else-fails}
 use Rattle.model_causes.proofs.NamedLaws.{PlaceAnswer, absent, present, place-answer, named-declared}

@@ -1,17 +1,14 @@
--- Graphs and scripts are read by one reader of items after the other.
+-- Graphs are read by one reader of declarations after the other.
 use Rattle.std.proofs.Common.{refl, sym, ◌∙◌}
 use Rattle.std.specs.Prelude.{◌≡◌, ◌↔◌, ℕ, List, [], ◌∷◌, ◌++◌, length, Result, Ok, Err}
 use Rattle.serde_json.specs.Data.{Data}
 use Rattle.model_functions.specs.Library.{Library}
 use Rattle.model_graph.specs.Chain.{◌>>=◌}
 use Rattle.model_graph.specs.Graph.{Decl}
-use Rattle.model_world.specs.Command.{Command}
 use Rattle.model_readings.specs.Graph.{numbered, decls_read}
 use Rattle.model_readings.specs.Graph as graph
-use Rattle.model_readings.specs.Script.{commands_read}
 use Rattle.model_readings.specs.declared.graph_why.GraphWhy.{GraphWhy}
-use Rattle.model_readings.specs.declared.script_why.ScriptWhy.{ScriptWhy}
-use Rattle.model_causes.specs.First.{AreDecls, IsRefusedDecl, next_number, next_command, AreCommands, IsRefusedCommand}
+use Rattle.model_causes.specs.First.{AreDecls, IsRefusedDecl}
 use Rattle.model_causes.proofs.FirstLaws.{all_read, refused-found, refused-is, accepted-found, accepted-is}
 
 -- where a first step passes, two ways to go on that agree give the same
@@ -24,11 +21,6 @@ unfolding decls_read all_read
 decls-all_read lib before [] = refl
 decls-all_read lib before (d ∷ ds) = then-same (numbered (length before) (graph.next_read lib before d)) _ _ (λ decl. decls-all_read lib (before ++ decl ∷ []) ds)
 
-commands-all_read : (g : List Decl) (nodes : ℕ) (before : List Command) (ds : List Data) → commands_read g nodes before ds ≡ all_read (next_command g nodes) next_number before ds
-unfolding commands_read all_read
-commands-all_read g nodes before [] = refl
-commands-all_read g nodes before (d ∷ ds) = then-same (numbered (next_number before) (next_command g nodes before d)) _ _ (λ k. commands-all_read g nodes (before ++ k ∷ []) ds)
-
 pub decls-refused : (lib : Library) (ds : List Data) (number : ℕ) (why : GraphWhy) → (decls_read lib [] ds ≡ Err (number, why) ↔ IsRefusedDecl lib [] ds number why)
 decls-refused lib ds number why = (
   λ e. refused-found (graph.next_read lib) length [] ds number why (sym (decls-all_read lib [] ds) ∙ e),
@@ -39,16 +31,4 @@ pub decls-accepted : (lib : Library) (ds : List Data) (all : List Decl) → (dec
 decls-accepted lib ds all = (
   λ e. accepted-found (graph.next_read lib) length [] ds all (sym (decls-all_read lib [] ds) ∙ e),
   λ r. decls-all_read lib [] ds ∙ accepted-is (graph.next_read lib) length [] ds all r,
-)
-
-pub commands-refused : (g : List Decl) (nodes : ℕ) (ds : List Data) (number : ℕ) (why : ScriptWhy) → (commands_read g nodes [] ds ≡ Err (number, why) ↔ IsRefusedCommand g nodes [] ds number why)
-commands-refused g nodes ds number why = (
-  λ e. refused-found (next_command g nodes) next_number [] ds number why (sym (commands-all_read g nodes [] ds) ∙ e),
-  λ r. commands-all_read g nodes [] ds ∙ refused-is (next_command g nodes) next_number [] ds number why r,
-)
-
-pub commands-accepted : (g : List Decl) (nodes : ℕ) (ds : List Data) (all : List Command) → (commands_read g nodes [] ds ≡ Ok all ↔ AreCommands g nodes [] ds all)
-commands-accepted g nodes ds all = (
-  λ e. accepted-found (next_command g nodes) next_number [] ds all (sym (commands-all_read g nodes [] ds) ∙ e),
-  λ r. commands-all_read g nodes [] ds ∙ accepted-is (next_command g nodes) next_number [] ds all r,
 )

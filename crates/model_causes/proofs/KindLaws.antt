@@ -9,7 +9,8 @@ use Rattle.model_graph.specs.Graph.{Kind, OrSet, GSet, Counter, MaxReg, Union, P
 use Rattle.model_readings.specs.Graph.{Form, orset, gset, counter, maxreg, union, product, intersection, map, filter, fold, place_of, known, set_checked, function_named, inputs_read, input_read, function_read, pair_read, applied_read, kind_read}
 use Rattle.model_readings.specs.declared.graph_why.GraphWhy.{GraphWhy}
 use Rattle.model_readings.specs.declared.graph_why.GraphWhy.TheVariants as why
-use Rattle.model_causes.specs.Named.{IsDeclared, IsNamed, IsStored}
+use Rattle.model_scripts.specs.Needs.{IsDeclared}
+use Rattle.model_causes.specs.Named.{IsNamed, IsStored}
 use Rattle.model_causes.specs.Declaration.{Takes, AreDeclared, IsUndeclared, AreSets, IsNoSet, HasFunction}
 use Rattle.model_causes.proofs.NamedLaws.{PlaceAnswer, absent, present, place-answer, named-declared, named-same, FunctionAnswer, lacking, stored_as, function-answer}
 

@@ -6,5 +6,4 @@ mod Failing
 mod NamedLaws
 mod KindLaws
 mod DeclarationLaws
-mod WordLaws
-mod CommandLaws
+mod MergeLaws

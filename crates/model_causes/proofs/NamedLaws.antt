@@ -10,7 +10,8 @@ use Rattle.std.proofs.lemmas.Slice.Eq.{bytes_eq-Decides}
 use Rattle.model_graph.specs.Graph.{Decl, no_decl, decl_at}
 use Rattle.model_readings.specs.Graph.{place_of, stored, function_named}
 use Rattle.model_readings.proofs.Names.{none_before}
-use Rattle.model_causes.specs.Named.{IsDeclared, IsNamed, IsStored}
+use Rattle.model_scripts.specs.Needs.{IsDeclared}
+use Rattle.model_causes.specs.Named.{IsNamed, IsStored}
 
 -- the first element that passes, and where it stands
 pub record IsFirst {X : Type 0} (p : X → Bool) (xs : List X) (i : ℕ) : Type 0 where

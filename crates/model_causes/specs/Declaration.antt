@@ -5,7 +5,8 @@ use Rattle.model_graph.specs.Graph.{Decl, is_set}
 use Rattle.model_readings.specs.Graph.{Form, orset, gset, counter, maxreg, union, product, intersection, map, filter, fold}
 use Rattle.model_readings.specs.declared.graph_why.GraphWhy.{GraphWhy}
 use Rattle.model_readings.specs.declared.graph_why.GraphWhy.TheVariants as why
-use Rattle.model_causes.specs.Named.{IsDeclared, IsNamed, IsStored}
+use Rattle.model_scripts.specs.Needs.{IsDeclared}
+use Rattle.model_causes.specs.Named.{IsNamed, IsStored}
 
 -- the form takes the variable of this name as an input
 abbrev pub Takes : Form → List ℕ → Type 0

@@ -1,13 +1,10 @@
 -- Reading items one after the other, each against those read before it, up to the first that is refused.
-use Rattle.std.specs.Prelude.{◌≡◌, ℕ, ◌+◌, List, [], ◌∷◌, ◌++◌, length, Result, Ok, Err}
+use Rattle.std.specs.Prelude.{◌≡◌, ℕ, List, [], ◌∷◌, ◌++◌, length, Result, Ok, Err}
 use Rattle.serde_json.specs.Data.{Data}
 use Rattle.model_functions.specs.Library.{Library}
 use Rattle.model_graph.specs.Graph.{Decl}
-use Rattle.model_world.specs.Command.{Command}
 use Rattle.model_readings.specs.Graph as graph
-use Rattle.model_readings.specs.Script as script
 use Rattle.model_readings.specs.declared.graph_why.GraphWhy.{GraphWhy}
-use Rattle.model_readings.specs.declared.script_why.ScriptWhy.{ScriptWhy}
 
 -- what these items are stands behind those before them, each accepted where it stands
 pub data AreRead {D A E : Type 0} (read : List A → D → Result A E) : List A → List D → List A → Type 0 where
@@ -32,18 +29,3 @@ AreDecls lib = AreRead (graph.next_read lib)
 -- a graph is refused at a declaration; the first one is number 0
 abbrev pub IsRefusedDecl : Library → List Decl → List Data → ℕ → GraphWhy → Type 0
 IsRefusedDecl lib = IsRefused (graph.next_read lib) length
-
--- the number of the command behind these; the first command of a script is number 1
-abbrev pub next_number : List Command → ℕ
-next_number before = length before + 1
-
-abbrev pub next_command : List Decl → ℕ → List Command → Data → Result Command ScriptWhy
-next_command g nodes before d = script.next_read g nodes (next_number before) d
-
--- the commands of these trees
-abbrev pub AreCommands : List Decl → ℕ → List Command → List Data → List Command → Type 0
-AreCommands g nodes = AreRead (next_command g nodes)
-
--- a script is refused at a command
-abbrev pub IsRefusedCommand : List Decl → ℕ → List Command → List Data → ℕ → ScriptWhy → Type 0
-IsRefusedCommand g nodes = IsRefused (next_command g nodes) next_number

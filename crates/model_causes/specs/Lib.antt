@@ -2,4 +2,3 @@ pub mod Told
 pub mod First
 pub mod Named
 pub mod Declaration
-pub mod Word

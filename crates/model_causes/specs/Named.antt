@@ -2,13 +2,6 @@
 use Rattle.std.specs.Prelude.{◌≡◌, ℕ, ◌≤◌, List, Some, slice_get}
 use Rattle.model_graph.specs.Graph.{Decl}
 
--- one of the declarations has the name
-pub record IsDeclared (g : List Decl) (name : List ℕ) : Type 0 where
-  pub place : ℕ
-  pub decl : Decl
-  pub at : slice_get g place ≡ Some decl
-  pub name_is : decl.name ≡ name
-
 -- this is the first declaration that has the name
 pub record IsNamed (g : List Decl) (name : List ℕ) (decl : Decl) : Type 0 where
   pub place : ℕ

@@ -1,6 +1,6 @@
 //! Why one declaration is refused behind those before it: a table of the checks in their order. Each line has as premises that the checks above it pass.
 
-ghost use Rattle.std.specs.Prelude.{◌≡◌, ◌↔◌, ◌<◌, ◌≤◌, ℕ, List, length, IsTrue, IsFalse, None, Some, Ok, Err};
+ghost use Rattle.std.specs.Prelude.{◌≡◌, ◌↔◌, ◌<◌, ◌≤◌, List, length, IsTrue, IsFalse, None, Some, Ok, Err};
 ghost use Rattle.serde_json.specs.Data.{Data};
 ghost use Rattle.model_functions.specs.Library.{Library};
 ghost use Rattle.model_graph.specs.Graph.{Decl, Kind};
@@ -9,7 +9,7 @@ ghost use Rattle.lasp_value.specs.Name.{is_name};
 ghost use Rattle.model_readings.specs.Graph.{Written, written_of, kind_read, declaration, decl_read, next_read};
 ghost use Rattle.model_readings.specs.declared.graph_why.GraphWhy.{GraphWhy};
 ghost use Rattle.model_readings.specs.declared.graph_why.GraphWhy.TheVariants as why;
-ghost use Rattle.model_causes.specs.Named.{IsDeclared};
+ghost use Rattle.model_scripts.specs.Needs.{IsDeclared};
 ghost use Rattle.model_causes.specs.Declaration.{Takes, AreDeclared, IsUndeclared, AreSets, IsNoSet, HasFunction, IsDeclarationCause};
 
 /// The form, the name, the inputs, the function and the width, in this order.

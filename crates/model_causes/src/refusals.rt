@@ -1,19 +1,15 @@
-//! Graphs and scripts are refused exactly at the first of their items that is refused.
+//! Graphs are refused exactly at the first of their declarations that is refused.
 
-ghost use Rattle.std.specs.Prelude.{◌≡◌, ◌↔◌, ℕ, List, [], ◌∷◌, None, Some, Ok, Err};
+ghost use Rattle.std.specs.Prelude.{◌≡◌, ◌↔◌, ℕ, List, [], None, Some, Ok, Err};
 ghost use Rattle.serde_json.specs.Data.{Data, Items};
 ghost use Rattle.serde_json.specs.Find.{as_array};
 ghost use Rattle.model_functions.specs.Library.{Library};
 ghost use Rattle.model_graph.specs.Graph.{Decl};
-ghost use Rattle.model_world.specs.Command.{Command, Script};
 ghost use Rattle.model_readings.specs.Tree.{json_of, list_of};
 ghost use Rattle.model_readings.specs.Graph.{graph_of, decls_read};
-ghost use Rattle.model_readings.specs.Script.{script_of, nodes_of, script_from, commands_read};
 ghost use Rattle.model_readings.specs.declared.graph_why.GraphWhy.{GraphWhy};
 ghost use Rattle.model_readings.specs.declared.graph_why.GraphWhy.TheVariants as graph_why;
-ghost use Rattle.model_readings.specs.declared.script_why.ScriptWhy.{ScriptWhy};
-ghost use Rattle.model_readings.specs.declared.script_why.ScriptWhy.TheVariants as script_why;
-ghost use Rattle.model_causes.specs.First.{AreDecls, IsRefusedDecl, AreCommands, IsRefusedCommand};
+ghost use Rattle.model_causes.specs.First.{AreDecls, IsRefusedDecl};
 
 /// The bytes of a graph are refused exactly at the first declaration that is refused behind those before it, and accepted exactly where each is accepted.
 pub fn graphs_are_refused_at_their_first_refusal()
@@ -23,20 +19,4 @@ pub fn graphs_are_refused_at_their_first_refusal()
         → graph_of lib bytes ≡ decls_read lib [] (list_of items) }
     ensures refused { (lib : Library) (ds : List Data) (number : ℕ) (why : GraphWhy) → (decls_read lib [] ds ≡ Err (number, why) ↔ IsRefusedDecl lib [] ds number why) }
     ensures accepted { (lib : Library) (ds : List Data) (all : List Decl) → (decls_read lib [] ds ≡ Ok all ↔ AreDecls lib [] ds all) }
-{}
-
-/// The commands of a script are refused exactly at the first command that is refused behind those before it, and accepted exactly where each is accepted.
-pub fn scripts_are_refused_at_their_first_refusal()
-    ensures not_json { (g : List Decl) (bytes : List ℕ) → json_of bytes ≡ None → script_of g bytes ≡ Err (0, script_why.NotJson) }
-    ensures not_array { (g : List Decl) (bytes : List ℕ) (tree : Data) → json_of bytes ≡ Some tree → as_array tree ≡ None → script_of g bytes ≡ Err (0, script_why.Shape) }
-    ensures empty { (g : List Decl) (bytes : List ℕ) (tree : Data) (items : Items) → json_of bytes ≡ Some tree → as_array tree ≡ Some items → list_of items ≡ []
-        → script_of g bytes ≡ Err (0, script_why.Shape) }
-    ensures no_nodes { (g : List Decl) (bytes : List ℕ) (tree : Data) (items : Items) (d : Data) (ds : List Data) → json_of bytes ≡ Some tree → as_array tree ≡ Some items → list_of items ≡ d ∷ ds
-        → nodes_of d ≡ None → script_of g bytes ≡ Err (0, script_why.Shape) }
-    ensures command_refused { (g : List Decl) (bytes : List ℕ) (tree : Data) (items : Items) (d : Data) (ds : List Data) (nodes number : ℕ) (why : ScriptWhy) → json_of bytes ≡ Some tree → as_array tree ≡ Some items → list_of items ≡ d ∷ ds
-        → nodes_of d ≡ Some nodes → commands_read g nodes [] ds ≡ Err (number, why) → script_of g bytes ≡ Err (number, why) }
-    ensures commands_accepted { (g : List Decl) (bytes : List ℕ) (tree : Data) (items : Items) (d : Data) (ds : List Data) (nodes : ℕ) (all : List Command) → json_of bytes ≡ Some tree → as_array tree ≡ Some items → list_of items ≡ d ∷ ds
-        → nodes_of d ≡ Some nodes → commands_read g nodes [] ds ≡ Ok all → script_of g bytes ≡ Ok (script_from nodes all) }
-    ensures refused { (g : List Decl) (nodes : ℕ) (ds : List Data) (number : ℕ) (why : ScriptWhy) → (commands_read g nodes [] ds ≡ Err (number, why) ↔ IsRefusedCommand g nodes [] ds number why) }
-    ensures accepted { (g : List Decl) (nodes : ℕ) (ds : List Data) (all : List Command) → (commands_read g nodes [] ds ≡ Ok all ↔ AreCommands g nodes [] ds all) }
 {}

@@ -1,2 +1,5 @@
 pub mod PlanLaws
 pub mod AnswerLaws
+pub mod MergeLaws
+pub mod FormLaws
+pub mod ExampleLaws

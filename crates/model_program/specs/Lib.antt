@@ -3,4 +3,7 @@ pub mod Follows
 pub mod Line
 pub mod Ends
 pub mod Check
+pub mod Merge
 pub mod Program
+pub mod Listed
+pub mod Example

@@ -1,24 +1,28 @@
 -- The program: which plan its words stand for.
-use Rattle.std.specs.Prelude.{ℕ, List, codes, length, if◌then◌else◌, ◌&&◌, ◌==◌, Ok, Err}
+use Rattle.std.specs.Prelude.{ℕ, ◌+◌, ◌-◌, List, [], ◌∷◌, codes, length, if◌then◌else◌, ◌&&◌, ◌==◌, nat_lt, nat_le, Option, Some, None, Ok, Err}
 use Rattle.std.specs.Str.{bytes_eq}
 use Rattle.model_functions.specs.Library.{Library}
 use Rattle.model_graph.specs.Graph.{Decl, name_at}
-use Rattle.model_graph.specs.Chain.{◌>>=◌, refusing}
+use Rattle.model_graph.specs.Chain.{◌>>=◌, check, refusing}
+use Rattle.model_messages.specs.Spelling.{spelled}
 use Rattle.model_world.specs.Command.{Script}
-use Rattle.model_world.specs.World.{Run, ended}
+use Rattle.model_world.specs.World.{Run, ended, message_at, peer_at}
 use Rattle.model_world.specs.Report.{report_of}
 use Rattle.model_world.specs.declared.stop.Stop.{Stop}
 use Rattle.model_world.specs.declared.stop.Stop.TheVariants as stop
 use Rattle.model_readings.specs.Graph.{graph_of}
-use Rattle.model_readings.specs.Script.{script_of}
 use Rattle.model_readings.specs.declared.graph_why.GraphWhy.{GraphWhy}
-use Rattle.model_readings.specs.declared.script_why.ScriptWhy.{ScriptWhy}
+use Rattle.model_scripts.specs.Progress.{grown}
+use Rattle.model_scripts.specs.Script.{script_of}
+use Rattle.model_scripts.specs.declared.script_why.ScriptWhy.{ScriptWhy}
+use Rattle.model_scripts.specs.declared.script_why.ScriptWhy.TheVariants.{NoSuchNode}
 use Rattle.model_program.specs.Check.{check_text}
+use Rattle.model_program.specs.Merge.{merging_files}
 use Rattle.model_program.specs.Plan.{Answer, Plan, Says, checked, reading, word_at}
 use Rattle.model_program.specs.declared.refusal.Refusal.{Refusal}
 use Rattle.model_program.specs.declared.refusal.Refusal.TheVariants as refusal
 use Rattle.model_program.specs.declared.form.Form.{Form}
-use Rattle.model_program.specs.declared.form.Form.TheVariants.{Plain, Check, Wrong}
+use Rattle.model_program.specs.declared.form.Form.TheVariants.{Plain, Check, Export, Merge, Wrong}
 
 abbrev pub graph_refused : ℕ × GraphWhy → Refusal
 graph_refused e = refusal.Graph e.0 e.1
@@ -26,11 +30,22 @@ graph_refused e = refusal.Graph e.0 e.1
 abbrev pub script_refused : ℕ × ScriptWhy → Refusal
 script_refused e = refusal.Script e.0 e.1
 
+-- a node's number in one digit, 0 to 7
+abbrev pub node_word : List ℕ → Option ℕ
+node_word (digit ∷ []) = if nat_le 48 digit && nat_lt digit 56 then Some (digit - 48) else None
+node_word _ = None
+
+abbrev pub export_form : Option ℕ → Form
+export_form (Some node) = Export node
+export_form None = Wrong
+
 -- which of the listed forms the words have
 unfoldable pub form : List (List ℕ) → Form
 form words =
     if length words == 3 && bytes_eq (word_at words 0) (codes "plain") then Plain else
     if length words == 2 && bytes_eq (word_at words 0) (codes "check") then Check else
+    if length words == 4 && bytes_eq (word_at words 0) (codes "export") then export_form (node_word (word_at words 3)) else
+    if nat_lt 2 (length words) && nat_lt (length words) 11 && bytes_eq (word_at words 0) (codes "merge") then Merge else
     Wrong
 
 -- the graph is the second word's file
@@ -38,8 +53,8 @@ abbrev pub opening : Library → (List Decl → Plan) → Plan
 opening lib next = reading 1 (λ bytes. checked graph_refused (graph_of lib bytes) next)
 
 -- the script is the third word's file, read against the graph
-abbrev pub scripting : List Decl → (Script → Plan) → Plan
-scripting g next = reading 2 (λ bytes. checked script_refused (script_of g bytes) next)
+abbrev pub scripting : Library → List Decl → (Script → Plan) → Plan
+scripting lib g next = reading 2 (λ bytes. checked script_refused (script_of lib g bytes) next)
 
 -- a stop as a refusal, which tells the variable by its name
 abbrev pub stopped : List Decl → Stop → Refusal
@@ -47,27 +62,51 @@ stopped g (stop.TooLarge command node x) = refusal.TooLarge command node (name_a
 stopped g (stop.NetworkFull command) = refusal.NetworkFull command
 stopped g (stop.NotReached command) = refusal.NotReached command
 
--- what is written of a run's last world
+-- what is written of a run's last world; a variable where it stops may be one that the script declares
 abbrev pub run_answer : (Run → List ℕ) → List Decl → Script → Answer
-run_answer output g script = refusing (stopped g) (ended g script) >>= (λ run. Ok (output run))
+run_answer output g script = refusing (stopped (grown g script.commands)) (ended g script) >>= (λ run. Ok (output run))
 
 -- script, run, and then a text of its last world
-abbrev pub running_script : (Run → List ℕ) → List Decl → Plan
-running_script output g = scripting g (λ script. Says (run_answer output g script))
+abbrev pub running_script : Library → (Run → List ℕ) → List Decl → Plan
+running_script lib output g = scripting lib g (λ script. Says (run_answer output g script))
 
 -- graph, script, run, and then a text of its last world
 abbrev pub running : Library → (Run → List ℕ) → Plan
-running lib output = opening lib (λ g. running_script output g)
+running lib output = opening lib (λ g. running_script lib output g)
 
 -- graph, and then what its variables are
 abbrev pub checking : Library → Plan
 checking lib = opening lib (λ g. Says (Ok (check_text g)))
 
-abbrev pub plan_of : Library → Form → Plan
-plan_of lib Plain = running lib report_of
-plan_of lib Check = checking lib
-plan_of lib Wrong = Says (Err refusal.Usage)
+-- the bytes of a node's message in the last world
+abbrev pub exported_bytes : ℕ → Run → List ℕ
+exported_bytes node run = spelled (message_at run.graph (peer_at run.peers node))
+
+-- a script without the node is refused behind its last command
+abbrev pub export_answer : ℕ → List Decl → Script → Answer
+export_answer node g script = do
+  _ ← check (nat_lt node script.nodes) (refusal.Script (length script.commands + 1) NoSuchNode)
+  run_answer (exported_bytes node) g script
+
+-- script, whether it has the node, run, and then the node's message
+abbrev pub exporting_script : Library → ℕ → List Decl → Plan
+exporting_script lib node g = scripting lib g (λ script. Says (export_answer node g script))
+
+-- graph, script, whether it has the node, run, and then the node's message
+abbrev pub exporting : Library → ℕ → Plan
+exporting lib node = opening lib (λ g. exporting_script lib node g)
+
+-- graph, the first file, so many more, and then what the variables show of them
+abbrev pub merging : Library → ℕ → Plan
+merging lib more = opening lib (λ g. merging_files g more)
+
+abbrev pub plan_of : Library → List (List ℕ) → Form → Plan
+plan_of lib words Plain = running lib report_of
+plan_of lib words Check = checking lib
+plan_of lib words (Export node) = exporting lib node
+plan_of lib words Merge = merging lib (length words - 3)
+plan_of lib words Wrong = Says (Err refusal.Usage)
 
 -- what the program does with its words, the library being given
 abbrev pub plan : Library → List (List ℕ) → Plan
-plan lib words = plan_of lib (form words)
+plan lib words = plan_of lib words (form words)

@@ -7,6 +7,10 @@ pub enum Form {
     Plain,
     /// `check GRAPH`
     Check,
+    /// `export GRAPH SCRIPT NODE`, NODE being 0 to 7
+    Export(u8),
+    /// `merge GRAPH FILE ..`, of 1 to 8 files
+    Merge,
     /// Any other words.
     Wrong,
 }

@@ -12,8 +12,8 @@ returns-clause-graph_too_long c = λ lib content words graph is told long.
     told-form lib content words Check is ∙ opening-long lib content words (λ g. Says (Ok (check_text g))) graph told long
 
 pub returns-clause-graph_refused : goal.returns-clause-graph_refused
-returns-clause-graph_refused c = λ lib content words graph number why is told short bad.
-    told-form lib content words Check is ∙ opening-refused lib content words (λ g. Says (Ok (check_text g))) graph number why told short bad
+returns-clause-graph_refused c = λ lib content words graph number why is file bad.
+    told-form lib content words Check is ∙ opening-refused lib content words (λ g. Says (Ok (check_text g))) graph number why file bad
 
 pub returns-clause-checked : goal.returns-clause-checked
 returns-clause-checked c = λ lib content words g is graph.
