@@ -1,5 +1,6 @@
 -- States and operations as plain data.
-use Rattle.std.specs.Prelude.{◌≡◌, ℕ, ℤ, pos, ◌<◌, ◌⊎◌, List, length, sum, if◌then◌else◌}
+use Rattle.std.specs.Prelude.{◌≡◌, ◌≢◌, ℕ, ℤ, pos, ◌<◌, ◌⊎◌, List, length, sum, if◌then◌else◌}
+use Rattle.std.specs.Arc.{arc_value}
 use Rattle.std.specs.Fmt.{decimal, signed_decimal}
 use Rattle.model_values.specs.Text.{shown_values}
 use Rattle.model_sets.specs.Rows.{visible}
@@ -67,11 +68,13 @@ op_of (op.Remove v) = plain.Remove (val_of v)
 op_of (op.Insert v) = plain.Insert (val_of v)
 op_of (op.Inc by) = plain.Inc by
 op_of (op.Max n) = plain.Max n
+op_of (op.Join s) = plain.Join (content_of (arc_value s))
 
--- the operation is one of the shape; a counter has a count for the replica
+-- the operation is one of the shape; a counter has a count for the replica, and a state that is joined in is one of this shape and no fold
 abbrev pub IsOpOf : Op → ℕ → Shape → Type 0
 IsOpOf (op.Add v) replica shape = shape ≡ set
 IsOpOf (op.Remove v) replica shape = shape ≡ set
 IsOpOf (op.Insert v) replica shape = shape ≡ grow
 IsOpOf (op.Inc by) replica shape = (nodes : ℕ) × (shape ≡ counter nodes) × (replica < nodes)
 IsOpOf (op.Max n) replica shape = shape ≡ register
+IsOpOf (op.Join s) replica shape = (shape_of (arc_value s) ≡ shape) × (shape ≢ fold)

@@ -1,6 +1,8 @@
 //! The operations on source variables.
 
+use super::state::State;
 use lasp_value::Value;
+use std::sync::Arc;
 
 /// What an update does to its variable.
 #[derive(Drop)]
@@ -15,4 +17,6 @@ pub enum Op {
     Inc(u32),
     /// Raises a register to at least this number.
     Max(i64),
+    /// Joins in what a state of the variable held before; of no fold.
+    Join(Arc<State>),
 }

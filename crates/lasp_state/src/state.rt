@@ -178,6 +178,7 @@ impl State {
             (State::Max(_), Op::Max(number)) => Ok(State::Max(MaxReg {
                 value: Some(*number),
             })),
+            (_, Op::Join(state)) => state.try_clone(),
             (_, _) => unreachable!(),
         }
     }
