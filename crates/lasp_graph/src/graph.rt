@@ -1,6 +1,6 @@
 //! The graph: declarations in order, found by their names.
 
-ghost use Rattle.std.specs.Prelude.{◌≡◌, ◌<◌, ◌++◌, ◌∷◌, [], length, slice_get, Some, IfSome, OnOk, OnErr};
+ghost use Rattle.std.specs.Prelude.{◌≡◌, ◌<◌, ◌++◌, ◌∷◌, [], length, slice_get, Some, IfOk, IfSome, OnOk, OnErr};
 ghost use Rattle.model_graph.specs.Graph.{kind_at};
 ghost use Rattle.model_graph.specs.Lawful.{variable_limit, width_at, width_of, widths};
 ghost use Rattle.model_readings.specs.Graph.{place_of};
@@ -124,5 +124,27 @@ impl Graph {
         let width = self.width_of(&decl.kind) as u8;
         self.decls.insert(name, Declared { decl, width })?;
         Ok(())
+    }
+
+    /// The graph with the declaration appended. This one stays as it is, so each of its declarations is copied.
+    pub fn with(&self, alloc: Global, decl: &Decl) -> Result<Graph, AllocError>
+        requires room { length self.now < variable_limit }
+        requires next { IsNext self.now (decl_of decl.now) }
+        ensures { IfOk result (λ g. g ≡ self.now ++ decl_of decl.now ∷ []) }
+    {
+        let mut graph = self.try_clone(alloc)?;
+        graph.push(alloc, decl.try_clone()?)?;
+        Ok(graph)
+    }
+
+    /// An equal graph.
+    pub fn try_clone(&self, alloc: Global) -> Result<Graph, AllocError>
+        ensures { IfOk result (λ g. g ≡ self.now) }
+    {
+        let mut graph = Graph::empty(alloc);
+        for var in 0..self.len() {
+            graph.push(alloc, self.at(var).try_clone()?)?;
+        }
+        Ok(graph)
     }
 }

@@ -31,7 +31,7 @@ pub struct PredRef {
 }
 
 /// A lift of the library: its place there, and the operation that stands at it.
-#[derive(Drop)]
+#[derive(Clone, Copy, Drop)]
 pub struct LiftRef {
     /// The place, counted from 0.
     pub place: u32,
@@ -75,6 +75,30 @@ pub enum Kind {
     Fold(u8, FoldOp, LiftRef),
 }
 
+impl MapRef {
+    /// The same function, with a copy of its operations.
+    pub fn try_clone(&self) -> Result<MapRef, AllocError>
+        ensures { IfOk result (λ f. f ≡ self.now) }
+    {
+        Ok(MapRef {
+            place: self.place,
+            ops: self.ops.try_clone()?,
+        })
+    }
+}
+
+impl PredRef {
+    /// The same predicate, with a copy of its operations.
+    pub fn try_clone(&self) -> Result<PredRef, AllocError>
+        ensures { IfOk result (λ p. p ≡ self.now) }
+    {
+        Ok(PredRef {
+            place: self.place,
+            ops: self.ops.try_clone()?,
+        })
+    }
+}
+
 impl Kind {
     /// Whether the variable's content is a set with tokens, which may be an input.
     pub fn is_set(&self) -> bool
@@ -108,6 +132,24 @@ impl Kind {
             Kind::Filter(x, _) => Some((*x, *x)),
             Kind::Fold(x, _, _) => Some((*x, *x)),
             _ => None,
+        }
+    }
+
+    /// An equal kind, with a copy of the operations of its function.
+    pub fn try_clone(&self) -> Result<Kind, AllocError>
+        ensures { IfOk result (λ k. kind_of k ≡ kind_of self.now) }
+    {
+        match self {
+            Kind::OrSet => Ok(Kind::OrSet),
+            Kind::GSet => Ok(Kind::GSet),
+            Kind::Counter => Ok(Kind::Counter),
+            Kind::MaxReg => Ok(Kind::MaxReg),
+            Kind::Union(x, y) => Ok(Kind::Union(*x, *y)),
+            Kind::Product(x, y) => Ok(Kind::Product(*x, *y)),
+            Kind::Intersection(x, y) => Ok(Kind::Intersection(*x, *y)),
+            Kind::Map(x, f) => Ok(Kind::Map(*x, f.try_clone()?)),
+            Kind::Filter(x, p) => Ok(Kind::Filter(*x, p.try_clone()?)),
+            Kind::Fold(x, op, l) => Ok(Kind::Fold(*x, *op, *l)),
         }
     }
 

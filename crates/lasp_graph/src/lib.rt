@@ -29,3 +29,4 @@ pub use read::{read_decl, read_graph};
 pub use refused::{DeclRefused, GraphRefused};
 pub use states::States;
 pub use tree::{has_items, is_word_at, number_at, text_at};
+pub use written::is_declaration;

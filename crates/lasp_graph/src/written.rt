@@ -1,6 +1,6 @@
 //! The forms of a declaration: what stands where, before any name is looked up.
 
-ghost use Rattle.std.specs.Prelude.{◌≡◌, option_map, codes};
+ghost use Rattle.std.specs.Prelude.{◌≡◌, option_map, is_some, codes};
 ghost use Rattle.serde_json.specs.View.{view};
 ghost use Rattle.model_readings.specs.Tree.{text_at, two};
 ghost use Rattle.model_readings.specs.Graph.{form_of, written_of, source_form, names_of, modulo_by, modulo_of, fold_op_of, fold_form};
@@ -34,6 +34,13 @@ pub enum Form<'a> {
 pub struct Written<'a> {
     pub name: &'a str,
     pub form: Form<'a>,
+}
+
+/// Whether a tree has the form of a declaration, whatever its names name.
+pub fn is_declaration(j: &Json) -> bool
+    ensures { result ≡ is_some (written_of (view j.now)) }
+{
+    written_of(j).is_some()
 }
 
 /// The declaration that a tree is the form of.
