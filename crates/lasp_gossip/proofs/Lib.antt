@@ -1,1 +1,3 @@
 pub mod SpelledLaws
+pub mod ComposeLaws
+pub mod AbsorbLaws

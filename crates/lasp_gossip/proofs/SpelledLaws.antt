@@ -1,5 +1,5 @@
 -- The bytes of a message are the message.
-use Rattle.std.proofs.Common.{◌≡◌, ℕ, ◌+◌, ◌++◌, [], ◌∷◌, length, map, fold, List, Result, Ok, Err, refl, sym, ap, subst, ◌∙◌}
+use Rattle.std.proofs.Common.{◌≡◌, ◌≤◌, arith, ℕ, ◌+◌, ◌++◌, [], ◌∷◌, length, map, fold, List, Result, Ok, Err, refl, sym, ap, subst, ◌∙◌}
 use Rattle.model_messages.specs.Message.{Message}
 use Rattle.model_messages.specs.Spelling.{spelled}
 use Rattle.model_wire.specs.declared.wire_why.WireWhy.{WireWhy}
@@ -46,3 +46,17 @@ read_refused e = Err e
 
 pub not_refused : (m : Message) (e : ℕ × WireWhy) → read_ok m ≡ read_refused e → ⊥
 not_refused m e h = absurd cc
+
+-- ---- how many there are
+
+spelled_some : (m : Message) → 1 ≤ length (spelled m)
+unfolding spelled
+spelled_some m = omega arith
+
+few_from : (z : ℕ) (sent : List Message) → z + length sent ≤ fold (λ a b. a + b) z (map (λ (n : Message). length (spelled n)) sent)
+few_from z [] = omega arith
+few_from z (m ∷ sent) = omega (arith, spelled_some m, few_from (z + length (spelled m)) sent)
+
+-- each message has a byte at least
+pub few_sent : (sent : List Message) → length sent ≤ size_of sent
+few_sent sent = omega (arith, few_from 0 sent)

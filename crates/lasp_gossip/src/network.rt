@@ -76,9 +76,10 @@ impl Network {
         self.letters[number as usize].open(alloc)
     }
 
-    /// The number of messages that were sent.
+    /// The number of messages that were sent, at most the limit, since each has a byte at least.
     pub fn len(&self) -> u64
-        ensures { result ≡ length self.now.sent }
+        ensures exact { result ≡ length self.now.sent }
+        ensures few { length self.now.sent ≤ self.now.limit }
     {
         self.letters.len() as u64
     }

@@ -1,5 +1,7 @@
 //! How a network takes messages up to its limit, and gives back what was sent.
 
+mod exchange;
+
 use super::*;
 use lasp_state::print_state;
 use lasp_wire::{Message, decode};

@@ -1,6 +1,6 @@
 //! How many updates of each replica a message knows.
 
-ghost use Rattle.std.specs.Prelude.{◌≡◌, ◌<◌, ◌++◌, ◌∷◌, [], Some, OnOk, OnErr, length, slice_get};
+ghost use Rattle.std.specs.Prelude.{◌≡◌, ◌<◌, ◌++◌, ◌∷◌, [], Some, IfOk, OnOk, OnErr, length, slice_get};
 
 use std::alloc::{AllocError, Global};
 use std::marker::Model;
@@ -27,6 +27,15 @@ impl Counts {
         Counts {
             items: Vec::new(alloc),
         }
+    }
+
+    /// A copy of these counts.
+    pub fn from_slice(alloc: Global, items: &[u64]) -> Result<Counts, AllocError>
+        ensures { IfOk result (λ counts. counts ≡ items.now) }
+    {
+        let mut copy = Vec::new(alloc);
+        copy.extend_from_slice(items)?;
+        Ok(Counts::of(copy))
     }
 
     /// Takes a vector over, without a copy.

@@ -11,6 +11,7 @@ mod decoder;
 mod encoder;
 mod message;
 mod read;
+mod recall;
 mod refused;
 mod source;
 mod write;
@@ -20,6 +21,7 @@ pub use decoder::decode;
 pub use encoder::encode;
 pub use message::Message;
 pub use model_wire::WireWhy;
+pub use recall::recall_value;
 pub use refused::WireRefused;
 
 #[cfg(test)]

@@ -1,0 +1,33 @@
+//! What a replica sends.
+
+ghost use Rattle.std.specs.Prelude.{◌≡◌, IfOk, length};
+ghost use Rattle.model_messages.specs.Message.{message_of};
+ghost use Rattle.model_wire.specs.Lawful.{IsMessage};
+ghost use Rattle.lasp_graph.specs.States.{contents_of};
+ghost use Rattle.lasp_gossip.specs.Exchange.{AreOfKind};
+
+use lasp_graph::{Graph, States};
+use lasp_wire::{Counts, Message};
+use std::alloc::{AllocError, Global};
+
+/// The message of a replica with these states and counts: its sources in their order, each by its name and kind. It copies the names and the counts, and shares the states' rows.
+pub fn message_of(
+    alloc: Global,
+    g: &Graph,
+    sources: &States,
+    counts: &[u64],
+) -> Result<Message, AllocError>
+    requires lawful { IsMessage (message_of g.now (contents_of sources.now) counts.now) }
+    requires long { length sources.now ≡ length g.now }
+    requires kinds { AreOfKind (length counts.now) g.now sources.now }
+    ensures { IfOk result (λ m. m ≡ message_of g.now (contents_of sources.now) counts.now) }
+{
+    let mut m = Message::new(alloc, Counts::from_slice(alloc, counts)?);
+    for x in 0..g.len() {
+        let decl = g.at(x);
+        if decl.kind.is_source() {
+            m.push(&decl.name, sources.at(x))?;
+        }
+    }
+    Ok(m)
+}
