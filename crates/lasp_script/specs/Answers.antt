@@ -1,6 +1,6 @@
 -- That what a function returned is what reading says, unless memory ran out.
 use Rattle.std.specs.Prelude.{◌≡◌, ℕ, Result, Ok, Err}
-use Rattle.model_readings.specs.declared.script_why.ScriptWhy.{ScriptWhy}
+use Rattle.model_scripts.specs.declared.script_why.ScriptWhy.{ScriptWhy}
 use Rattle.lasp_script.specs.declared.refused.CommandRefused.{CommandRefused}
 use Rattle.lasp_script.specs.declared.refused.CommandRefused.TheVariants as command
 use Rattle.lasp_script.specs.declared.refused.ScriptRefused.{ScriptRefused}

@@ -1,6 +1,10 @@
 pub mod Command
 pub mod Coded
 pub mod Kept
-pub mod Source
+pub mod Kinds
 pub mod Word
+pub mod Made
+pub mod Updated
+pub mod Marks
+pub mod Progress
 pub mod Answers

@@ -1,42 +1,54 @@
-//! Reading a script: the tree of its bytes, the number of nodes, then command after command against the graph.
+//! Reading a script: the tree of its bytes, the number of nodes, then command after command against the graph so far.
 
-ghost use Rattle.std.specs.Prelude.{◌≡◌, ◌<◌, [], ◌∷◌, map, IfOk, OnOk};
+ghost use Rattle.std.specs.Prelude.{◌≡◌, [], ◌∷◌, map, IfOk};
 ghost use Rattle.serde_json.specs.View.{view};
-ghost use Rattle.model_readings.specs.Script.{command_limit, word_read, command_read, next_read, commands_read, parts_read, tree_read, script_of};
-ghost use Rattle.model_readings.specs.Lawful.{IsScript};
-ghost use Rattle.lasp_script.specs.Command.{command_of, commands_of};
-ghost use Rattle.lasp_script.specs.Word.{word_view};
+ghost use Rattle.model_readings.specs.Lawful.{IsGraph, FitsAll};
+ghost use Rattle.model_world.specs.Lawful.{IsLawful, IsWithinLimits};
+ghost use Rattle.model_scripts.specs.Progress.{opening, grown};
+ghost use Rattle.model_scripts.specs.Script.{next_read, commands_read, parts_read, tree_read, script_of};
+ghost use Rattle.lasp_graph.specs.Library.{library_of};
+ghost use Rattle.lasp_script.specs.Progress.{progress_over};
 ghost use Rattle.lasp_script.specs.Answers.{Answers, Gives};
 
-use super::command::Command;
-use super::place::read_place;
+use super::progress::Progress;
 use super::refused::{CommandRefused, ScriptRefused};
 use super::script::Script;
-use super::source::Source;
-use super::update::{read_change, read_raise, read_step};
-use super::word::{Word, nodes_of, word_of};
+use super::step::read_command;
+use super::word::{nodes_of, word_of};
+use lasp_fns::Library;
 use lasp_graph::Graph;
-use model_readings::ScriptWhy;
+use model_scripts::ScriptWhy;
 use serde_json::Value as Json;
 use std::alloc::Global;
 
-/// How many commands a script may have, with the one that tells the nodes.
-const COMMAND_LIMIT: u32 = 100_000;
-
-/// The script that the bytes of a file are against a graph, in one pass over its commands.
-pub fn read_script(alloc: Global, bytes: &[u8], g: &Graph) -> Result<Script, ScriptRefused>
-    ensures exact { Gives (λ s. s) result (script_of g.now bytes.now) }
-    ensures lawful { IfOk result (λ s. IsScript g.now s) }
+/// The script that the bytes of a file are against a graph and a library, in one pass over its commands. The graph is copied where commands declare variables, and only there.
+pub fn read_script(
+    alloc: Global,
+    bytes: &[u8],
+    g: &Graph,
+    lib: &Library,
+) -> Result<Script, ScriptRefused>
+    ensures exact { Gives (λ s. s) result (script_of (library_of lib.now) g.now bytes.now) }
+    ensures lawful { IfOk result (λ s. IsLawful g.now s) }
+    ensures limits { IfOk result (λ s. IsWithinLimits s) }
+    ensures graph { IfOk result (λ s. IsGraph (grown g.now s.commands)) }
+    ensures fits { FitsAll (library_of lib.now) g.now → IfOk result (λ s. FitsAll (library_of lib.now) (grown g.now s.commands)) }
 {
-    read_bytes(alloc, bytes, g)
+    g.recall();
+    read_bytes(alloc, bytes, g, lib)
 }
 
 #[tactic(auto, using(crate::proofs::Bytes::trees))]
-fn read_bytes(alloc: Global, bytes: &[u8], g: &Graph) -> Result<Script, ScriptRefused>
-    ensures { Gives (λ s. s) result (script_of g.now bytes.now) }
+fn read_bytes(
+    alloc: Global,
+    bytes: &[u8],
+    g: &Graph,
+    lib: &Library,
+) -> Result<Script, ScriptRefused>
+    ensures { Gives (λ s. s) result (script_of (library_of lib.now) g.now bytes.now) }
 {
     match Json::from_slice(alloc, bytes) {
-        Ok(tree) => read_tree(alloc, &tree, g),
+        Ok(tree) => read_tree(alloc, &tree, g, lib),
         Err(e) if e.is_memory() => Err(ScriptRefused::Memory),
         Err(_) => Err(ScriptRefused::At {
             number: 0,
@@ -45,12 +57,12 @@ fn read_bytes(alloc: Global, bytes: &[u8], g: &Graph) -> Result<Script, ScriptRe
     }
 }
 
-#[tactic(auto, using(lasp_graph::proofs::Items::lists), unfolding(model_readings::specs::Script::tree_read))]
-fn read_tree(alloc: Global, tree: &Json, g: &Graph) -> Result<Script, ScriptRefused>
-    ensures { Gives (λ s. s) result (tree_read g.now (view tree.now)) }
+#[tactic(auto, using(lasp_graph::proofs::Items::lists), unfolding(model_scripts::specs::Script::tree_read))]
+fn read_tree(alloc: Global, tree: &Json, g: &Graph, lib: &Library) -> Result<Script, ScriptRefused>
+    ensures { Gives (λ s. s) result (tree_read (library_of lib.now) g.now (view tree.now)) }
 {
     match tree.as_array() {
-        Some(items) => read_parts(alloc, items, g),
+        Some(items) => read_parts(alloc, items, g, lib),
         None => Err(ScriptRefused::At {
             number: 0,
             why: ScriptWhy::Shape,
@@ -58,12 +70,17 @@ fn read_tree(alloc: Global, tree: &Json, g: &Graph) -> Result<Script, ScriptRefu
     }
 }
 
-#[tactic(auto, unfolding(model_readings::specs::Script::parts_read))]
-fn read_parts(alloc: Global, items: &[Json], g: &Graph) -> Result<Script, ScriptRefused>
-    ensures { Gives (λ s. s) result (parts_read g.now (map view items.now)) }
+#[tactic(auto, unfolding(model_scripts::specs::Script::parts_read))]
+fn read_parts(
+    alloc: Global,
+    items: &[Json],
+    g: &Graph,
+    lib: &Library,
+) -> Result<Script, ScriptRefused>
+    ensures { Gives (λ s. s) result (parts_read (library_of lib.now) g.now (map view items.now)) }
 {
     match items.split_first() {
-        Some((first, rest)) => read_after(alloc, first, rest, g),
+        Some((first, rest)) => read_after(alloc, first, rest, g, lib),
         None => Err(ScriptRefused::At {
             number: 0,
             why: ScriptWhy::Shape,
@@ -72,14 +89,15 @@ fn read_parts(alloc: Global, items: &[Json], g: &Graph) -> Result<Script, Script
 }
 
 /// Reads the commands behind the first, which tells the nodes.
-#[tactic(auto, unfolding(model_readings::specs::Script::parts_read))]
+#[tactic(auto, unfolding(model_scripts::specs::Script::parts_read))]
 fn read_after(
     alloc: Global,
     first: &Json,
     rest: &[Json],
     g: &Graph,
+    lib: &Library,
 ) -> Result<Script, ScriptRefused>
-    ensures { Gives (λ s. s) result (parts_read g.now (view first.now ∷ map view rest.now)) }
+    ensures { Gives (λ s. s) result (parts_read (library_of lib.now) g.now (view first.now ∷ map view rest.now)) }
 {
     let Some(nodes) = nodes_of(first) else {
         return Err(ScriptRefused::At {
@@ -87,85 +105,46 @@ fn read_after(
             why: ScriptWhy::Shape,
         });
     };
-    let commands = read_commands(alloc, rest, g, nodes)?;
-    Ok(Script::of(nodes, commands))
+    let last = read_commands(alloc, rest, g, lib, nodes)?;
+    Ok(Script::of(nodes, last.into_commands()))
 }
 
 fn read_commands(
     alloc: Global,
     items: &[Json],
     g: &Graph,
+    lib: &Library,
     nodes: u8,
-) -> Result<Vec<Command>, ScriptRefused>
-    ensures { Gives (λ v. commands_of v.items) result (commands_read g.now nodes [] (map view items.now)) }
+) -> Result<Progress, ScriptRefused>
+    ensures { Gives (λ p. progress_over g.now p) result (commands_read (library_of lib.now) nodes (opening g.now) (map view items.now)) }
 {
-    let mut commands = Vec::new(alloc);
+    let mut progress = Progress::new(alloc);
     for j in items {
-        let number = commands.len() as u32 + 1;
-        match read_next(alloc, j, g, nodes, number) {
-            Ok(command) => commands.push(command)?,
+        let number = progress.number();
+        match read_next(alloc, j, g, lib, nodes, progress) {
+            Ok(next) => progress = next,
             Err(refused) => return Err(refused.at(number)),
         }
     }
-    Ok(commands)
+    Ok(progress)
 }
 
-#[tactic(auto, unfolding(model_readings::specs::Script::next_read))]
+/// Reads one command behind those before it.
 fn read_next(
     alloc: Global,
     j: &Json,
     g: &Graph,
+    lib: &Library,
     nodes: u8,
-    number: u32,
-) -> Result<Command, CommandRefused>
-    ensures exact { Answers command_of result (next_read g.now nodes number (view j.now)) }
-    ensures room { OnOk result (number < command_limit) }
+    before: Progress,
+) -> Result<Progress, CommandRefused>
+    ensures { Answers (λ p. progress_over g.now p) result (next_read (library_of lib.now) nodes (progress_over g.now before) (view j.now)) }
 {
-    let command = read_command(alloc, j, g, nodes)?;
-    if number < COMMAND_LIMIT {
-        Ok(command)
-    } else {
-        Err(CommandRefused::Because(ScriptWhy::TooMany))
-    }
-}
-
-#[tactic(auto, unfolding(model_readings::specs::Script::command_read))]
-fn read_command(alloc: Global, j: &Json, g: &Graph, nodes: u8) -> Result<Command, CommandRefused>
-    ensures { Answers command_of result (command_read g.now nodes (view j.now)) }
-{
-    match word_of(j) {
-        Some(word) => read_word(alloc, &word, g, nodes),
-        None => Err(CommandRefused::Because(ScriptWhy::Shape)),
-    }
-}
-
-fn read_word(alloc: Global, word: &Word, g: &Graph, nodes: u8) -> Result<Command, CommandRefused>
-    ensures { Answers command_of result (word_read g.now nodes (word_view word.now)) }
-{
-    match word {
-        Word::Add(target, value) => {
-            let (node, var, value) = read_change(alloc, Source::OrSet, target, value, g, nodes)?;
-            Ok(Command::Add(node, var, value))
-        }
-        Word::Remove(target, value) => {
-            let (node, var, value) = read_change(alloc, Source::OrSet, target, value, g, nodes)?;
-            Ok(Command::Remove(node, var, value))
-        }
-        Word::Insert(target, value) => {
-            let (node, var, value) = read_change(alloc, Source::GSet, target, value, g, nodes)?;
-            Ok(Command::Insert(node, var, value))
-        }
-        Word::Inc(target, count) => {
-            let (node, var, count) = read_step(target, count, g, nodes)?;
-            Ok(Command::Inc(node, var, count))
-        }
-        Word::Max(target, top) => {
-            let (node, var, top) = read_raise(target, top, g, nodes)?;
-            Ok(Command::Max(node, var, top))
-        }
-        Word::Print(target) => {
-            let (node, var) = read_place(target, g, nodes)?;
-            Ok(Command::Print(node, var))
-        }
+    let Some(word) = word_of(j) else {
+        return Err(CommandRefused::Because(ScriptWhy::Shape));
+    };
+    match read_command(alloc, &word, g, lib, nodes, &before) {
+        Ok(command) => Ok(before.with(alloc, command, word.new_mark(), g, nodes)?),
+        Err(refused) => Err(refused),
     }
 }

@@ -5,7 +5,7 @@ ghost use Rattle.lasp_script.specs.declared.refused.CommandRefused.TheVariants a
 ghost use Rattle.lasp_script.specs.declared.refused.ScriptRefused.TheVariants as script_refused;
 ghost use Rattle.lasp_script.specs.Answers.{refused_at};
 
-use model_readings::ScriptWhy;
+use model_scripts::ScriptWhy;
 use std::alloc::{AllocError, AllocFailed};
 use thiserror::Error;
 
@@ -48,6 +48,14 @@ impl From<ScriptWhy> for CommandRefused {
 
     fn from(why: ScriptWhy) -> CommandRefused {
         CommandRefused::Because(why)
+    }
+}
+
+impl From<AllocError> for CommandRefused {
+    ghost from_gives = { λ _ e. e ≡ command_refused.Memory };
+
+    fn from(_e: AllocError) -> CommandRefused {
+        CommandRefused::Memory
     }
 }
 

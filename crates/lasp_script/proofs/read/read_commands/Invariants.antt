@@ -1,11 +1,11 @@
-use Rattle.std.proofs.Common.{◌≡◌, ◌<◌, [], length, map, drop}
+use Rattle.std.proofs.Common.{◌≡◌, map, drop}
 use Rattle.serde_json.specs.View.{view}
-use Rattle.model_readings.specs.Script.{command_limit, commands_read}
-use Rattle.lasp_script.specs.Command.{commands_of}
+use Rattle.model_scripts.specs.Progress.{opening}
+use Rattle.model_scripts.specs.Script.{commands_read}
+use Rattle.lasp_graph.specs.Library.{library_of}
+use Rattle.lasp_script.specs.Progress.{progress_over}
 use Rattle.lasp_script.proofs.read.read_commands.Given as goal
 
 abbrev pub invariant-loop-j : goal.invariant-loop-j
-invariant-loop-j l = record {
-  read : commands_read l.g l.nodes (commands_of l.commands.items) (map view (drop l.j-index l.items)) ≡ commands_read l.g l.nodes [] (map view l.items);
-  few : length l.commands.items < command_limit;
-}
+invariant-loop-j g l =
+    commands_read (library_of l.lib) l.nodes (progress_over l.g l.progress) (map view (drop l.j-index l.items)) ≡ commands_read (library_of l.lib) l.nodes (opening l.g) (map view l.items)
