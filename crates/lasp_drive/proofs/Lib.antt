@@ -1,0 +1,5 @@
+pub mod NodeLaws
+pub mod DriverLaws
+pub mod SyncLaws
+pub mod PointLaws
+pub mod PlainLaws

@@ -1,0 +1,18 @@
+use Rattle.std.proofs.Common.{rules, ◌≡◌, ◌++◌, ◌∷◌, [], length, subst, sym, refl}
+use Rattle.std.specs.Prelude.{List}
+use Rattle.std.specs.Arc.{arc_value}
+use Rattle.model_graph.specs.Graph.{Decl}
+use Rattle.lasp_graph.specs.Decl.{decl_of}
+use Rattle.lasp_drive.specs.Node.{AreNodes}
+use Rattle.lasp_drive.proofs.PointLaws.{extended-ready}
+use Rattle.lasp_drive.proofs.driver.Driver.extend.Goals as goal
+
+pub extend_all-requires-clause-nodes : goal.extend_all-requires-clause-nodes
+extend_all-requires-clause-nodes g c =
+    subst (λ (h : List Decl). AreNodes g.N.Node.decls g.N.Node.number g.N.Node.among h (length c.args.self.now.nodes.items) c.args.self.now.nodes.items) (sym c.deref-2.ensures) c.requires.ready.nodes
+
+pub returns-clause-ready : goal.returns-clause-ready
+returns-clause-ready g c =
+    let graph : arc_value c.in_ok-grown.grown ≡ arc_value c.args.self.now.graph ++ decl_of c.args.decl.now ∷ [] = search rules in
+    extended-ready g.N.Node.decls g.N.Node.number g.N.Node.among g.N.Node.peer (length c.args.self.now.nodes.items) c.args.c c.args.self.now (decl_of c.args.decl.now) c.in_ok-grown.grown c.extend_all.new.nodes
+    c.requires.ready graph refl c.extend_all.ensures.size c.in_ok-extend_all.ensures.nodes c.in_ok-extend_all.ensures.peers

@@ -1,0 +1,67 @@
+use Rattle.std.proofs.Common.{length, sym, refl, ◌∙◌, subst, ap, map}
+use Rattle.std.specs.Prelude.{slice_set}
+use Rattle.std.specs.Arc.{arc_value}
+use Rattle.std.proofs.lemmas.List.{length-set}
+use Rattle.model_messages.specs.Message.{Message}
+use Rattle.model_world.specs.World.{delivered, sent_number}
+use Rattle.model_held.specs.Held.{IsSentTo}
+use Rattle.model_held.proofs.SoundLaws.{sound-take}
+use Rattle.lasp_gossip.specs.Network.{Network}
+use Rattle.lasp_drive.specs.Driver.{run_of, stage_of}
+use Rattle.lasp_drive.specs.declared.driver.Mark.{Mark}
+use Rattle.lasp_drive.proofs.NodeLaws.{node-here, node-stays, nodes-set, held-here, sent-here, sent-read, with_peers, deliver-done, deliver-stops, stopped-delivery}
+use Rattle.lasp_drive.proofs.DriverLaws.{network-done, network-sound}
+use Rattle.lasp_drive.proofs.driver.Driver.take.Goals as goal
+
+pub deliver-requires-clause-held : goal.deliver-requires-clause-held
+deliver-requires-clause-held g c =
+    held-here g.N.Node.decls g.N.Node.number g.N.Node.among g.N.Node.peer (arc_value c.args.self.now.graph) (length c.args.self.now.nodes.items) c.args.self.now.nodes.items c.args.p c.index_mut.result.now
+    c.requires.ready.nodes (c.requires.ready.sound.held c.args.p c.requires.node) c.requires.node c.index_mut.ensures.value
+
+pub deliver-requires-clause-sent : goal.deliver-requires-clause-sent
+deliver-requires-clause-sent g c =
+    let graph = arc_value c.args.self.now.graph in
+    let nodes = c.args.self.now.nodes.items in
+    let here = node-here g.N.Node.decls g.N.Node.number g.N.Node.among graph (length nodes) nodes c.args.p c.index_mut.result.now c.requires.ready.nodes c.requires.node c.index_mut.ensures.value in
+    sent-here g.N.Node.decls g.N.Node.number g.N.Node.among graph (length nodes) c.args.p c.index_mut.result.now c.deref.result.now here
+    (subst (λ (m : Message). IsSentTo (length nodes) graph m) (sym (c.deref.ensures ∙ sent-read c.args.self.now.network.sent c.args.i (arc_value c.in_ok-message.message) c.in_ok-message.ensures.message)) (c.requires.ready.sound.sent c.args.i c.requires.message))
+
+pub returns-in-Ok-clause-done : goal.returns-in-Ok-clause-done
+returns-in-Ok-clause-done g c =
+    let graph = arc_value c.args.self.now.graph in
+    let nodes = c.args.self.now.nodes.items in
+    let here = node-here g.N.Node.decls g.N.Node.number g.N.Node.among graph (length nodes) nodes c.args.p c.index_mut.result.now c.requires.ready.nodes c.requires.node c.index_mut.ensures.value in
+    let run = run_of g.N.Node.peer c.args.self.now in
+    network-done _ (with_peers run (map g.N.Node.peer (slice_set nodes c.args.p c.deliver.new.self))) c.args.self.now.network.sent c.receive.new.self.sent
+    (deliver-done g.N.Node.decls g.N.Node.peer run c.deref.result.now (sent_number c.args.self.now.network.sent c.args.i) nodes c.args.c c.args.p c.index_mut.result.now c.deliver.new.self
+    refl here.graph (c.deref.ensures ∙ sent-read c.args.self.now.network.sent c.args.i (arc_value c.in_ok-message.message) c.in_ok-message.ensures.message) c.requires.node c.index_mut.ensures.value c.in-Ok.ensures.done.0 c.in-Ok.ensures.done.1)
+    (ap (λ (n : Network). n.sent) c.receive.ensures.same)
+
+pub returns-in-Ok-clause-ready : goal.returns-in-Ok-clause-ready
+returns-in-Ok-clause-ready g c =
+    let graph = arc_value c.args.self.now.graph in
+    let nodes = c.args.self.now.nodes.items in
+    let here = node-here g.N.Node.decls g.N.Node.number g.N.Node.among graph (length nodes) nodes c.args.p c.index_mut.result.now c.requires.ready.nodes c.requires.node c.index_mut.ensures.value in
+    let stays = node-stays g.N.Node.decls g.N.Node.number g.N.Node.among graph (length nodes) c.args.p c.index_mut.result.now c.deliver.new.self here c.in-Ok.ensures.node in
+    let run = run_of g.N.Node.peer c.args.self.now in
+    let next = with_peers run (map g.N.Node.peer (slice_set nodes c.args.p c.deliver.new.self)) in
+    record {
+      some = c.requires.ready.some;
+      few = c.requires.ready.few;
+      size = length-set nodes c.args.p c.deliver.new.self;
+      nodes = nodes-set g.N.Node.decls g.N.Node.number g.N.Node.among graph (length nodes) nodes c.args.p c.deliver.new.self c.requires.ready.nodes stays;
+      limit = ap (λ (n : Network). n.limit) c.receive.ensures.same ∙ c.requires.ready.limit;
+      sound = network-sound (length nodes) c.args.c graph (map (λ (m : Mark). m.var) c.args.self.now.marks.items) next c.args.self.now.network.sent c.receive.new.self.sent (ap (λ (n : Network). n.sent) c.receive.ensures.same)
+          (sound-take (length nodes) c.args.c c.args.p c.args.i (stage_of c.args.self.now) run next c.requires.ready.sound c.requires.node c.requires.message
+          (deliver-done g.N.Node.decls g.N.Node.peer run c.deref.result.now (sent_number c.args.self.now.network.sent c.args.i) nodes c.args.c c.args.p c.index_mut.result.now c.deliver.new.self
+          refl here.graph (c.deref.ensures ∙ sent-read c.args.self.now.network.sent c.args.i (arc_value c.in_ok-message.message) c.in_ok-message.ensures.message) c.requires.node c.index_mut.ensures.value c.in-Ok.ensures.done.0 c.in-Ok.ensures.done.1));
+    }
+
+pub returns-in-Err-TooLarge-clause-done : goal.returns-in-Err-TooLarge-clause-done
+returns-in-Err-TooLarge-clause-done g c =
+    let graph = arc_value c.args.self.now.graph in
+    let nodes = c.args.self.now.nodes.items in
+    let here = node-here g.N.Node.decls g.N.Node.number g.N.Node.among graph (length nodes) nodes c.args.p c.index_mut.result.now c.requires.ready.nodes c.requires.node c.index_mut.ensures.value in
+    deliver-stops g.N.Node.decls g.N.Node.peer (run_of g.N.Node.peer c.args.self.now) c.deref.result.now (sent_number c.args.self.now.network.sent c.args.i) nodes c.args.c c.args.p c.in-Err-TooLarge.x c.index_mut.result.now
+    here.graph (c.deref.ensures ∙ sent-read c.args.self.now.network.sent c.args.i (arc_value c.in_ok-message.message) c.in_ok-message.ensures.message) c.requires.node c.index_mut.ensures.value
+    (stopped-delivery (delivered (g.N.Node.decls c.index_mut.result.now) c.deref.result.now (g.N.Node.peer c.index_mut.result.now)) (g.N.Node.peer c.deliver.new.self) c.in-Err-TooLarge.field-0 c.in-Err-TooLarge.x c.in-Err-TooLarge.field-0-is c.in-Err-TooLarge.ensures.done)

@@ -1,0 +1,60 @@
+-- The driver as a run of the world, and what its acts leave.
+use Rattle.std.specs.Prelude.{◌≡◌, ℕ, ◌≤◌, List, map, length, slice_get, Some, string_bytes, Result, Ok, Err}
+use Rattle.std.specs.Arc.{arc_value}
+use Rattle.model_graph.specs.Graph.{Decl}
+use Rattle.model_world.specs.Lawful.{Stage}
+use Rattle.model_world.specs.World.{Peer, Marked, Opened, Run, network_limit}
+use Rattle.model_world.specs.declared.stop.Stop.{Stop}
+use Rattle.model_world.specs.declared.stop.Stop.TheVariants as stop
+use Rattle.model_held.specs.Sound.{IsSound, IsOpened}
+use Rattle.lasp_state.specs.State.{content_of, shape_of}
+use Rattle.lasp_state.specs.Threshold.{threshold_of}
+use Rattle.lasp_drive.specs.Node.{AreNodes}
+use Rattle.lasp_drive.specs.declared.halt.Halt.{Halt}
+use Rattle.lasp_drive.specs.declared.halt.Halt.TheVariants as halt
+use Rattle.lasp_drive.specs.declared.driver.Mark.{Mark}
+use Rattle.lasp_drive.specs.declared.driver.OpenRead.{OpenRead}
+use Rattle.lasp_drive.specs.declared.driver.Driver.{Driver}
+
+-- what a mark keeps
+abbrev pub marked_of : Mark → Marked
+marked_of m = record { shape = shape_of (arc_value m.state); content = content_of (arc_value m.state) }
+
+-- a read that was opened
+abbrev pub opened_of : OpenRead → Opened
+opened_of r = record { node = r.node; var = r.var; threshold = threshold_of r.threshold }
+
+-- the run that a driver has come to
+abbrev pub run_of : {N : Type 0} → (N → Peer) → Driver N → Run
+run_of peer d = record { graph = arc_value d.graph; peers = map peer d.nodes.items; sent = d.network.sent; marks = map marked_of d.marks.items; reads = map opened_of d.reads.items; text = string_bytes d.text }
+
+-- what stands there by the commands alone
+abbrev pub stage_of : {N : Type 0} → Driver N → Stage
+stage_of d = record { graph = arc_value d.graph; marked = map (λ (m : Mark). m.var) d.marks.items; sent = length d.network.sent }
+
+-- nodes of one run, and reads of it that their variables' thresholds suit
+abbrev pub AreOpened : {N : Type 0} → (N → List Decl) → (N → ℕ) → (N → ℕ) → (N → Peer) → List N → List OpenRead → Type 0
+AreOpened {N} decls number among peer nodes reads =
+    (run : Run) × (map peer nodes ≡ run.peers) × AreNodes decls number among run.graph (length nodes) nodes
+    × ((k : ℕ) (read : OpenRead) → slice_get reads k ≡ Some read → IsOpened (length nodes) run.graph (opened_of read))
+
+-- before command number c: the nodes are those of one run, which is sound
+pub record IsReady {N : Type 0} (decls : N → List Decl) (number among : N → ℕ) (peer : N → Peer) (many c : ℕ) (d : Driver N) : Type 0 where
+  pub some : 1 ≤ many
+  pub few : many ≤ 8
+  pub size : length d.nodes.items ≡ many
+  pub nodes : AreNodes decls number among (arc_value d.graph) many d.nodes.items
+  pub limit : d.network.limit ≡ network_limit
+  pub sound : IsSound many c (stage_of d) (run_of peer d)
+
+-- a run that didn't go on stopped where the world stops, or memory was wanting
+abbrev pub Halts : {B : Type 0} → Result B Stop → Halt → Type 0
+Halts expected (halt.TooLarge c p x) = expected ≡ Err (stop.TooLarge c p x)
+Halts expected (halt.NetworkFull c) = expected ≡ Err (stop.NetworkFull c)
+Halts expected (halt.NotReached c) = expected ≡ Err (stop.NotReached c)
+Halts expected halt.Memory = Unit {0}
+
+-- what is done is what the world does, or it stops where the world stops, or memory was wanting
+abbrev pub Does : {A B : Type 0} → Result B Stop → Result A Halt → B → Type 0
+Does expected (Ok done) new = expected ≡ Ok new
+Does expected (Err why) new = Halts expected why

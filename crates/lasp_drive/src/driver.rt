@@ -1,0 +1,88 @@
+//! The driver: the nodes of a run, what they sent, marked and are to read, and the lines that were printed.
+
+ghost use Rattle.std.specs.Prelude.{◌≡◌, ◌≤◌, ◌<◌, List, ℕ, IfOk, length, map, replicate};
+ghost use Rattle.std.specs.Arc.{arc_value};
+ghost use Rattle.model_world.specs.Lawful.{opening_stage};
+ghost use Rattle.model_world.specs.World.{start, fresh_peer};
+ghost use Rattle.lasp_drive.specs.Node.{AreNodes};
+ghost use Rattle.lasp_drive.specs.Driver.{run_of, stage_of, IsReady};
+
+use super::node::Node;
+use lasp_gossip::Network;
+use lasp_graph::Graph;
+use lasp_state::{State, Threshold};
+use std::alloc::{AllocError, Global};
+use std::sync::Arc;
+
+/// The most bytes that all messages of a run may have.
+const NETWORK_LIMIT: u64 = 268_435_456;
+
+/// What a source held when it was marked.
+#[derive(Drop)]
+pub struct Mark {
+    /// The source.
+    pub var: u8,
+    /// What it held.
+    pub state: Arc<State>,
+}
+
+/// A read that waits for its threshold.
+#[derive(Drop)]
+pub struct OpenRead {
+    /// The node.
+    pub node: u8,
+    /// The variable.
+    pub var: u8,
+    /// How far the variable has to have come.
+    pub threshold: Threshold,
+}
+
+/// A run of a script: its graph so far, its nodes by their numbers, all that was sent, marked and opened so far, and the printed lines.
+#[derive(Drop)]
+pub struct Driver<N: Drop> {
+    /// The graph, with what was declared so far.
+    pub graph: Arc<Graph>,
+    /// The nodes.
+    pub nodes: Vec<N>,
+    /// The messages.
+    pub network: Network,
+    /// The marks.
+    pub marks: Vec<Mark>,
+    /// The reads.
+    pub reads: Vec<OpenRead>,
+    /// The printed lines.
+    pub text: String,
+}
+
+/// So many nodes to which nothing has happened.
+fn fresh_nodes<N: Node>(alloc: Global, graph: &Arc<Graph>, nodes: u8) -> Result<Vec<N>, AllocError>
+    ensures size { IfOk result (λ all. length all.items ≡ nodes) }
+    ensures nodes { IfOk result (λ all. AreNodes N.decls N.number N.among (arc_value graph.now) nodes all.items) }
+    ensures peers { IfOk result (λ all. map N.peer all.items ≡ replicate nodes (fresh_peer (arc_value graph.now) nodes)) }
+{
+    let mut all = Vec::new(alloc);
+    for p in 0..nodes {
+        all.push(N::new(alloc, graph, p, nodes)?)?;
+    }
+    Ok(all)
+}
+
+impl<N: Node> Driver<N> {
+    /// A run of so many nodes, 1 to 8, before its first command.
+    pub fn new(alloc: Global, graph: &Arc<Graph>, nodes: u8) -> Result<Driver<N>, AllocError>
+        requires some { 1 ≤ nodes }
+        requires few { nodes ≤ 8 }
+        ensures ready { IfOk result (IsReady N.decls N.number N.among N.peer nodes 1) }
+        ensures start { IfOk result (λ d. run_of N.peer d ≡ start (arc_value graph.now) nodes) }
+        ensures stage { IfOk result (λ d. stage_of d ≡ opening_stage (arc_value graph.now)) }
+    {
+        Ok(Driver {
+            graph: Arc::try_clone(graph)?,
+            nodes: fresh_nodes(alloc, graph, nodes)?,
+            network: Network::new(alloc, NETWORK_LIMIT),
+            marks: Vec::new(alloc),
+            reads: Vec::new(alloc),
+            text: String::new(alloc),
+        })
+    }
+}

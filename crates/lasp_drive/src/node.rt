@@ -1,0 +1,128 @@
+//! What the driver asks of one node, whatever engine keeps its states.
+
+ghost use Rattle.std.specs.Prelude.{◌≡◌, ◌<◌, ◌++◌, ◌∷◌, [], ℕ, List, IfOk, OnOk, IsTrue, length};
+ghost use Rattle.std.specs.Arc.{arc_value};
+ghost use Rattle.model_states.specs.Content.{Content};
+ghost use Rattle.model_states.specs.Counts.{count_at};
+ghost use Rattle.model_graph.specs.Graph.{Decl, is_source, kind_at};
+ghost use Rattle.model_graph.specs.Evaluation.{content_at, first_large};
+ghost use Rattle.model_graph.specs.Lawful.{shape_of};
+ghost use Rattle.model_world.specs.World.{Peer, fresh_peer, updated, delivered, extended, shown_at, message_at};
+ghost use Rattle.model_world.specs.Line.{shown_content};
+ghost use Rattle.model_readings.specs.Lawful.{FitsAll};
+ghost use Rattle.model_wire.specs.Lawful.{IsMessage};
+ghost use Rattle.model_held.specs.Held.{IsHeld, IsSentTo, IsUpdate};
+ghost use Rattle.lasp_state.specs.State as state;
+ghost use Rattle.lasp_state.specs.State.{shown_state, op_of, IsOpOf};
+ghost use Rattle.lasp_graph.specs.Library.{library_of};
+ghost use Rattle.lasp_drive.specs.Node.{Updates, Delivers, Settles, IsNode};
+
+use lasp_fns::Library;
+use lasp_graph::Graph;
+use lasp_state::{Op, State};
+use lasp_wire::Message;
+use std::alloc::{AllocError, Global};
+use std::sync::Arc;
+use thiserror::Error;
+
+/// Why a node didn't do what it was told.
+#[derive(Clone, Copy, PartialEq, Eq, Debug, Error)]
+pub enum NodeStop {
+    /// This variable passes 65,536 rows or elements.
+    #[error("variable {0} has too many rows")]
+    TooLarge(u8),
+    /// No memory was left.
+    #[error("out of memory")]
+    Memory,
+}
+
+impl From<AllocError> for NodeStop {
+    ghost use Rattle.std.specs.Prelude.{◌≡◌};
+    ghost use Rattle.lasp_drive.specs.declared.node.NodeStop.TheVariants.{Memory};
+
+    ghost from_gives = { λ _ stop. stop ≡ Memory };
+
+    fn from(_error: AllocError) -> NodeStop {
+        NodeStop::Memory
+    }
+}
+
+/// One node of a run.
+pub trait Node: Drop + Sized {
+    // its graph
+    ghost decls: { Self → List Decl };
+
+    // its number
+    ghost number: { Self → ℕ };
+
+    // how many nodes there are
+    ghost among: { Self → ℕ };
+
+    // its sources and counts
+    ghost peer: { Self → Peer };
+
+    // what its variables show since the last settle
+    ghost shown: { Self → List Content };
+
+    /// A node to which nothing has happened.
+    fn new(alloc: Global, graph: &Arc<Graph>, replica: u8, nodes: u8) -> Result<Self, AllocError>
+        requires { replica < nodes }
+        ensures node { IfOk result (IsNode decls number among (arc_value graph.now) nodes replica) }
+        ensures peer { IfOk result (λ n. peer n ≡ fresh_peer (arc_value graph.now) nodes) };
+
+    /// Updates a source: its delta is joined in and the update is counted.
+    fn update(&mut self, alloc: Global, x: u8, op: &Op) -> Result<(), NodeStop>
+        requires held { IsHeld (among self.old) (decls self.old) (peer self.old) }
+        requires member { number self.old < among self.old }
+        requires var { x < length (decls self.old) }
+        requires op { IsUpdate (among self.old) (decls self.old) x (op_of op.now) }
+        requires suits { IsOpOf op.now (number self.old) (shape_of (among self.old) (kind_at (decls self.old) x)) }
+        requires room { count_at (peer self.old).counts (number self.old) < 100000 }
+        ensures node { IsNode decls number among (decls self.old) (among self.old) (number self.old) self.new }
+        ensures done { Updates (updated (number self.old) x (op_of op.now) (peer self.old)) x result (peer self.new) };
+
+    /// What a source holds, shared.
+    fn source(&self, x: u8) -> &Arc<State>
+        requires var { x < length (decls self.now) }
+        ensures content { state.content_of (arc_value result.now) ≡ content_at (peer self.now).contents x }
+        ensures shape { state.shape_of (arc_value result.now) ≡ shape_of (among self.now) (kind_at (decls self.now) x) };
+
+    /// What it sends: its counts and what its sources hold.
+    fn message(&self, alloc: Global) -> Result<Message, AllocError>
+        requires { IsMessage (message_at (decls self.now) (peer self.now)) }
+        ensures { IfOk result (λ m. m ≡ message_at (decls self.now) (peer self.now)) };
+
+    /// Takes a message: its sources are joined in, and the counts become the larger ones.
+    fn deliver(&mut self, alloc: Global, m: &Message) -> Result<(), NodeStop>
+        requires held { IsHeld (among self.old) (decls self.old) (peer self.old) }
+        requires sent { IsSentTo (among self.old) (decls self.old) m.now }
+        ensures node { IsNode decls number among (decls self.old) (among self.old) (number self.old) self.new }
+        ensures done { Delivers (delivered (decls self.old) m.now (peer self.old)) result (peer self.new) };
+
+    /// Goes on with a graph that has one declaration more, of which nothing has happened.
+    fn extend(&mut self, alloc: Global, graph: &Arc<Graph>) -> Result<(), AllocError>
+        requires { (d : Decl) × (arc_value graph.now ≡ decls self.old ++ d ∷ []) }
+        ensures node { OnOk result (IsNode decls number among (arc_value graph.now) (among self.old) (number self.old) self.new) }
+        ensures peer { (d : Decl) → arc_value graph.now ≡ decls self.old ++ d ∷ [] → OnOk result (peer self.new ≡ extended (among self.old) d (peer self.old)) };
+
+    /// Brings every derived variable to what its process gives on the present sources.
+    fn settle(&mut self, alloc: Global, lib: &Library) -> Result<(), NodeStop>
+        requires held { IsHeld (among self.old) (decls self.old) (peer self.old) }
+        requires fits { FitsAll (library_of lib.now) (decls self.old) }
+        ensures node { IsNode decls number among (decls self.old) (among self.old) (number self.old) self.new }
+        ensures peer { peer self.new ≡ peer self.old }
+        ensures done { Settles (first_large 0 (shown_at (decls self.old) (peer self.old))) result }
+        ensures shown { OnOk result (shown self.new ≡ shown_at (decls self.old) (peer self.old)) };
+
+    /// The state of a variable of a settled node: what is shown of it.
+    fn state(&self, x: u8) -> &State
+        requires settled { shown self.now ≡ shown_at (decls self.now) (peer self.now) }
+        requires var { x < length (decls self.now) }
+        ensures content { state.content_of result.now ≡ content_at (shown self.now) x }
+        ensures shape { state.shape_of result.now ≡ shape_of (among self.now) (kind_at (decls self.now) x) }
+        ensures text { shown_state result.now ≡ shown_content (kind_at (decls self.now) x) (content_at (shown self.now) x) };
+
+    /// How many updates of each replica it knows.
+    fn counts(&self) -> &[u64]
+        ensures { result.now ≡ (peer self.now).counts };
+}
