@@ -1,6 +1,11 @@
-pub mod TellLaws
-pub mod DriveLaws
-pub mod PlainLaws
-pub mod PlayLaws
-pub mod PartLaws
 pub mod CheckLaws
+pub mod DirectLaws
+pub mod JoinLaws
+pub mod MergeLaws
+pub mod NameLaws
+pub mod PartLaws
+pub mod PlayLaws
+pub mod SourceLaws
+pub mod StepLaws
+pub mod TellLaws
+pub mod TextLaws

@@ -1,4 +1,5 @@
 pub mod Words
-pub mod Drive
-pub mod Driver
-pub mod Plain
+pub mod Run
+pub mod Play
+pub mod Merge
+pub mod Told

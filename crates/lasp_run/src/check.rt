@@ -1,14 +1,22 @@
-//! What a graph's variables are, as a text: the answer of `check`.
+//! `check`: what a graph's variables are, as a text.
 
-ghost use Rattle.std.specs.Prelude.{◌≡◌, ◌<◌, ◌++◌, ◌∷◌, [], length, OnOk, IfOk, string_bytes};
+ghost use Rattle.std.specs.Prelude.{◌≡◌, ◌<◌, ◌≤◌, ◌++◌, ◌∷◌, [], ℕ, List, length, OnOk, IfOk, Ok, string_bytes};
 ghost use Rattle.std.specs.Fmt.{decimal};
 ghost use Rattle.model_graph.specs.Lawful.{widths, width_at};
 ghost use Rattle.model_world.specs.Line.{line};
 ghost use Rattle.model_program.specs.Check.{kind_word, check_line, check_text};
+ghost use Rattle.model_program.specs.Follows.{view, Gives, Follows};
+ghost use Rattle.model_program.specs.Program.{checking};
 ghost use Rattle.lasp_graph.specs.Kind.{kind_of};
 ghost use Rattle.lasp_graph.specs.Decl.{decl_of};
+ghost use Rattle.lasp_graph.specs.Library.{library_of};
+ghost use Rattle.lasp_run.specs.Words.{words_of, answered};
 
+use crate::open::open_graph;
+use lasp_edge::Files;
+use lasp_fns::Library;
 use lasp_graph::{Decl, Graph, Kind};
+use model_program::Failure;
 use std::alloc::{AllocError, Global};
 
 /// The word of a kind, as a graph has it.
@@ -43,7 +51,7 @@ fn push_variable(text: &mut String, decl: &Decl, width: u8) -> Result<(), AllocE
 
 #[tactic(auto, using(crate::proofs::CheckLaws::checking))]
 /// A line for each variable of a graph.
-pub fn graph_text(alloc: Global, graph: &Graph) -> Result<Vec<u8>, AllocError>
+fn graph_text(alloc: Global, graph: &Graph) -> Result<Vec<u8>, AllocError>
     ensures { IfOk result (λ text. text.items ≡ check_text graph.now) }
 {
     let mut text = String::new(alloc);
@@ -51,4 +59,31 @@ pub fn graph_text(alloc: Global, graph: &Graph) -> Result<Vec<u8>, AllocError>
         push_variable(&mut text, graph.at(var), graph.width(var as u8))?;
     }
     Ok(text.into_bytes())
+}
+
+fn text_of(alloc: Global, graph: &Graph) -> Result<Vec<u8>, Failure>
+    ensures { Gives (λ text. text.items) (Ok (check_text graph.now)) result }
+{
+    match graph_text(alloc, graph) {
+        Ok(text) => Ok(text),
+        Err(_) => Err(Failure::Memory),
+    }
+}
+
+/// `check`: reads the graph, and tells what its variables are.
+pub fn run_check<F: Files>(
+    alloc: Global,
+    words: &[String],
+    files: &mut F,
+    lib: &Library,
+) -> Result<Vec<u8>, Failure>
+    requires { 1 < length words.now }
+    ensures same { (name : List ℕ) → F.content files.new name ≡ F.content files.old name }
+    ensures later { (name : List ℕ) → F.faults files.old name ≤ F.faults files.new name }
+    ensures follows { Follows (words_of words.now) (view (F.content files.old) (F.faults files.old) (F.faults files.new)) (checking (library_of lib.now)) (answered result) }
+{
+    match open_graph(alloc, words, files, lib) {
+        Ok(graph) => text_of(alloc, &graph),
+        Err(failure) => Err(failure),
+    }
 }

@@ -1,11 +1,15 @@
-//! The program as one call: it reads its words' files, runs the script, writes the report and answers the status.
+//! The program as one call: it reads its words' files, runs the script or joins the messages, writes the text and answers the status.
 #![tactic(auto)]
 
 mod check;
-mod drive;
 mod ending;
+mod form;
+mod merge;
+mod name;
 mod open;
+mod play;
 mod program;
+mod run;
 
-pub use drive::{Halt, Node, NodeStop, PlainNode, drive_on};
+pub use play::{drive_on, export_on};
 pub use program::one_thread;

@@ -1,14 +1,16 @@
 //! The parts of the program that read files: the graph, and the script against it.
 
 ghost use Rattle.std.specs.Prelude.{◌≡◌, ◌<◌, ◌≤◌, ℕ, List, length, IfOk};
+ghost use Rattle.std.specs.Arc.{arc_value};
 ghost use Rattle.model_graph.specs.Chain.{refusing};
 ghost use Rattle.model_readings.specs.Graph.{graph_of};
-ghost use Rattle.model_readings.specs.Script.{script_of};
-ghost use Rattle.model_readings.specs.Lawful.{IsScript, FitsAll};
+ghost use Rattle.model_readings.specs.Lawful.{FitsAll};
+ghost use Rattle.model_scripts.specs.Script.{script_of};
 ghost use Rattle.model_program.specs.Plan.{reading, word_at};
 ghost use Rattle.model_program.specs.Follows.{view, Gives, Performs};
 ghost use Rattle.model_program.specs.Program.{graph_refused, script_refused, opening, scripting};
 ghost use Rattle.lasp_graph.specs.Library.{library_of};
+ghost use Rattle.lasp_run.specs.Run.{IsRunnable, opened_of, opening_run};
 ghost use Rattle.lasp_run.specs.Words.{words_of};
 
 use lasp_edge::{Fetch, Files};
@@ -18,6 +20,7 @@ use lasp_script::{Script, ScriptRefused, read_script};
 use model_program::{Failure, Refusal};
 use model_readings::accepted_graphs_are_lawful;
 use std::alloc::Global;
+use std::sync::Arc;
 
 /// The most bytes that a file may have.
 const FILE_LIMIT: u64 = 16_777_216;
@@ -63,11 +66,12 @@ fn graph_from(alloc: Global, bytes: &[u8], lib: &Library) -> Result<Graph, Failu
     }
 }
 
-fn script_from(alloc: Global, graph: &Graph, bytes: &[u8]) -> Result<Script, Failure>
-    ensures exact { Gives (λ s. s) (refusing script_refused (script_of graph.now bytes.now)) result }
-    ensures lawful { IfOk result (λ s. IsScript graph.now s) }
+fn script_from(alloc: Global, graph: &Graph, bytes: &[u8], lib: &Library) -> Result<Script, Failure>
+    requires fits { FitsAll (library_of lib.now) graph.now }
+    ensures exact { Gives (λ s. s) (refusing script_refused (script_of (library_of lib.now) graph.now bytes.now)) result }
+    ensures runnable { IfOk result (λ s. IsRunnable (library_of lib.now) graph.now s) }
 {
-    match read_script(alloc, bytes, graph) {
+    match read_script(alloc, bytes, graph, lib) {
         Ok(script) => Ok(script),
         Err(ScriptRefused::At { number, why }) => Err(Failure::Refused(Refusal::Script(
             number, why,
@@ -95,21 +99,76 @@ pub fn open_graph<F: Files>(
     }
 }
 
+/// The same, with the graph shared.
+pub fn open_shared<F: Files>(
+    alloc: Global,
+    words: &[String],
+    files: &mut F,
+    lib: &Library,
+) -> Result<Arc<Graph>, Failure>
+    requires { 1 < length words.now }
+    ensures same { (name : List ℕ) → F.content files.new name ≡ F.content files.old name }
+    ensures later { (name : List ℕ) → F.faults files.old name ≤ F.faults files.new name }
+    ensures part { Performs arc_value (words_of words.now) (view (F.content files.old) (F.faults files.old) (F.faults files.new)) (opening (library_of lib.now)) result }
+    ensures fits { IfOk result (λ g. FitsAll (library_of lib.now) (arc_value g)) }
+{
+    match open_graph(alloc, words, files, lib) {
+        Ok(graph) => match Arc::new(alloc, graph) {
+            Ok(graph) => Ok(graph),
+            Err(_) => Err(Failure::Memory),
+        },
+        Err(failure) => Err(failure),
+    }
+}
+
 /// Reads the script against the graph: the third word's file.
 pub fn open_script<F: Files>(
     alloc: Global,
     words: &[String],
     graph: &Graph,
     files: &mut F,
+    lib: &Library,
 ) -> Result<Script, Failure>
+    requires words { 2 < length words.now }
+    requires fits { FitsAll (library_of lib.now) graph.now }
+    ensures same { (name : List ℕ) → F.content files.new name ≡ F.content files.old name }
+    ensures later { (name : List ℕ) → F.faults files.old name ≤ F.faults files.new name }
+    ensures part { Performs (λ s. s) (words_of words.now) (view (F.content files.old) (F.faults files.old) (F.faults files.new)) (scripting (library_of lib.now) graph.now) result }
+    ensures runnable { IfOk result (λ s. IsRunnable (library_of lib.now) graph.now s) }
+{
+    match read_file(alloc, words, 2, files) {
+        Ok(bytes) => script_from(alloc, graph, &bytes, lib),
+        Err(failure) => Err(failure),
+    }
+}
+
+/// A graph and a script that was read against it.
+#[derive(Drop)]
+pub struct Opened {
+    /// The graph.
+    pub graph: Arc<Graph>,
+    /// The script.
+    pub script: Script,
+}
+
+/// Reads the graph, and the script against it.
+pub fn open_run<F: Files>(
+    alloc: Global,
+    words: &[String],
+    files: &mut F,
+    lib: &Library,
+) -> Result<Opened, Failure>
     requires { 2 < length words.now }
     ensures same { (name : List ℕ) → F.content files.new name ≡ F.content files.old name }
     ensures later { (name : List ℕ) → F.faults files.old name ≤ F.faults files.new name }
-    ensures part { Performs (λ s. s) (words_of words.now) (view (F.content files.old) (F.faults files.old) (F.faults files.new)) (scripting graph.now) result }
-    ensures lawful { IfOk result (λ s. IsScript graph.now s) }
+    ensures part { Performs opened_of (words_of words.now) (view (F.content files.old) (F.faults files.old) (F.faults files.new)) (opening_run (library_of lib.now)) result }
+    ensures runnable { IfOk result (λ o. IsRunnable (library_of lib.now) (arc_value o.graph) o.script) }
 {
-    match read_file(alloc, words, 2, files) {
-        Ok(bytes) => script_from(alloc, graph, &bytes),
+    match open_shared(alloc, words, files, lib) {
+        Ok(graph) => match open_script(alloc, words, &graph, files, lib) {
+            Ok(script) => Ok(Opened { graph, script }),
+            Err(failure) => Err(failure),
+        },
         Err(failure) => Err(failure),
     }
 }

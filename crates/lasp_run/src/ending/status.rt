@@ -15,6 +15,7 @@ fn refusal_status(refusal: &Refusal) -> u8
         Refusal::TooLong(_) => 4,
         Refusal::TooLarge(_, _, _) | Refusal::NetworkFull(_) => 6,
         Refusal::NotReached(_) => 8,
+        Refusal::State(_, _, _) => 9,
     }
 }
 

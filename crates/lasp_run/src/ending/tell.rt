@@ -5,14 +5,16 @@ ghost use Rattle.std.specs.Fmt.{decimal};
 ghost use Rattle.lasp_run.specs.Words.{words_of};
 ghost use Rattle.model_world.specs.Line.{line};
 ghost use Rattle.model_program.specs.Plan.{word_at};
-ghost use Rattle.model_program.specs.Line.{graph_why_text, script_why_text, refusal_words, line_of};
+ghost use Rattle.model_program.specs.Line.{graph_why_text, script_why_text, wire_why_text, state_why_text, refusal_words, line_of};
 ghost use Rattle.model_program.specs.Ends.{Tells, writing};
 
 use crate::ending::line::put_line;
 use itoa::Buffer;
 use lasp_edge::Sink;
-use model_program::{Failure, Refusal};
-use model_readings::{GraphWhy, ScriptWhy};
+use model_program::{Failure, Refusal, StateWhy};
+use model_readings::GraphWhy;
+use model_scripts::ScriptWhy;
+use model_wire::WireWhy;
 
 /// The word at a place of the command line; no text where there is none.
 fn word(words: &[String], place: usize) -> &[u8]
@@ -54,6 +56,35 @@ fn script_why(why: ScriptWhy) -> &'static [u8]
         ScriptWhy::UnknownMark => b"UnknownMark",
         ScriptWhy::TooMany => b"TooMany",
         ScriptWhy::MarkTaken => b"MarkTaken",
+        ScriptWhy::NameShape => b"NameShape",
+        ScriptWhy::NameTaken => b"NameTaken",
+        ScriptWhy::UnknownInput => b"UnknownInput",
+        ScriptWhy::WrongKind => b"WrongKind",
+        ScriptWhy::UnknownFunction => b"UnknownFunction",
+        ScriptWhy::TooWide => b"TooWide",
+    }
+}
+
+fn wire_why(why: WireWhy) -> &'static [u8]
+    ensures { result.now ≡ wire_why_text why }
+{
+    match why {
+        WireWhy::Short => b"Short",
+        WireWhy::Magic => b"Magic",
+        WireWhy::Kind => b"Kind",
+        WireWhy::Order => b"Order",
+        WireWhy::Text => b"Text",
+        WireWhy::Range => b"Range",
+        WireWhy::Rest => b"Rest",
+    }
+}
+
+fn state_why(why: StateWhy) -> &'static [u8]
+    ensures { result.now ≡ state_why_text why }
+{
+    match why {
+        StateWhy::Wire(why) => wire_why(why),
+        StateWhy::WrongGraph => b"WrongGraph",
     }
 }
 
@@ -71,6 +102,14 @@ fn tell_number<E: Sink>(err: &mut E, first: &[u8], number: u32)
 {
     let mut digits = Buffer::new();
     tell(err, first, &[digits.format(number).as_bytes()]);
+}
+
+fn tell_state<E: Sink>(err: &mut E, name: &[u8], place: u64, why: &[u8])
+    ensures later { E.faults err.old ≤ E.faults err.new }
+    ensures told { Tells (writing (E.written err.old) (E.written err.new) (E.faults err.old) (E.faults err.new)) (line (codes "state" ∷ name.now ∷ decimal place ∷ why.now ∷ [])) }
+{
+    let mut digits = Buffer::new();
+    tell(err, b"state", &[name, digits.format(place).as_bytes(), why]);
 }
 
 fn tell_refusal<E: Sink>(words: &[String], refusal: &Refusal, err: &mut E)
@@ -103,6 +142,9 @@ fn tell_refusal<E: Sink>(words: &[String], refusal: &Refusal, err: &mut E)
         ),
         Refusal::NetworkFull(command) => tell_number(err, b"network full", *command),
         Refusal::NotReached(command) => tell_number(err, b"not reached", *command),
+        Refusal::State(file, place, why) => {
+            tell_state(err, word(words, *file), *place, state_why(*why))
+        }
     }
 }
 

@@ -13,4 +13,4 @@ use Rattle.lasp_run.proofs.program.answer.Goals as goal
 pub returns-in-Wrong-clause-follows : goal.returns-in-Wrong-clause-follows
 returns-in-Wrong-clause-follows g c =
     let v = view (g.F.Files.content c.args.files.now) (g.F.Files.faults c.args.files.now) (g.F.Files.faults c.args.files.now) in
-    subst (λ (form : Form). Follows (words_of c.args.words.now) v (plan_of (library_of c.args.lib.now) form) (Err (Refused Usage))) (sym c.in-Wrong.is ∙ c.read_form.ensures.exact) (follows-says (words_of c.args.words.now) v (Err Usage) (Err (Refused Usage)) refl)
+    subst (λ (form : Form). Follows (words_of c.args.words.now) v (plan_of (library_of c.args.lib.now) (words_of c.args.words.now) form) (Err (Refused Usage))) (sym c.in-Wrong.is ∙ c.read_form.ensures.exact) (follows-says (words_of c.args.words.now) v (Err Usage) (Err (Refused Usage)) refl)

@@ -1,4 +1,4 @@
-use Rattle.std.proofs.Common.{◌≡◌, ◌∷◌, List, ℕ, map, ap, Bor}
+use Rattle.std.proofs.Common.{List, ℕ, map, ap, Bor}
 use Rattle.lasp_run.proofs.TellLaws.{rest-then, rest-first}
 use Rattle.lasp_run.proofs.ending.line.+put_rest.Goals as goal
 

@@ -1,0 +1,177 @@
+-- The message of a file, and the node that takes it.
+use Rattle.std.proofs.Common.{◌≡◌, ℕ, suc, ◌<◌, Bool, true, false, cond, List, [], ◌∷◌, ◌++◌, length, take, Option, Some, None, Result, Ok, Err, refl, sym, ap, subst, ◌∙◌, arith}
+use Rattle.std.specs.List.{AllByRecursion}
+use Rattle.model_states.proofs.CountLaws.{length-zeros, length-larger}
+use Rattle.model_graph.specs.Chain.{◌>>=◌, check, refusing}
+use Rattle.model_graph.specs.Graph.{Decl, is_source, name_at}
+use Rattle.model_graph.specs.Evaluation.{first_large}
+use Rattle.model_graph.specs.Lawful.{sources_among}
+use Rattle.model_messages.specs.Message.{Sent, Message, brought}
+use Rattle.model_messages.proofs.MessageLaws.{gained-length}
+use Rattle.model_wire.specs.Lawful.{IsSent, IsMessage}
+use Rattle.model_wire.specs.Message.{decoded}
+use Rattle.model_world.specs.World.{Peer, fresh_peer, delivered}
+use Rattle.model_held.specs.Held.{IsHeld, IsSentSource, IsSentTo}
+use Rattle.model_held.proofs.HeldLaws.{held-fresh, held-delivered}
+use Rattle.model_held.proofs.StopLaws.{first-low}
+use Rattle.model_program.specs.Follows.{Gives}
+use Rattle.model_program.specs.Merge.{declared_in, sources_of, may_take, file_at, state_refused, large_refused, replica_before, message_joined, file_joined}
+use Rattle.model_program.proofs.MergeLaws.{take-Decides}
+use Rattle.model_program.specs.declared.refusal.Refusal.{Refusal}
+use Rattle.model_program.specs.declared.refusal.Refusal.TheVariants as refusal
+use Rattle.model_program.specs.declared.state_why.StateWhy.TheVariants.{WrongGraph}
+use Rattle.model_program.specs.declared.failure.Failure.{Failure}
+use Rattle.model_program.specs.declared.failure.Failure.TheVariants.{Refused, ReadFault, Memory}
+use Rattle.lasp_drive.specs.Node.{IsNode}
+use Rattle.lasp_run.specs.Merge.{IsReplica, IsRefusal}
+
+-- ---- messages to a graph
+
+-- sources that begin a graph's are those of some first declarations
+first-declared : (g first rest : List Decl) → first ++ rest ≡ sources_of g → (n : ℕ) × (first ≡ sources_among (take n g))
+first-declared g [] rest e = (0, none g) where
+  none : (ds : List Decl) → [] ≡ sources_among (take 0 ds)
+  none [] = refl
+  none (d ∷ ds) = refl
+first-declared [] (d ∷ first) rest e = absurd cc
+first-declared (e ∷ g) (d ∷ first) rest same =
+    choose (λ tail. first-declared g first rest tail) (λ all. first-declared g (d ∷ first) rest all) (is_source e.kind) refl same where
+      longer : (n : ℕ) (b : Bool) → is_source e.kind ≡ b → sources_among (take (suc n) (e ∷ g)) ≡ cond b (e ∷ sources_among (take n g)) (sources_among (take n g))
+      longer n b is = ap (λ (c : Bool). cond c (e ∷ sources_among (take n g)) (sources_among (take n g))) is
+
+      choose : (first ++ rest ≡ sources_of g → (n : ℕ) × (first ≡ sources_among (take n g))) → (d ∷ (first ++ rest) ≡ sources_of g → (n : ℕ) × (d ∷ first ≡ sources_among (take n g)))
+          → (b : Bool) → is_source e.kind ≡ b → d ∷ (first ++ rest) ≡ cond b (e ∷ sources_of g) (sources_of g) → (n : ℕ) × (d ∷ first ≡ sources_among (take n (e ∷ g)))
+      choose in_tail in_all true is all =
+          let head : d ≡ e = cc in
+          let tail : first ++ rest ≡ sources_of g = cc in
+          let found = in_tail tail in
+          (suc found.0, ap (λ (ds : List Decl). d ∷ ds) found.1 ∙ ap (λ (c : Decl). c ∷ sources_among (take found.0 g)) head ∙ sym (longer found.0 true is))
+      choose in_tail in_all false is all =
+          let found = in_all all in
+          (suc found.0, found.1 ∙ sym (longer found.0 false is))
+
+-- what a message has of its sources is within the format
+sent-each : (nodes : ℕ) (sources : List Sent) → AllByRecursion (IsSent nodes) sources → AllByRecursion (IsSentSource nodes) sources
+sent-each nodes [] h = tt
+sent-each nodes (s ∷ sources) h = (h.0.1, sent-each nodes sources h.1)
+
+taken-sent : (g : List Decl) (r : Peer) (m : Message) → may_take g r m ≡ true → IsMessage m → IsSentTo (length r.counts) g m
+taken-sent g r m taken lawful =
+    let parts = (take-Decides g r m).0 taken in
+    let begins = first-declared g (declared_in m) parts.0.rest parts.0.is in
+    record { wide = parts.1; declared = begins.0; sources = begins.1; each = subst (λ (nodes : ℕ). AllByRecursion (IsSentSource nodes) m.sources) parts.1 (sent-each (length m.counts) m.sources lawful.sources) }
+
+-- ---- what is answered of a message
+
+chain-passed : {A B E : Type 0} (r : Result A E) (f : A → Result B E) (x : A) → r ≡ Ok x → (r >>= f) ≡ f x
+chain-passed r f x e = ap (λ s. s >>= f) e
+
+chain-refused : {A B E : Type 0} (r : Result A E) (f : A → Result B E) (x : E) → r ≡ Err x → (r >>= f) ≡ Err x
+chain-refused r f x e = ap (λ s. s >>= f) e
+
+-- what is done once a message may be taken
+abbrev then_joined : List Decl → ℕ → Peer → Message → Result Peer Refusal
+then_joined g i r m = large_refused g i (first_large 0 (delivered g m r).contents) >>= (λ _. Ok (delivered g m r))
+
+message-checked : (g : List Decl) (i : ℕ) (r : Peer) (m : Message) → may_take g r m ≡ true → message_joined g i r m ≡ then_joined g i r m
+message-checked g i r m taken = ap (λ (b : Bool). check b (refusal.State (file_at i) 0 WrongGraph) >>= (λ _. then_joined g i r m)) taken
+
+message-taken : (g : List Decl) (i : ℕ) (r : Peer) (m : Message) → may_take g r m ≡ true → first_large 0 (delivered g m r).contents ≡ None → message_joined g i r m ≡ Ok (delivered g m r)
+message-taken g i r m taken small = message-checked g i r m taken ∙ ap (λ (o : Option ℕ). large_refused g i o >>= (λ _. Ok (delivered g m r))) small
+
+message-large : (g : List Decl) (i x : ℕ) (r : Peer) (m : Message) → may_take g r m ≡ true → first_large 0 (delivered g m r).contents ≡ Some x → message_joined g i r m ≡ Err (refusal.TooLarge i 0 (name_at g x))
+message-large g i x r m taken large = message-checked g i r m taken ∙ ap (λ (o : Option ℕ). large_refused g i o >>= (λ _. Ok (delivered g m r))) large
+
+pub joined-wrong : (g : List Decl) (i : ℕ) (r : Peer) (m : Message) → may_take g r m ≡ false → message_joined g i r m ≡ Err (refusal.State (file_at i) 0 WrongGraph)
+joined-wrong g i r m other = ap (λ (b : Bool). check b (refusal.State (file_at i) 0 WrongGraph) >>= (λ _. then_joined g i r m)) other
+
+-- a failure that is this refusal is given where it is what is answered
+pub refusal-given : {A B : Type 0} (shown : A → B) (answer : Result B Refusal) (expected : Refusal) (failure : Failure) → answer ≡ Err expected → IsRefusal expected failure → Gives shown answer (Err failure)
+refusal-given shown answer expected (Refused e) is same = is ∙ ap (λ (x : Refusal). Err x) (sym same)
+refusal-given shown answer expected (ReadFault f) is same = same
+refusal-given shown answer expected Memory is same = tt
+
+-- ---- what is answered of a file
+
+file-message : (g : List Decl) (i : ℕ) (r : Option Peer) (bytes : List ℕ) (m : Message) → refusing (state_refused i) (decoded bytes) ≡ Ok m → file_joined g i r bytes ≡ message_joined g i (replica_before g r m) m
+unfolding file_joined
+file-message g i r bytes m e = chain-passed (refusing (state_refused i) (decoded bytes)) (λ m. message_joined g i (replica_before g r m) m) m e
+
+-- the message of the file is read, and this is what is given of it
+pub file-given : {A : Type 0} (shown : A → Peer) (g : List Decl) (i : ℕ) (r : Option Peer) (bytes : List ℕ) (m : Message) (result : Result A Failure) → refusing (state_refused i) (decoded bytes) ≡ Ok m
+    → Gives shown (message_joined g i (replica_before g r m) m) result → Gives shown (file_joined g i r bytes) result
+file-given shown g i r bytes m result e h = subst (λ (answer : Result Peer Refusal). Gives shown answer result) (sym (file-message g i r bytes m e)) h
+
+-- the file holds no message, or memory was wanting
+pub file-refused : {A : Type 0} (shown : A → Peer) (g : List Decl) (i : ℕ) (r : Option Peer) (bytes : List ℕ) (failure : Failure) → Gives (λ (m : Message). m) (refusing (state_refused i) (decoded bytes)) (Err failure)
+    → Gives shown (file_joined g i r bytes) (Err failure)
+unfolding file_joined
+file-refused shown g i r bytes (Refused e) h = chain-refused (refusing (state_refused i) (decoded bytes)) (λ m. message_joined g i (replica_before g r m) m) e h
+file-refused shown g i r bytes (ReadFault f) h = h
+file-refused shown g i r bytes Memory h = tt
+
+-- ---- the node
+
+module _ {N : Type 0} (decls : N → List Decl) (number among : N → ℕ) (peer : N → Peer) where
+  -- a node to which nothing has happened
+  pub replica-fresh : (g : List Decl) (nodes : ℕ) (n : N) → IsNode decls number among g nodes 0 n → peer n ≡ fresh_peer g nodes → IsReplica decls number among peer g n
+  replica-fresh g nodes n node fresh = record {
+    graph = node.graph;
+    replica = node.replica;
+    nodes = node.nodes ∙ sym long;
+    held = subst (λ (r : Peer). IsHeld (length r.counts) g r) (sym fresh) (subst (λ (k : ℕ). IsHeld k g (fresh_peer g nodes)) (sym (length-zeros nodes)) (held-fresh nodes g));
+  } where
+    long : length (peer n).counts ≡ nodes
+    long = ap (λ (r : Peer). length r.counts) fresh ∙ length-zeros nodes
+
+  -- what the node has to have for what it does
+  pub replica-held : (g : List Decl) (n : N) → IsReplica decls number among peer g n → IsHeld (among n) (decls n) (peer n)
+  replica-held g n h = subst (λ (ds : List Decl). IsHeld (among n) ds (peer n)) (sym h.graph) (subst (λ (k : ℕ). IsHeld k g (peer n)) (sym h.nodes) h.held)
+
+  pub replica-sent : (g : List Decl) (n : N) (m : Message) → IsReplica decls number among peer g n → may_take g (peer n) m ≡ true → IsMessage m → IsSentTo (among n) (decls n) m
+  replica-sent g n m h taken lawful =
+      subst (λ (ds : List Decl). IsSentTo (among n) ds m) (sym h.graph) (subst (λ (k : ℕ). IsSentTo k g m) (sym h.nodes) (taken-sent g (peer n) m taken lawful))
+
+  -- the node after a message
+  pub replica-joined : (g : List Decl) (n new : N) (m : Message) → IsReplica decls number among peer g n → may_take g (peer n) m ≡ true → IsMessage m
+      → IsNode decls number among (decls n) (among n) (number n) new → peer new ≡ delivered (decls n) m (peer n) → first_large 0 (delivered (decls n) m (peer n)).contents ≡ None
+      → IsReplica decls number among peer g new
+  replica-joined g n new m h taken lawful node is small = record {
+    graph = node.graph ∙ h.graph;
+    replica = node.replica ∙ h.replica;
+    nodes = node.nodes ∙ h.nodes ∙ sym long;
+    held = subst (λ (k : ℕ). IsHeld k g (peer new)) (sym long) (subst (IsHeld (length (peer n).counts) g) (sym same) after);
+  } where
+    same : peer new ≡ delivered g m (peer n)
+    same = is ∙ ap (λ (ds : List Decl). delivered ds m (peer n)) h.graph
+
+    sent : IsSentTo (length (peer n).counts) g m
+    sent = taken-sent g (peer n) m taken lawful
+
+    long : length (peer new).counts ≡ length (peer n).counts
+    long = ap (λ (r : Peer). length r.counts) same ∙ (let wide = sent.wide in omega (arith, length-larger (peer n).counts m.counts, wide))
+
+    after : IsHeld (length (peer n).counts) g (delivered g m (peer n))
+    after = held-delivered (length (peer n).counts) g m (peer n) h.held sent (ap (λ (ds : List Decl). first_large 0 (delivered ds m (peer n)).contents) (sym h.graph) ∙ small)
+
+  -- a variable that comes to be too large is one of the graph
+  pub large-low : (g : List Decl) (n : N) (m : Message) (x : ℕ) → IsReplica decls number among peer g n → first_large 0 (delivered (decls n) m (peer n)).contents ≡ Some x → x < length g
+  large-low g n m x h large =
+      let long = h.held.long in
+      omega (arith, first-low 0 (delivered (decls n) m (peer n)).contents x large, gained-length (brought (decls n) m) 0 (peer n).contents, long)
+
+  -- ---- what is answered of the node
+
+  pub joined-taken : (g : List Decl) (i : ℕ) (n new : N) (m : Message) → IsReplica decls number among peer g n → may_take g (peer n) m ≡ true
+      → peer new ≡ delivered (decls n) m (peer n) → first_large 0 (delivered (decls n) m (peer n)).contents ≡ None → message_joined g i (peer n) m ≡ Ok (peer new)
+  joined-taken g i n new m h taken is small =
+      message-taken g i (peer n) m taken (ap (λ (ds : List Decl). first_large 0 (delivered ds m (peer n)).contents) (sym h.graph) ∙ small)
+      ∙ ap (λ (r : Peer). Ok r) (sym (is ∙ ap (λ (ds : List Decl). delivered ds m (peer n)) h.graph))
+
+  pub joined-large : {A : Type 0} (shown : A → Peer) (g : List Decl) (i x : ℕ) (n : N) (m : Message) (failure : Failure) → IsReplica decls number among peer g n → may_take g (peer n) m ≡ true
+      → first_large 0 (delivered (decls n) m (peer n)).contents ≡ Some x → IsRefusal (refusal.TooLarge i 0 (name_at g x)) failure → Gives shown (message_joined g i (peer n) m) (Err failure)
+  joined-large shown g i x n m failure h taken large is =
+      refusal-given shown (message_joined g i (peer n) m) (refusal.TooLarge i 0 (name_at g x)) failure
+      (message-large g i x (peer n) m taken (ap (λ (ds : List Decl). first_large 0 (delivered ds m (peer n)).contents) (sym h.graph) ∙ large)) is
+
+pub ruleset replicas = (replica-fresh, replica-held, replica-sent, replica-joined, large-low, joined-taken, joined-large, joined-wrong)

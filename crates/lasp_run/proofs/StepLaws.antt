@@ -1,0 +1,102 @@
+-- Laws of a command: its acts, one after the other.
+use Rattle.std.proofs.Common.{zero, suc, sym, ap, subst, arith}
+use Rattle.std.specs.Prelude.{◌≡◌, ℕ, ◌+◌, List, [], ◌∷◌, map, length, slice_get, Some, Result, Ok, Err, OnOk}
+use Rattle.std.proofs.lemmas.List.{length-map}
+use Rattle.model_values.specs.Value.{Val}
+use Rattle.model_graph.specs.Chain.{◌>>=◌}
+use Rattle.model_graph.specs.Graph.{Decl}
+use Rattle.model_wire.specs.Lawful as wire
+use Rattle.model_world.specs.Command as plain
+use Rattle.model_world.specs.Lawful.{Stage, stage_after, MayAsk, IsMarkOf}
+use Rattle.model_world.specs.Lawful as lawful
+use Rattle.model_world.specs.World.{Peer, Run, Act, Point, act, each, mark_at}
+use Rattle.model_world.specs.declared.stop.Stop.{Stop}
+use Rattle.model_world.proofs.StopLaws.{point-same}
+use Rattle.model_held.proofs.SoundLaws.{sound-later}
+use Rattle.lasp_drive.specs.Driver.{marked_of, run_of, stage_of, IsReady, Does}
+use Rattle.lasp_drive.specs.declared.driver.Mark.{Mark}
+use Rattle.lasp_drive.specs.declared.driver.Driver.{Driver}
+use Rattle.lasp_drive.specs.declared.halt.Halt.{Halt}
+use Rattle.lasp_drive.proofs.SyncLaws.{halts-first}
+use Rattle.lasp_run.specs.Play.{IsUntilWithin}
+use Rattle.lasp_script.specs.Command.{until_of}
+use Rattle.lasp_script.specs.declared.command.Until.{Until}
+use Rattle.lasp_script.specs.declared.command.Until.TheVariants as until
+
+module _ {N : Type 0} (decls : N → List Decl) (number among : N → ℕ) (peer : N → Peer) where
+  -- a driver before a command stands before a later one, too
+  pub ready-later : (many c : ℕ) (d : Driver N) → IsReady decls number among peer many c d → IsReady decls number among peer many (c + 1) d
+  ready-later many c d ready = record {
+    some = ready.some;
+    few = ready.few;
+    size = ready.size;
+    nodes = ready.nodes;
+    limit = ready.limit;
+    sound = sound-later many c (stage_of d) (run_of peer d) ready.sound;
+  }
+
+  pub ok-later : {A : Type 0} (result : Result A Halt) (many c : ℕ) (d : Driver N) → OnOk result (IsReady decls number among peer many c d) → OnOk result (IsReady decls number among peer many (c + 1) d)
+  ok-later (Ok done) many c d h = ready-later many c d h
+  ok-later (Err why) many c d h = tt
+
+  -- as many nodes as it has
+  pub ready-here : (many c : ℕ) (d : Driver N) → IsReady decls number among peer many c d → IsReady decls number among peer (length d.nodes.items) c d
+  ready-here many c d ready = subst (λ (k : ℕ). IsReady decls number among peer k c d) (sym ready.size) ready
+
+-- a command of one act
+pub does-one : {A : Type 0} (c : ℕ) (run : Run) (a : Act) (result : Result A Halt) (new : Run) → Does (act c run a) result new → Does (each c run (a ∷ [])) result new
+does-one c run a (Ok done) new h = ap (λ (r : Result Run Stop). r >>= (λ n. each c n [])) h
+does-one c run a (Err why) new h = halts-first c run a [] why h
+
+-- a command of two acts, of which the first was done
+pub does-two : {A : Type 0} (c : ℕ) (run next : Run) (a b : Act) (result : Result A Halt) (new : Run) → act c run a ≡ Ok next → Does (act c next b) result new → Does (each c run (a ∷ b ∷ [])) result new
+does-two c run next a b result new first second =
+    subst (λ (r : Result Run Stop). Does r result new) (sym (ap (λ (r : Result Run Stop). r >>= (λ n. each c n (b ∷ []))) first)) (does-one c next b result new second)
+
+-- a value that a script may give is one of the format
+pub value-here : (v : Val) → lawful.IsSourceValue v → wire.IsSpellable v → wire.IsSourceValue v
+value-here v may parts = record { size = may.0; parts = parts }
+
+-- ---- marks
+
+length-marks : (marks : List Mark) → length (map marked_of marks) ≡ length marks
+length-marks marks = length-map marks marked_of
+
+-- what a mark keeps
+pub mark-here : (marks : List Mark) (m : ℕ) (mark : Mark) → slice_get marks m ≡ Some mark → mark_at (map marked_of marks) m ≡ marked_of mark
+mark-here [] m mark at = absurd cc
+mark-here (k ∷ marks) zero mark at = ap marked_of (let same : k ≡ mark = cc in same)
+mark-here (k ∷ marks) (suc m) mark at = mark-here marks m mark at
+
+-- the mark that a threshold names is there
+pub until-within : (nodes x : ℕ) (s : Stage) (t : Until) (many : ℕ) → length s.marked ≡ many → MayAsk nodes s x (until_of t) → IsUntilWithin many t
+until-within nodes x s (until.AtLeast m) many same may = omega (arith, may.0, same)
+until-within nodes x s (until.Above m) many same may = omega (arith, may.0, same)
+until-within nodes x s (until.Count k) many same may = tt
+until-within nodes x s (until.Added vs) many same may = tt
+until-within nodes x s (until.Removed vs) many same may = tt
+
+-- ---- two acts
+
+module _ {N : Type 0} (decls : N → List Decl) (number among : N → ℕ) (peer : N → Peer) where
+  pub ok-here : {A : Type 0} (result : Result A Halt) (many k c : ℕ) (d : Driver N) → k ≡ many → OnOk result (IsReady decls number among peer k c d) → OnOk result (IsReady decls number among peer many (c + 1) d)
+  ok-here result many k c d same h = ok-later decls number among peer result many c d (subst (λ (n : ℕ). OnOk result (IsReady decls number among peer n c d)) same h)
+
+pub ok-stage : {A : Type 0} (result : Result A Halt) (new middle old : Stage) → middle ≡ old → OnOk result (new ≡ middle) → OnOk result (new ≡ old)
+ok-stage result new middle old same h = subst (λ (s : Stage). OnOk result (new ≡ s)) same h
+
+pub ok-declared : {A : Type 0} (result : Result A Halt) (many k : ℕ) (new middle old : Stage) (d : Decl) → middle ≡ old → OnOk result (new ≡ stage_after k middle (plain.Declare d)) → OnOk result (new ≡ stage_after many old (plain.Declare d))
+ok-declared result many k new middle old d same h = subst (λ (s : Stage). OnOk result (new ≡ stage_after many s (plain.Declare d))) same h
+
+pub stage-now : {A : Type 0} (result : Result A Halt) (new old : Stage) → new ≡ old → OnOk result (new ≡ old)
+stage-now (Ok done) new old h = h
+stage-now (Err why) new old h = tt
+
+module _ {N : Type 0} (decls : N → List Decl) (number among : N → ℕ) (peer : N → Peer) where
+  pub ready-now : {A : Type 0} (result : Result A Halt) (many c : ℕ) (d : Driver N) → IsReady decls number among peer many c d → OnOk result (IsReady decls number among peer many (c + 1) d)
+  ready-now (Ok done) many c d ready = ready-later decls number among peer many c d ready
+  ready-now (Err why) many c d ready = tt
+
+-- a point leaves the marks
+pub marks-stay : (c : ℕ) (run next : Run) → act c run Point ≡ Ok next → next.marks ≡ run.marks
+marks-stay c run next done = ap (λ (r : Run). r.marks) (point-same c 0 run.peers run next done)

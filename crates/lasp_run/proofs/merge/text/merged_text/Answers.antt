@@ -1,0 +1,14 @@
+use Rattle.std.proofs.Common.{◌≡◌, ◌<◌, List, length, Some, Err, subst}
+use Rattle.model_graph.specs.Evaluation.{first_large}
+use Rattle.model_graph.specs.Graph.{Decl}
+use Rattle.model_world.specs.World.{shown_at}
+use Rattle.lasp_drive.specs.Node.{Settles}
+use Rattle.lasp_drive.specs.declared.node.NodeStop.{NodeStop}
+use Rattle.lasp_run.proofs.TextLaws.{shown-low}
+use Rattle.lasp_run.proofs.merge.text.merged_text.Goals as goal
+
+pub too_large-requires : goal.too_large-requires
+too_large-requires g c =
+    let large : first_large 0 (shown_at (g.N.Node.decls c.args.node) (g.N.Node.peer c.args.node)) ≡ Some c.in-Err-TooLarge.var =
+    subst (λ (stop : NodeStop). Settles {A = Unit {0}} (first_large 0 (shown_at (g.N.Node.decls c.args.node) (g.N.Node.peer c.args.node))) (Err stop)) c.in-Err-TooLarge.field-0-is c.in-Err-TooLarge.ensures.done in
+    rw c.in-Err-TooLarge.field-0-is (subst (λ (ds : List Decl). c.in-Err-TooLarge.var < length ds) c.requires.node.graph (shown-low (g.N.Node.decls c.args.node) (g.N.Node.peer c.args.node) c.in-Err-TooLarge.var large))

@@ -1,0 +1,12 @@
+use Rattle.std.proofs.Common.{◌≡◌, ◌++◌, ◌≤◌, length, drop}
+use Rattle.std.specs.Prelude.{string_bytes}
+use Rattle.model_world.specs.World.{shown_at}
+use Rattle.model_program.specs.Merge.{value_lines}
+use Rattle.lasp_run.proofs.merge.text.push_values.Given as goal
+
+abbrev pub invariant-loop-x : goal.invariant-loop-x
+invariant-loop-x g l = record {
+  within : l.x ≤ length l.graph;
+  text : string_bytes l.text ++ value_lines l.x (drop l.x l.graph) (shown_at l.graph (g.N.Node.peer l.node))
+      ≡ string_bytes l.fn.text ++ value_lines 0 l.graph (shown_at l.graph (g.N.Node.peer l.node));
+}

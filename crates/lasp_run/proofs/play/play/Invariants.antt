@@ -1,0 +1,21 @@
+use Rattle.std.proofs.Common.{◌≡◌, ◌+◌, ◌≤◌, length, drop}
+use Rattle.std.specs.Arc.{arc_value}
+use Rattle.model_readings.specs.Lawful.{IsGraph, FitsAll}
+use Rattle.model_scripts.specs.Progress.{grown}
+use Rattle.model_world.specs.Lawful.{AreLawful}
+use Rattle.model_world.specs.World.{play}
+use Rattle.lasp_graph.specs.Library.{library_of}
+use Rattle.lasp_drive.specs.Driver.{IsReady, run_of, stage_of}
+use Rattle.lasp_run.proofs.play.play.Given as goal
+
+abbrev pub invariant-loop-i : goal.invariant-loop-i
+invariant-loop-i g l = record {
+  number : l.c ≡ l.i + 1;
+  within : l.i ≤ length l.script.commands;
+  size : length l.driver.nodes.items ≡ length l.fn.driver.nodes.items;
+  ready : IsReady g.N.Node.decls g.N.Node.number g.N.Node.among g.N.Node.peer (length l.driver.nodes.items) l.c l.driver;
+  lawful : AreLawful (length l.driver.nodes.items) (stage_of l.driver) (drop l.i l.script.commands);
+  graph : IsGraph (grown (arc_value l.driver.graph) (drop l.i l.script.commands));
+  fits : FitsAll (library_of l.lib) (grown (arc_value l.driver.graph) (drop l.i l.script.commands));
+  rest : play l.c (run_of g.N.Node.peer l.driver) (drop l.i l.script.commands) ≡ play 1 (run_of g.N.Node.peer l.fn.driver) l.script.commands;
+}

@@ -1,0 +1,157 @@
+//! `merge`: the graph, the messages of files, joined one after the other, and what the variables show of all of them.
+
+ghost use Rattle.std.specs.Prelude.{◌≡◌, ◌<◌, ◌≤◌, ◌+◌, ◌-◌, ℕ, List, Some, None, IfOk, length};
+ghost use Rattle.std.specs.Arc.{arc_value};
+ghost use Rattle.model_readings.specs.Lawful.{FitsAll};
+ghost use Rattle.model_program.specs.Plan.{Says};
+ghost use Rattle.model_program.specs.Follows.{view, Performs, Follows};
+ghost use Rattle.model_program.specs.Merge.{merging_file, merging_more, merging_files, merge_answer};
+ghost use Rattle.model_program.specs.Program.{merging};
+ghost use Rattle.lasp_graph.specs.Library.{library_of};
+ghost use Rattle.lasp_run.specs.Merge.{IsReplica, ComesTo};
+ghost use Rattle.lasp_run.specs.Words.{words_of, answered};
+
+mod join;
+mod source;
+mod text;
+
+use crate::merge::join::{join_first, join_next};
+use crate::merge::text::merged_text;
+use crate::open::{open_shared, read_file};
+use lasp_drive::Node;
+use lasp_edge::Files;
+use lasp_fns::Library;
+use lasp_graph::Graph;
+use model_program::Failure;
+use std::alloc::Global;
+use std::sync::Arc;
+
+/// A node with the message of the first file.
+fn merge_first<N: Node, F: Files>(
+    alloc: Global,
+    words: &[String],
+    graph: &Arc<Graph>,
+    files: &mut F,
+) -> Result<N, Failure>
+    requires { 2 < length words.now }
+    ensures same { (name : List ℕ) → F.content files.new name ≡ F.content files.old name }
+    ensures later { (name : List ℕ) → F.faults files.old name ≤ F.faults files.new name }
+    ensures part { Performs N.peer (words_of words.now) (view (F.content files.old) (F.faults files.old) (F.faults files.new)) (merging_file (arc_value graph.now) 0 None) result }
+    ensures node { IfOk result (IsReplica N.decls N.number N.among N.peer (arc_value graph.now)) }
+{
+    match read_file(alloc, words, 2, files) {
+        Ok(bytes) => join_first(alloc, graph, &bytes),
+        Err(failure) => Err(failure),
+    }
+}
+
+/// The node with the message of one file more.
+fn merge_next<N: Node, F: Files>(
+    alloc: Global,
+    words: &[String],
+    graph: &Graph,
+    number: u8,
+    node: N,
+    files: &mut F,
+) -> Result<N, Failure>
+    requires word { number + 2 < length words.now }
+    requires node { IsReplica N.decls N.number N.among N.peer graph.now node }
+    ensures same { (name : List ℕ) → F.content files.new name ≡ F.content files.old name }
+    ensures later { (name : List ℕ) → F.faults files.old name ≤ F.faults files.new name }
+    ensures part { Performs N.peer (words_of words.now) (view (F.content files.old) (F.faults files.old) (F.faults files.new)) (merging_file graph.now number (Some (N.peer node))) result }
+    ensures node { IfOk result (IsReplica N.decls N.number N.among N.peer graph.now) }
+{
+    match read_file(alloc, words, usize::from(number) + 2, files) {
+        Ok(bytes) => join_next(alloc, graph, number, node, &bytes),
+        Err(failure) => Err(failure),
+    }
+}
+
+/// The node with the messages of all files after the first.
+fn merge_rest<N: Node, F: Files>(
+    alloc: Global,
+    words: &[String],
+    graph: &Graph,
+    first: N,
+    files: &mut F,
+) -> Result<N, Failure>
+    requires some { 2 < length words.now }
+    requires few { length words.now < 11 }
+    requires node { IsReplica N.decls N.number N.among N.peer graph.now first }
+    ensures same { (name : List ℕ) → F.content files.new name ≡ F.content files.old name }
+    ensures later { (name : List ℕ) → F.faults files.old name ≤ F.faults files.new name }
+    ensures rest { ComesTo N.peer (words_of words.now) (view (F.content files.old) (F.faults files.old) (F.faults files.new)) (merging_more graph.now 1 (length words.now - 3) (N.peer first)) (λ r. Says (merge_answer graph.now (length words.now - 2) r)) result }
+    ensures node { IfOk result (IsReplica N.decls N.number N.among N.peer graph.now) }
+{
+    let mut node = first;
+    for number in 1..(words.len() - 2) as u8 {
+        match merge_next(alloc, words, graph, number, node, files) {
+            Ok(next) => node = next,
+            Err(failure) => return Err(failure),
+        }
+    }
+    Ok(node)
+}
+
+/// What the variables show of all files, the node having that of the first.
+fn merge_more<N: Node, F: Files>(
+    alloc: Global,
+    words: &[String],
+    graph: &Graph,
+    first: N,
+    files: &mut F,
+    lib: &Library,
+) -> Result<Vec<u8>, Failure>
+    requires some { 2 < length words.now }
+    requires few { length words.now < 11 }
+    requires node { IsReplica N.decls N.number N.among N.peer graph.now first }
+    requires fits { FitsAll (library_of lib.now) graph.now }
+    ensures same { (name : List ℕ) → F.content files.new name ≡ F.content files.old name }
+    ensures later { (name : List ℕ) → F.faults files.old name ≤ F.faults files.new name }
+    ensures follows { Follows (words_of words.now) (view (F.content files.old) (F.faults files.old) (F.faults files.new)) (merging_more graph.now 1 (length words.now - 3) (N.peer first)) (answered result) }
+{
+    match merge_rest(alloc, words, graph, first, files) {
+        Ok(node) => merged_text(alloc, graph, (words.len() - 2) as u8, node, lib),
+        Err(failure) => Err(failure),
+    }
+}
+
+/// The same, once the graph is read.
+fn merge_files<N: Node, F: Files>(
+    alloc: Global,
+    words: &[String],
+    graph: &Arc<Graph>,
+    files: &mut F,
+    lib: &Library,
+) -> Result<Vec<u8>, Failure>
+    requires some { 2 < length words.now }
+    requires few { length words.now < 11 }
+    requires fits { FitsAll (library_of lib.now) (arc_value graph.now) }
+    ensures same { (name : List ℕ) → F.content files.new name ≡ F.content files.old name }
+    ensures later { (name : List ℕ) → F.faults files.old name ≤ F.faults files.new name }
+    ensures follows { Follows (words_of words.now) (view (F.content files.old) (F.faults files.old) (F.faults files.new)) (merging_files (arc_value graph.now) (length words.now - 3)) (answered result) }
+{
+    match merge_first::<N, F>(alloc, words, graph, files) {
+        Ok(node) => merge_more(alloc, words, graph, node, files, lib),
+        Err(failure) => Err(failure),
+    }
+}
+
+/// `merge`: reads the graph, joins the messages of the files, and tells what the variables show of all of them.
+pub fn run_merge<N: Node, F: Files>(
+    alloc: Global,
+    words: &[String],
+    files: &mut F,
+    lib: &Library,
+) -> Result<Vec<u8>, Failure>
+    requires some { 2 < length words.now }
+    requires few { length words.now < 11 }
+    ensures same { (name : List ℕ) → F.content files.new name ≡ F.content files.old name }
+    ensures later { (name : List ℕ) → F.faults files.old name ≤ F.faults files.new name }
+    ensures follows { Follows (words_of words.now) (view (F.content files.old) (F.faults files.old) (F.faults files.new)) (merging (library_of lib.now) (length words.now - 3)) (answered result) }
+{
+    match open_shared(alloc, words, files, lib) {
+        Ok(graph) => merge_files::<N, F>(alloc, words, &graph, files, lib),
+        Err(failure) => Err(failure),
+    }
+}

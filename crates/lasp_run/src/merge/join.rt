@@ -1,0 +1,118 @@
+//! The message of a file, joined into the node that has those of the files before it.
+
+ghost use Rattle.std.specs.Prelude.{◌≡◌, ◌<◌, ◌+◌, Some, None, IfOk, length};
+ghost use Rattle.std.specs.Arc.{arc_value};
+ghost use Rattle.model_graph.specs.Chain.{refusing};
+ghost use Rattle.model_graph.specs.Graph.{name_at};
+ghost use Rattle.model_wire.specs.Lawful.{IsMessage};
+ghost use Rattle.model_wire.specs.Message.{decoded};
+ghost use Rattle.model_program.specs.Follows.{Gives};
+ghost use Rattle.model_program.specs.Merge.{state_refused, may_take, message_joined, file_joined};
+ghost use Rattle.model_program.specs.declared.refusal.Refusal.TheVariants as refusal;
+ghost use Rattle.lasp_run.specs.Merge.{IsReplica, IsRefusal};
+
+use crate::merge::source::begins;
+use lasp_drive::{Node, NodeStop};
+use lasp_graph::Graph;
+use lasp_wire::{Message, WireRefused, decode};
+use model_program::{Failure, Refusal, StateWhy};
+use std::alloc::Global;
+use std::sync::Arc;
+
+/// The place of a file's name among the words, the files being counted from 0.
+fn place_of(number: u8) -> usize
+    ensures { result ≡ number + 2 }
+{
+    usize::from(number) + 2
+}
+
+/// The message that the bytes of a file are.
+fn read_message(alloc: Global, number: u8, bytes: &[u8]) -> Result<Message, Failure>
+    ensures exact { Gives (λ m. m) (refusing (state_refused number) (decoded bytes.now)) result }
+    ensures lawful { IfOk result (λ m. IsMessage m) }
+{
+    match decode(alloc, bytes) {
+        Ok(message) => Ok(message),
+        Err(WireRefused::At { place, why }) => Err(Failure::Refused(Refusal::State(
+            place_of(number),
+            place,
+            StateWhy::Wire(why),
+        ))),
+        Err(WireRefused::Memory) => Err(Failure::Memory),
+    }
+}
+
+/// The refusal of a file, or of what stands after all, where a variable is too large.
+pub fn too_large(graph: &Graph, number: u8, var: u8) -> Failure
+    requires { var < length graph.now }
+    ensures { IsRefusal (refusal.TooLarge number 0 (name_at graph.now var)) result }
+{
+    match graph.at(u64::from(var)).name.try_clone() {
+        Ok(name) => Failure::Refused(Refusal::TooLarge(u32::from(number), 0, name)),
+        Err(_) => Failure::Memory,
+    }
+}
+
+/// Whether a node may take a message: it is of the graph, and of as many nodes.
+fn may_take<N: Node>(graph: &Graph, node: &N, message: &Message) -> bool
+    ensures { result ≡ may_take graph.now (N.peer node.now) message.now }
+{
+    begins(graph, message) && message.counts().len() == node.counts().len() as u64
+}
+
+#[tactic(auto, using(crate::proofs::JoinLaws::replicas))]
+/// The node after a message.
+fn join<N: Node>(
+    alloc: Global,
+    graph: &Graph,
+    number: u8,
+    mut node: N,
+    message: &Message,
+) -> Result<N, Failure>
+    requires node { IsReplica N.decls N.number N.among N.peer graph.now node }
+    requires message { IsMessage message.now }
+    ensures exact { Gives N.peer (message_joined graph.now number (N.peer node) message.now) result }
+    ensures node { IfOk result (IsReplica N.decls N.number N.among N.peer graph.now) }
+{
+    if !may_take(graph, &node, message) {
+        return Err(Failure::Refused(Refusal::State(place_of(number), 0, StateWhy::WrongGraph)));
+    }
+    match node.deliver(alloc, message) {
+        Ok(()) => Ok(node),
+        Err(NodeStop::TooLarge(var)) => Err(too_large(graph, number, var)),
+        Err(NodeStop::Memory) => Err(Failure::Memory),
+    }
+}
+
+#[tactic(auto, using(crate::proofs::JoinLaws::replicas))]
+/// The node after the first file.
+pub fn join_first<N: Node>(alloc: Global, graph: &Arc<Graph>, bytes: &[u8]) -> Result<N, Failure>
+    ensures exact { Gives N.peer (file_joined (arc_value graph.now) 0 None bytes.now) result }
+    ensures node { IfOk result (IsReplica N.decls N.number N.among N.peer (arc_value graph.now)) }
+{
+    match read_message(alloc, 0, bytes) {
+        Ok(message) => match N::new(alloc, graph, 0, message.counts().len() as u8) {
+            Ok(node) => join(alloc, graph, 0, node, &message),
+            Err(_) => Err(Failure::Memory),
+        },
+        Err(failure) => Err(failure),
+    }
+}
+
+/// The node after one file more.
+pub fn join_next<N: Node>(
+    alloc: Global,
+    graph: &Graph,
+    number: u8,
+    node: N,
+    bytes: &[u8],
+) -> Result<N, Failure>
+    requires node { IsReplica N.decls N.number N.among N.peer graph.now node }
+    ensures exact { Gives N.peer (file_joined graph.now number (Some (N.peer node)) bytes.now) result }
+    ensures node { IfOk result (IsReplica N.decls N.number N.among N.peer graph.now) }
+{
+    match read_message(alloc, number, bytes) {
+        Ok(message) => join(alloc, graph, number, node, &message),
+        Err(failure) => Err(failure),
+    }
+}

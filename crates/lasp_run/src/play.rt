@@ -1,0 +1,135 @@
+//! Runs a script over nodes of any engine, command by command.
+
+ghost use Rattle.std.specs.Prelude.{◌≡◌, ◌<◌, ◌≤◌, ◌+◌, ◌∷◌, [], ℕ, length, OnOk};
+ghost use Rattle.std.specs.Arc.{arc_value};
+ghost use Rattle.model_readings.specs.Lawful.{IsGraph, FitsAll};
+ghost use Rattle.model_world.specs.Lawful.{opening_stage, AreLawful, IsLawful, IsWithinLimits};
+ghost use Rattle.model_world.specs.Report.{report_of};
+ghost use Rattle.model_world.specs.World.{ended, play};
+ghost use Rattle.model_scripts.specs.Progress.{grown};
+ghost use Rattle.model_program.specs.Program.{exported_bytes};
+ghost use Rattle.lasp_graph.specs.Library.{library_of};
+ghost use Rattle.lasp_script.specs.Command.{command_of};
+ghost use Rattle.lasp_drive.specs.Node.{AreSettled};
+ghost use Rattle.lasp_drive.specs.Driver.{run_of, stage_of, IsReady, Does};
+ghost use Rattle.lasp_run.specs.Run.{Reports};
+ghost use Rattle.lasp_run.specs.Play.{MayStep, Steps};
+
+mod message;
+mod number;
+mod point;
+mod threshold;
+mod value;
+
+use lasp_drive::{Driver, Halt, Node};
+use lasp_fns::Library;
+use lasp_graph::Graph;
+use lasp_script::{Command, Script};
+use message::{deliver, mark, send, sync};
+use number::{bind, inc, max};
+use point::{declare, print, read, settle, wait};
+use std::alloc::Global;
+use std::sync::Arc;
+use value::{add, insert, remove};
+
+/// Does command number c.
+fn do_command<N: Node>(
+    driver: &mut Driver<N>,
+    alloc: Global,
+    lib: &Library,
+    c: u32,
+    command: &Command,
+) -> Result<(), Halt>
+    requires may { MayStep N.decls N.number N.among N.peer c driver.old (command_of command.now) }
+    requires graph { IsGraph (grown (arc_value driver.old.graph) (command_of command.now ∷ [])) }
+    requires fits { FitsAll (library_of lib.now) (arc_value driver.old.graph) }
+    ensures steps { Steps N.decls N.number N.among N.peer c driver.old (command_of command.now) result driver.new }
+{
+    match command {
+        Command::Add(p, x, v) => add(driver, alloc, c, *p, *x, v),
+        Command::Remove(p, x, v) => remove(driver, alloc, c, *p, *x, v),
+        Command::Insert(p, x, v) => insert(driver, alloc, c, *p, *x, v),
+        Command::Inc(p, x, by) => inc(driver, alloc, c, *p, *x, *by),
+        Command::Max(p, x, number) => max(driver, alloc, c, *p, *x, *number),
+        Command::Mark(p, x) => mark(driver, c, *p, *x),
+        Command::Bind(p, x, m) => bind(driver, alloc, c, *p, *x, *m),
+        Command::Send(p) => send(driver, alloc, c, *p),
+        Command::Deliver(p, i) => deliver(driver, alloc, c, *p, *i),
+        Command::Sync => sync(driver, alloc, c),
+        Command::Settle => settle(driver, alloc, lib, c),
+        Command::Print(p, x) => print(driver, alloc, lib, c, *p, *x),
+        Command::Read(p, x, until) => read(driver, alloc, c, *p, *x, until),
+        Command::Await(p, x, until) => wait(driver, alloc, lib, c, *p, *x, until),
+        Command::Declare(decl) => declare(driver, alloc, lib, c, decl),
+    }
+}
+
+/// Does the commands of a script in order, and settles every node at the end.
+fn play<N: Node>(
+    driver: &mut Driver<N>,
+    alloc: Global,
+    lib: &Library,
+    script: &Script,
+) -> Result<(), Halt>
+    requires ready { IsReady N.decls N.number N.among N.peer (length driver.old.nodes.items) 1 driver.old }
+    requires stage { stage_of driver.old ≡ opening_stage (arc_value driver.old.graph) }
+    requires lawful { AreLawful (length driver.old.nodes.items) (opening_stage (arc_value driver.old.graph)) script.now.commands }
+    requires few { length script.now.commands < 100000 }
+    requires graph { IsGraph (grown (arc_value driver.old.graph) script.now.commands) }
+    requires fits { FitsAll (library_of lib.now) (grown (arc_value driver.old.graph) script.now.commands) }
+    ensures ready { OnOk result ((c : ℕ) × (c ≤ 100000) × IsReady N.decls N.number N.among N.peer (length driver.new.nodes.items) c driver.new) }
+    ensures size { OnOk result (length driver.new.nodes.items ≡ length driver.old.nodes.items) }
+    ensures settled { OnOk result (AreSettled N.decls N.peer N.shown driver.new.nodes.items) }
+    ensures done { Does (play 1 (run_of N.peer driver.old) script.now.commands) result (run_of N.peer driver.new) }
+{
+    let mut c: u32 = 1;
+    for i in 0..script.len() {
+        match do_command(driver, alloc, lib, c, script.at(i)) {
+            Ok(()) => c += 1,
+            Err(halt) => return Err(halt),
+        }
+    }
+    driver.point(alloc, lib, c)
+}
+
+/// Runs a script against its graph on nodes of one engine, and writes its report.
+pub fn drive_on<N: Node>(
+    alloc: Global,
+    graph: &Arc<Graph>,
+    lib: &Library,
+    script: &Script,
+) -> Result<Vec<u8>, Halt>
+    requires lawful { IsLawful (arc_value graph.now) script.now }
+    requires limits { IsWithinLimits script.now }
+    requires graph { IsGraph (grown (arc_value graph.now) script.now.commands) }
+    requires fits { FitsAll (library_of lib.now) (grown (arc_value graph.now) script.now.commands) }
+    ensures reports { Reports (ended (arc_value graph.now) script.now) report_of result }
+{
+    let mut driver: Driver<N> = Driver::new(alloc, graph, script.nodes())?;
+    match play(&mut driver, alloc, lib, script) {
+        Ok(()) => Ok(driver.report()?),
+        Err(halt) => Err(halt),
+    }
+}
+
+/// Runs a script against its graph on nodes of one engine, and gives the bytes of what a node would send at the end.
+pub fn export_on<N: Node>(
+    alloc: Global,
+    graph: &Arc<Graph>,
+    lib: &Library,
+    script: &Script,
+    node: u8,
+) -> Result<Vec<u8>, Halt>
+    requires lawful { IsLawful (arc_value graph.now) script.now }
+    requires limits { IsWithinLimits script.now }
+    requires graph { IsGraph (grown (arc_value graph.now) script.now.commands) }
+    requires fits { FitsAll (library_of lib.now) (grown (arc_value graph.now) script.now.commands) }
+    requires node { node < script.now.nodes }
+    ensures reports { Reports (ended (arc_value graph.now) script.now) (exported_bytes node) result }
+{
+    let mut driver: Driver<N> = Driver::new(alloc, graph, script.nodes())?;
+    match play(&mut driver, alloc, lib, script) {
+        Ok(()) => Ok(driver.export(alloc, node)?),
+        Err(halt) => Err(halt),
+    }
+}

@@ -1,0 +1,46 @@
+//! Marks and messages.
+
+ghost use Rattle.std.specs.Prelude.{◌≡◌, length};
+ghost use Rattle.model_world.specs.Command as plain;
+ghost use Rattle.lasp_run.specs.Play.{MayStep, Steps};
+
+use lasp_drive::{Driver, Halt, Node};
+use std::alloc::Global;
+
+/// Marks what a source holds.
+pub fn mark<N: Node>(driver: &mut Driver<N>, c: u32, p: u8, x: u8) -> Result<(), Halt>
+    requires may { MayStep N.decls N.number N.among N.peer c driver.old (plain.Mark p x) }
+    ensures steps { Steps N.decls N.number N.among N.peer c driver.old (plain.Mark p x) result driver.new }
+{
+    driver.keep(c, p, x)
+}
+
+/// A node sends.
+pub fn send<N: Node>(driver: &mut Driver<N>, alloc: Global, c: u32, p: u8) -> Result<(), Halt>
+    requires may { MayStep N.decls N.number N.among N.peer c driver.old (plain.Send p) }
+    ensures steps { Steps N.decls N.number N.among N.peer c driver.old (plain.Send p) result driver.new }
+{
+    driver.post(alloc, c, p)
+}
+
+/// A node takes a message.
+pub fn deliver<N: Node>(
+    driver: &mut Driver<N>,
+    alloc: Global,
+    c: u32,
+    p: u8,
+    i: u32,
+) -> Result<(), Halt>
+    requires may { MayStep N.decls N.number N.among N.peer c driver.old (plain.Deliver p i) }
+    ensures steps { Steps N.decls N.number N.among N.peer c driver.old (plain.Deliver p i) result driver.new }
+{
+    driver.take(alloc, c, p, i)
+}
+
+/// Every node sends, and then each takes the messages of all others.
+pub fn sync<N: Node>(driver: &mut Driver<N>, alloc: Global, c: u32) -> Result<(), Halt>
+    requires may { MayStep N.decls N.number N.among N.peer c driver.old (plain.Sync) }
+    ensures steps { Steps N.decls N.number N.among N.peer c driver.old (plain.Sync) result driver.new }
+{
+    driver.sync(alloc, c)
+}
