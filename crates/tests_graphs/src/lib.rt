@@ -1,9 +1,7 @@
-//! Tests of states, of graphs and of scripts.
+//! Tests of states and of graphs.
 #![tactic(auto)]
 
 #[cfg(test)]
 mod graph;
-#[cfg(test)]
-mod script;
 #[cfg(test)]
 mod state;

@@ -90,7 +90,7 @@ const REFUSED: [(&[u8], &[u8], u8, &str); 29] = [
         b"[[\"a\",\"orset\"]]",
         b"[[\"nodes\",1],[\"print\",0,\"a\"],[\"deliver\",0,0]]",
         3,
-        "script 2 Shape\n",
+        "script 2 NotSent\n",
     ),
     (
         b"[[\"a\",\"orset\"]]",

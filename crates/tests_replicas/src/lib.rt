@@ -1,0 +1,5 @@
+//! Tests of runs of several nodes, and of messages as files.
+#![tactic(auto)]
+
+#[cfg(test)]
+mod run;

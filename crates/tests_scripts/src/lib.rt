@@ -1,0 +1,5 @@
+//! Tests of the reading of scripts.
+#![tactic(auto)]
+
+#[cfg(test)]
+mod script;
