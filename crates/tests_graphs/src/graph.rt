@@ -2,124 +2,134 @@
 
 mod calls;
 mod followed;
+mod made;
 
 use lasp_fns::Library;
-use lasp_graph::{Graph, GraphRefused, GraphWhy, Kind, read_graph};
-use std::alloc::Global;
+use lasp_graph::{Decl, Graph, GraphRefused, GraphWhy, read_graph};
+use std::alloc::{AllocError, Global};
 use std::test::Fail;
+
+/// A declaration's name, its inputs, and `s` where it is a source, `d` where it is derived.
+fn spell_decl(out: &mut String, d: &Decl) -> Result<(), AllocError> {
+    out.push_str(d.name.as_str())?;
+    out.push_str(if d.kind.is_source() { " s" } else { " d" })?;
+    if d.kind.is_set() {
+        out.push_str(" set")?;
+    }
+    match d.kind.inputs() {
+        Some((x, y)) => write!(out, " of {x} {y}"),
+        None => Ok(()),
+    }
+}
+
+/// Each declaration with its width, on a line of its own.
+fn spell(alloc: Global, g: &Graph) -> Result<String, AllocError> {
+    let mut out = String::new(alloc);
+    for i in 0..g.len() {
+        spell_decl(&mut out, g.at(i))?;
+        write!(out, " {}\n", g.width(i as u8))?;
+    }
+    Ok(out)
+}
+
+const GRAPH: &str =
+    r#"[["a","orset"],["b_2","gset"],["c","counter"],["d","maxreg"],["u","union","a","a"],["p","product","u","a"],["i","intersection","p","u"]]"#;
+
+const SPELLED: &str = "a s set 1
+b_2 s 1
+c s 1
+d s 1
+u d set of 0 0 1
+p d set of 4 0 2
+i d set of 5 4 3
+";
 
 #[test]
 fn sources_and_processes_are_read(rt: HostRuntime) -> Result<(), Fail> {
-    let text =
-        "[[\"a\",\"orset\"],[\"b_2\",\"gset\"],[\"c\",\"counter\"],[\"d\",\"maxreg\"],[\"u\",\"union\",\"a\",\"a\"],[\"p\",\"product\",\"u\",\"a\"],[\"i\",\"intersection\",\"p\",\"u\"]]";
-    let lib = Library::new(rt.alloc());
-    let graph = read_graph(rt.alloc(), text.as_bytes(), &lib)?;
-    assert_eq!(rt; graph.len(), 7);
+    let alloc = rt.alloc();
+    let graph = read_graph(alloc, GRAPH.as_bytes(), &Library::new(alloc))?;
+    assert_eq!(rt; spell(alloc, &graph)?.as_str(), SPELLED);
     assert_eq!(rt; graph.find("b_2"), Some(1));
-    assert_eq!(rt; graph.find("u"), Some(4));
     assert_eq!(rt; graph.find("e"), None);
-    assert_eq!(rt; graph.at(1).name.as_str(), "b_2");
-    assert_eq!(rt; graph.at(3).kind.inputs(), None);
-    assert_eq!(rt; graph.at(4).kind.inputs(), Some((0, 0)));
-    assert_eq!(rt; graph.at(6).kind.inputs(), Some((5, 4)));
-    assert_eq!(rt; graph.width(2), 1);
-    assert_eq!(rt; graph.width(4), 1);
-    assert_eq!(rt; graph.width(5), 2);
-    assert_eq!(rt; graph.width(6), 3);
-    assert!(rt; graph.at(0).kind.is_source());
-    assert!(rt; !graph.at(2).kind.is_set());
-    assert!(rt; !graph.at(5).kind.is_source());
     Ok(())
 }
 
 /// Each text with the declaration that is to blame, and why.
 const REFUSED: [(&str, u32, GraphWhy); 30] = [
     ("", 0, GraphWhy::NotJson),
-    ("[[\"a\",\"orset\"]", 0, GraphWhy::NotJson),
+    (r#"[["a","orset"]"#, 0, GraphWhy::NotJson),
     ("[] []", 0, GraphWhy::NotJson),
     ("{}", 0, GraphWhy::Shape),
     ("1", 0, GraphWhy::Shape),
-    ("[\"a\"]", 0, GraphWhy::Shape),
+    (r#"["a"]"#, 0, GraphWhy::Shape),
     ("[[]]", 0, GraphWhy::Shape),
-    ("[[\"a\"]]", 0, GraphWhy::Shape),
-    ("[[\"a\",\"orset\"],[\"b\",\"set\"]]", 1, GraphWhy::Shape),
-    ("[[\"a\",\"orset\",\"b\"]]", 0, GraphWhy::Shape),
-    ("[[1,\"orset\"]]", 0, GraphWhy::Shape),
+    (r#"[["a"]]"#, 0, GraphWhy::Shape),
+    (r#"[["a","orset"],["b","set"]]"#, 1, GraphWhy::Shape),
+    (r#"[["a","orset","b"]]"#, 0, GraphWhy::Shape),
+    (r#"[[1,"orset"]]"#, 0, GraphWhy::Shape),
+    (r#"[["a","orset"],["u","union","a"]]"#, 1, GraphWhy::Shape),
+    (r#"[["a","orset"],["u","union","a",1]]"#, 1, GraphWhy::Shape),
+    (r#"[["A","orset"]]"#, 0, GraphWhy::NameShape),
+    (r#"[["","orset"]]"#, 0, GraphWhy::NameShape),
     (
-        "[[\"a\",\"orset\"],[\"u\",\"union\",\"a\"]]",
-        1,
-        GraphWhy::Shape,
-    ),
-    (
-        "[[\"a\",\"orset\"],[\"u\",\"union\",\"a\",1]]",
-        1,
-        GraphWhy::Shape,
-    ),
-    ("[[\"A\",\"orset\"]]", 0, GraphWhy::NameShape),
-    ("[[\"\",\"orset\"]]", 0, GraphWhy::NameShape),
-    (
-        "[[\"a\",\"orset\"],[\"a23456789012345678901234567890123\",\"orset\"]]",
+        r#"[["a","orset"],["a23456789012345678901234567890123","orset"]]"#,
         1,
         GraphWhy::NameShape,
     ),
     (
-        "[[\"a\",\"orset\"],[\"2\",\"union\",\"x\",\"a\"]]",
+        r#"[["a","orset"],["2","union","x","a"]]"#,
         1,
         GraphWhy::NameShape,
     ),
     (
-        "[[\"a\",\"orset\"],[\"b\",\"orset\"],[\"a\",\"union\",\"x\",\"b\"]]",
+        r#"[["a","orset"],["b","orset"],["a","union","x","b"]]"#,
         2,
         GraphWhy::NameTaken,
     ),
     (
-        "[[\"a\",\"orset\"],[\"u\",\"union\",\"x\",\"a\"]]",
+        r#"[["a","orset"],["u","union","x","a"]]"#,
         1,
         GraphWhy::UnknownInput,
     ),
     (
-        "[[\"a\",\"orset\"],[\"u\",\"union\",\"a\",\"u\"]]",
+        r#"[["a","orset"],["u","union","a","u"]]"#,
         1,
         GraphWhy::UnknownInput,
     ),
     (
-        "[[\"a\",\"orset\"],[\"u\",\"union\",\"a\",\"b\"],[\"b\",\"orset\"]]",
+        r#"[["a","orset"],["u","union","a","b"],["b","orset"]]"#,
+        1,
+        GraphWhy::UnknownInput,
+    ),
+    (r#"[["a","orset"],["a","gset"]]"#, 1, GraphWhy::NameTaken),
+    (
+        r#"[["a","gset"],["u","union","a","x"]]"#,
         1,
         GraphWhy::UnknownInput,
     ),
     (
-        "[[\"a\",\"orset\"],[\"a\",\"gset\"]]",
-        1,
-        GraphWhy::NameTaken,
-    ),
-    (
-        "[[\"a\",\"gset\"],[\"u\",\"union\",\"a\",\"x\"]]",
-        1,
-        GraphWhy::UnknownInput,
-    ),
-    (
-        "[[\"a\",\"orset\"],[\"g\",\"gset\"],[\"u\",\"union\",\"a\",\"g\"]]",
+        r#"[["a","orset"],["g","gset"],["u","union","a","g"]]"#,
         2,
         GraphWhy::WrongKind,
     ),
     (
-        "[[\"c\",\"counter\"],[\"u\",\"product\",\"c\",\"c\"]]",
+        r#"[["c","counter"],["u","product","c","c"]]"#,
         1,
         GraphWhy::WrongKind,
     ),
     (
-        "[[\"m\",\"maxreg\"],[\"u\",\"filter\",\"m\",\"even\"]]",
+        r#"[["m","maxreg"],["u","filter","m","even"]]"#,
         1,
         GraphWhy::WrongKind,
     ),
-    ("[[\"c\",\"counter\",1]]", 0, GraphWhy::Shape),
+    (r#"[["c","counter",1]]"#, 0, GraphWhy::Shape),
     (
-        "[[\"a\",\"orset\"],[\"m\",\"map\",\"a\",\"nosuch\"]]",
+        r#"[["a","orset"],["m","map","a","nosuch"]]"#,
         1,
         GraphWhy::UnknownFunction,
     ),
     (
-        "[[\"a\",\"orset\"],[\"f\",\"filter\",\"a\",\"nosuch\"]]",
+        r#"[["a","orset"],["f","filter","a","nosuch"]]"#,
         1,
         GraphWhy::UnknownFunction,
     ),
@@ -128,33 +138,45 @@ const REFUSED: [(&str, u32, GraphWhy); 30] = [
 
 /// A chain of products of width 1, 2, 4, 8 and 16, and one more of width 17.
 const TOO_WIDE: &str =
-    "[[\"a\",\"orset\"],[\"p2\",\"product\",\"a\",\"a\"],[\"p4\",\"product\",\"p2\",\"p2\"],[\"p8\",\"product\",\"p4\",\"p4\"],[\"p16\",\"product\",\"p8\",\"p8\"],[\"q\",\"product\",\"p16\",\"a\"]]";
+    r#"[["a","orset"],["p2","product","a","a"],["p4","product","p2","p2"],["p8","product","p4","p4"],["p16","product","p8","p8"],["q","product","p16","a"]]"#;
+
+/// The first text that isn't refused as its row says.
+fn first_other<'a>(alloc: Global, rows: &'a [(&'a str, u32, GraphWhy)]) -> Option<&'a str> {
+    let lib = Library::new(alloc);
+    for (text, number, why) in rows {
+        if !is_refused(read_graph(alloc, text.as_bytes(), &lib), *number, *why) {
+            return Some(text);
+        }
+    }
+    None
+}
 
 #[test]
 fn each_bad_graph_is_refused_by_its_number_and_cause(rt: HostRuntime) -> Result<(), Fail> {
-    let lib = Library::new(rt.alloc());
-    for (text, number, why) in &REFUSED {
-        let is_so = is_refused(read_graph(rt.alloc(), text.as_bytes(), &lib), *number, *why);
-        assert!(rt; is_so, "{text}");
-    }
+    assert_eq!(rt; first_other(rt.alloc(), &REFUSED), None);
     Ok(())
+}
+
+/// Whether a graph of so many sources is read.
+fn are_read(alloc: Global, count: u32) -> Result<bool, AllocError> {
+    let text = sources(alloc, count)?;
+    match read_graph(alloc, text.as_bytes(), &Library::new(alloc)) {
+        Ok(graph) => Ok(graph.len() == count as u64),
+        Err(_) => Ok(false),
+    }
+}
+
+/// Whether a graph of so many sources is refused at this one, which is one too many.
+fn are_too_many(alloc: Global, count: u32, number: u32) -> Result<bool, AllocError> {
+    let text = sources(alloc, count)?;
+    let read = read_graph(alloc, text.as_bytes(), &Library::new(alloc));
+    Ok(is_refused(read, number, GraphWhy::TooMany))
 }
 
 #[test]
 fn a_graph_has_room_for_64_variables(rt: HostRuntime) -> Result<(), Fail> {
-    let lib = Library::new(rt.alloc());
-    let most = sources(rt.alloc(), 64)?;
-    let graph = read_graph(rt.alloc(), most.as_bytes(), &lib)?;
-    assert_eq!(rt; graph.len(), 64);
-    assert_eq!(rt; graph.find("v63"), Some(63));
-    let more = sources(rt.alloc(), 65)?;
-    assert!(rt;
-        is_refused(
-            read_graph(rt.alloc(), more.as_bytes(), &lib),
-            64,
-            GraphWhy::TooMany
-        )
-    );
+    assert!(rt; are_read(rt.alloc(), 64)?);
+    assert!(rt; are_too_many(rt.alloc(), 66, 64)?);
     Ok(())
 }
 
@@ -166,15 +188,13 @@ fn is_refused(read: Result<Graph, GraphRefused>, expected: u32, cause: GraphWhy)
 }
 
 /// The text of a graph of so many sources, `v0`, `v1` and so on.
-fn sources(alloc: Global, count: u32) -> Result<String, Fail> {
-    let mut text = String::new(alloc);
-    text.push('[')?;
+fn sources(alloc: Global, count: u32) -> Result<String, AllocError> {
+    let mut text = String::from_str(alloc, "[")?;
     for i in 0..count {
         if i > 0 {
             text.push(',')?;
         }
-        let decl = format!(in alloc; "[\"v{i}\",\"orset\"]")?;
-        text.push_str(decl.as_str())?;
+        write!(text, r#"["v{i}","orset"]"#)?;
     }
     text.push(']')?;
     Ok(text)

@@ -137,30 +137,42 @@ fn take(mine: &mut State, other: &State) -> Result<Option<bool>, AllocError>
     Ok(None)
 }
 
+/// The values and the number of a fold, those of another, whether the first grows where it takes the other, and what it then shows.
+type Taking<'a> = (&'a [i64], i128, &'a [i64], i128, Option<bool>, &'a str);
+
+const TAKINGS: [Taking; 5] = [
+    (&[], 0, &[3], 3, Some(true), "3"),
+    (&[3], 3, &[], 0, Some(false), "3"),
+    (&[3], -7, &[3], 9, Some(false), "-7"),
+    (
+        &[3],
+        3,
+        &[3, 5],
+        i128::MIN,
+        Some(true),
+        "-170141183460469231731687303715884105728",
+    ),
+    (&[3], 3, &[5], 5, None, "3"),
+];
+
+/// The first row by which a fold takes another otherwise.
+fn first_taken(alloc: Global, rows: &[Taking]) -> Result<Option<u64>, AllocError> {
+    let mut at = 0u64;
+    for (values, number, others, theirs, grew, shown) in rows {
+        let mut mine = fold_of(alloc, values, *number)?;
+        let other = fold_of(alloc, others, *theirs)?;
+        if take(&mut mine, &other)? != *grew || !shows(alloc, &mine, shown)? {
+            return Ok(Some(at));
+        }
+        at = at.saturating_add(1);
+    }
+    Ok(None)
+}
+
 #[test]
 fn the_greater_fold_is_taken_with_its_number(rt: HostRuntime) -> Result<(), Fail> {
     let alloc = rt.alloc();
-    let lowest = "-170141183460469231731687303715884105728";
-    let table = [
-        (&[][..], 0i128, &[3i64][..], 3i128, Some(true), "3"),
-        (&[3i64][..], 3, &[][..], 0, Some(false), "3"),
-        (&[3i64][..], -7, &[3i64][..], 9, Some(false), "-7"),
-        (
-            &[3i64][..],
-            3,
-            &[3i64, 5][..],
-            i128::MIN,
-            Some(true),
-            lowest,
-        ),
-        (&[3i64][..], 3, &[5i64][..], 5, None, "3"),
-    ];
-    for (values, number, others, theirs, grew, shown) in table {
-        let mut mine = fold_of(alloc, values, number)?;
-        let other = fold_of(alloc, others, theirs)?;
-        assert!(rt; take(&mut mine, &other)? == grew);
-        assert!(rt; shows(alloc, &mine, shown)?);
-    }
+    assert_eq!(rt; first_taken(alloc, &TAKINGS)?, None);
     assert!(rt; shows(alloc, &State::empty_fold(alloc), "0")?);
     Ok(())
 }
@@ -172,6 +184,20 @@ fn asked(threshold: &Threshold, s: &State) -> Option<bool> {
     } else {
         None
     }
+}
+
+/// What a threshold answers of each state: `y` where it is met, `n` where it isn't, `-` where it doesn't suit.
+fn answers(alloc: Global, threshold: &Threshold, states: &[State]) -> Result<String, AllocError> {
+    let mut out = String::new(alloc);
+    for s in states {
+        let answer = match asked(threshold, s) {
+            Some(true) => 'y',
+            Some(false) => 'n',
+            None => '-',
+        };
+        out.push(answer)?;
+    }
+    Ok(out)
 }
 
 fn values(alloc: Global, numbers: &[i64]) -> Result<Values, AllocError> {
@@ -207,72 +233,121 @@ fn with_elements(alloc: Global, numbers: &[i64]) -> Result<State, AllocError> {
     Ok(State::Grow(set))
 }
 
-#[test]
-fn thresholds_of_values_ask_rows_and_elements(rt: HostRuntime) -> Result<(), Fail> {
-    let alloc = rt.alloc();
-    let set = State::Set(mixed(alloc)?);
-    let covered = State::Fold(mixed(alloc)?, 3);
-    let elements = with_elements(alloc, &[1, 2])?;
-    let counter = counted(alloc, 2)?;
-    // what a set and a fold answer to an addition and to a removal, and what elements answer to an addition
-    let table = [
-        (&[][..], true, true),
-        (&[1i64][..], true, false),
-        (&[2i64][..], true, true),
-        (&[2i64, 1][..], true, false),
-        (&[1i64, 2, 3][..], false, false),
-    ];
-    for (numbers, added, removed) in table {
+/// A set, a fold that covers the same, elements, a counter and a register.
+fn all_kinds(alloc: Global) -> Result<Vec<State>, AllocError> {
+    let mut states = Vec::new(alloc);
+    states.push(State::Set(mixed(alloc)?))?;
+    states.push(State::Fold(mixed(alloc)?, 3))?;
+    states.push(with_elements(alloc, &[1, 2, 1])?)?;
+    states.push(counted(alloc, 2)?)?;
+    states.push(State::no_number())?;
+    Ok(states)
+}
+
+/// Values with what each of these states answers to their addition and to their removal.
+const VALUES: [(&[i64], &str, &str); 5] = [
+    (&[], "yyy--", "yy---"),
+    (&[1], "yyy--", "nn---"),
+    (&[2], "yyy--", "yy---"),
+    (&[2, 1], "yyy--", "nn---"),
+    (&[1, 2, 3], "nnn--", "nn---"),
+];
+
+/// The first row that is answered otherwise.
+fn first_values(
+    alloc: Global,
+    states: &[State],
+    rows: &[(&[i64], &str, &str)],
+) -> Result<Option<u64>, AllocError> {
+    let mut at = 0u64;
+    for (numbers, added, removed) in rows {
         let addition = Threshold::Added(values(alloc, numbers)?);
         let removal = Threshold::Removed(values(alloc, numbers)?);
-        assert!(rt; asked(&addition, &set) == Some(added));
-        assert!(rt; asked(&addition, &covered) == Some(added));
-        assert!(rt; asked(&addition, &elements) == Some(added));
-        assert!(rt; asked(&addition, &counter) == None);
-        assert!(rt; asked(&removal, &set) == Some(removed));
-        assert!(rt; asked(&removal, &covered) == Some(removed));
-        assert!(rt; asked(&removal, &elements) == None);
-        assert!(rt; asked(&removal, &State::no_number()) == None);
+        if answers(alloc, &addition, states)?.as_str() != *added
+            || answers(alloc, &removal, states)?.as_str() != *removed
+        {
+            return Ok(Some(at));
+        }
+        at = at.saturating_add(1);
     }
+    Ok(None)
+}
+
+#[test]
+fn thresholds_of_values_ask_rows_and_elements(rt: HostRuntime) -> Result<(), Fail> {
+    let states = all_kinds(rt.alloc())?;
+    assert_eq!(rt; first_values(rt.alloc(), &states, &VALUES)?, None);
     Ok(())
+}
+
+/// A count with what each of the states of all kinds answers to it.
+const COUNTS: [(u64, &str); 4] = [
+    (0, "--yy-"),
+    (2, "--yy-"),
+    (3, "--nn-"),
+    (u64::MAX, "--nn-"),
+];
+
+/// The first count that is answered otherwise.
+fn first_count(
+    alloc: Global,
+    states: &[State],
+    rows: &[(u64, &str)],
+) -> Result<Option<u64>, AllocError> {
+    for (count, expected) in rows {
+        if answers(alloc, &Threshold::Count(*count), states)?.as_str() != *expected {
+            return Ok(Some(*count));
+        }
+    }
+    Ok(None)
 }
 
 #[test]
 fn counts_are_met_from_the_number_on(rt: HostRuntime) -> Result<(), Fail> {
-    let alloc = rt.alloc();
-    let elements = with_elements(alloc, &[5, 6, 5])?;
-    let counter = counted(alloc, 2)?;
-    for (count, met) in [(0u64, true), (2, true), (3, false), (u64::MAX, false)] {
-        let threshold = Threshold::Count(count);
-        assert!(rt; asked(&threshold, &elements) == Some(met));
-        assert!(rt; asked(&threshold, &counter) == Some(met));
-        assert!(rt; asked(&threshold, &State::empty_set(alloc)) == None);
-        assert!(rt; asked(&threshold, &State::empty_fold(alloc)) == None);
-        assert!(rt; asked(&threshold, &State::no_number()) == None);
-    }
+    let states = all_kinds(rt.alloc())?;
+    assert_eq!(rt; first_count(rt.alloc(), &states, &COUNTS)?, None);
     Ok(())
+}
+
+/// Counters of two nodes with 3, 2 and 1, a counter of three, and a register.
+fn counters(alloc: Global) -> Result<Vec<State>, AllocError> {
+    let mut states = Vec::new(alloc);
+    states.push(counted(alloc, 3)?)?;
+    states.push(counted(alloc, 2)?)?;
+    states.push(counted(alloc, 1)?)?;
+    states.push(State::zero_count(alloc, 3)?)?;
+    states.push(State::no_number())?;
+    Ok(states)
+}
+
+/// Folds of one and of two values, and a set.
+fn folds(alloc: Global) -> Result<Vec<State>, AllocError> {
+    let mut states = Vec::new(alloc);
+    states.push(fold_of(alloc, &[1], 7)?)?;
+    states.push(fold_of(alloc, &[1, 2], 1)?)?;
+    states.push(State::empty_set(alloc))?;
+    Ok(states)
+}
+
+/// What the states answer to being at least this one, and to being above it.
+fn bounded(alloc: Global, states: &[State], least: State) -> Result<(String, String), AllocError> {
+    let least = Arc::new(alloc, least)?;
+    let at_least = Threshold::AtLeast(Arc::try_clone(&least)?);
+    let above = Threshold::Above(least);
+    Ok((
+        answers(alloc, &at_least, states)?,
+        answers(alloc, &above, states)?,
+    ))
 }
 
 #[test]
 fn a_state_is_met_from_it_on_and_strictly_above_it(rt: HostRuntime) -> Result<(), Fail> {
     let alloc = rt.alloc();
-    let table = [
-        (counted(alloc, 3)?, Some(true), Some(true)),
-        (counted(alloc, 2)?, Some(true), Some(false)),
-        (counted(alloc, 1)?, Some(false), Some(false)),
-        (State::zero_count(alloc, 3)?, None, None),
-        (State::no_number(), None, None),
-    ];
-    let at_least = Threshold::AtLeast(Arc::new(alloc, counted(alloc, 2)?)?);
-    let above = Threshold::Above(Arc::new(alloc, counted(alloc, 2)?)?);
-    for (s, reached, passed) in &table {
-        assert!(rt; asked(&at_least, s) == *reached);
-        assert!(rt; asked(&above, s) == *passed);
-    }
-    let bound = Arc::new(alloc, fold_of(alloc, &[1], 1)?)?;
-    let covers = Threshold::Above(bound);
-    assert!(rt; asked(&covers, &fold_of(alloc, &[1], 7)?) == Some(false));
-    assert!(rt; asked(&covers, &fold_of(alloc, &[1, 2], 1)?) == Some(true));
-    assert!(rt; asked(&covers, &State::empty_set(alloc)) == None);
+    let (at_least, above) = bounded(alloc, &counters(alloc)?, counted(alloc, 2)?)?;
+    assert_eq!(rt; at_least.as_str(), "yyn--");
+    assert_eq!(rt; above.as_str(), "ynn--");
+    let (at_least, above) = bounded(alloc, &folds(alloc)?, fold_of(alloc, &[1], 1)?)?;
+    assert_eq!(rt; at_least.as_str(), "yy-");
+    assert_eq!(rt; above.as_str(), "ny-");
     Ok(())
 }

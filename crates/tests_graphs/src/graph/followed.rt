@@ -6,22 +6,14 @@ ghost use Rattle.model_states.specs.Content.{size_of, row_limit};
 ghost use Rattle.model_states.specs.Threshold.{set};
 ghost use Rattle.model_graph.specs.Width.{HasWidth};
 ghost use Rattle.model_readings.specs.Lawful.{FitsAll};
-ghost use Rattle.lasp_value.specs.Value.{val_of};
-ghost use Rattle.model_values.specs.Size.{IsSized};
-ghost use Rattle.model_functions.specs.Predicate.{passes};
-ghost use Rattle.model_functions.specs.Lift as lift;
-ghost use Rattle.model_functions.specs.Lift.{lifted};
-ghost use Rattle.lasp_fns.specs.Answers.{Answers};
 ghost use Rattle.lasp_fns.specs.Steps as counted;
 ghost use Rattle.lasp_setops.specs.Width.{IsSetOfWidth};
 ghost use Rattle.lasp_state.specs.State.{content_of, shape_of};
 ghost use Rattle.lasp_graph.specs.Library.{library_of};
 ghost use Rattle.lasp_graph.specs.Evaluated as evaluated;
 
-use lasp_fns::{
-    Library, LiftOp, MapOp, MapOps, PredOp, PredOps, StepLib, StoredLift, StoredMap, StoredPred,
-    apply_lift, apply_map, apply_pred,
-};
+use super::made::{even, itself, map_of};
+use lasp_fns::{Library, MapOp, StepLib};
 use lasp_graph::{EvalRefused, Graph, Inputs, eval_node, node_delta, read_graph};
 use lasp_orset::{Entry, OrSet};
 use lasp_state::State;
@@ -131,10 +123,12 @@ fn is_same(state: &State, other: &State) -> bool {
 }
 
 const GRAPH: &str =
-    "[[\"a\",\"orset\"],[\"b\",\"orset\"],[\"u\",\"union\",\"a\",\"b\"],[\"p\",\"product\",\"a\",\"b\"],[\"i\",\"intersection\",\"a\",\"b\"],[\"m\",\"map\",\"a\",\"abs\"],[\"f\",\"filter\",\"a\",\"even\"],[\"s\",\"fold\",\"a\",\"sum\",\"itself\"],[\"x\",\"fold\",\"a\",\"xor\",\"itself\"],[\"r\",\"fold\",\"a\",[\"modulo\",4],\"itself\"]]";
+    r#"[["a","orset"],["b","orset"],["u","union","a","b"],["p","product","a","b"],["i","intersection","a","b"],["m","map","a","abs"],["f","filter","a","even"],["s","fold","a","sum","itself"],["x","fold","a","xor","itself"],["r","fold","a",["modulo",4],"itself"]]"#;
 
 /// The rows of the first input and what is joined into them, and the same of the second.
-const CHANGES: [[&[(i64, u64, bool)]; 4]; 6] = [
+type Change<'a> = [&'a [(i64, u64, bool)]; 4];
+
+const CHANGES: [Change; 6] = [
     // nothing changes
     [&[(-1, 1, false), (2, 2, false)], &[], &[(2, 3, false)], &[]],
     // both were empty
@@ -169,25 +163,57 @@ const CHANGES: [[&[(i64, u64, bool)]; 4]; 6] = [
     ],
 ];
 
-/// The first variable that has another state by the changed rows than from scratch.
-fn first_other(alloc: Global, graph: &Graph, lib: &Library) -> Result<Option<u64>, Fail>
+/// The inputs before a change and after it.
+fn change_of(alloc: Global, change: &Change) -> Result<(Inputs, Inputs), AllocError>
+    ensures sets { IfOk result (λ both. ((shape_of (arc_value both.0.first) ≡ set) × (shape_of (evaluated.second_of both.0) ≡ set)) × ((shape_of (arc_value both.1.first) ≡ set) × (shape_of (evaluated.second_of both.1) ≡ set))) }
+    ensures width { IfOk result (λ both. HasWidth 16 (content_of (arc_value both.0.first)) × HasWidth 16 (content_of (arc_value both.1.first))) }
+    ensures small { IfOk result (λ both. (size_of (content_of (arc_value both.0.first)) ≤ row_limit) × (size_of (content_of (arc_value both.1.first)) ≤ row_limit)) }
+{
+    let [rows, more, others, more_others] = change;
+    let first = state_of(alloc, rows, &[])?;
+    let second = state_of(alloc, others, &[])?;
+    let base = inputs_of(&first, &second)?;
+    let first = state_of(alloc, rows, more)?;
+    let second = state_of(alloc, others, more_others)?;
+    Ok((base, inputs_of(&first, &second)?))
+}
+
+/// The first variable that has another state by the changed rows than from scratch, or calls a function for more rows than changed.
+fn first_variable(
+    alloc: Global,
+    graph: &Graph,
+    lib: &Library,
+    change: &Change,
+) -> Result<Option<u64>, Fail>
     requires { FitsAll (library_of lib.now) graph.now }
 {
-    for [rows, more, others, more_others] in &CHANGES {
-        let first = state_of(alloc, rows, &[])?;
-        let second = state_of(alloc, others, &[])?;
-        let base = inputs_of(&first, &second)?;
-        let first = state_of(alloc, rows, more)?;
-        let second = state_of(alloc, others, more_others)?;
-        let inputs = inputs_of(&first, &second)?;
-        for var in 0..graph.len() {
-            let mut counted = StepLib::new(lib);
-            if !is_followed(alloc, graph, lib, &mut counted, var as u8, &base, &inputs)?
-                || counted.ticks() > more.len() as u64
-            {
-                return Ok(Some(var));
-            }
+    let (base, inputs) = change_of(alloc, change)?;
+    for var in 0..graph.len() {
+        let mut counted = StepLib::new(lib);
+        if !is_followed(alloc, graph, lib, &mut counted, var as u8, &base, &inputs)?
+            || counted.ticks() > change[1].len() as u64
+        {
+            return Ok(Some(var));
         }
+    }
+    Ok(None)
+}
+
+/// The first change after which a variable is otherwise.
+fn first_other(
+    alloc: Global,
+    graph: &Graph,
+    lib: &Library,
+    changes: &[Change],
+) -> Result<Option<u64>, Fail>
+    requires { FitsAll (library_of lib.now) graph.now }
+{
+    let mut at = 0u64;
+    for change in changes {
+        if first_variable(alloc, graph, lib, change)?.is_some() {
+            return Ok(Some(at));
+        }
+        at = at.saturating_add(1);
     }
     Ok(None)
 }
@@ -195,34 +221,13 @@ fn first_other(alloc: Global, graph: &Graph, lib: &Library) -> Result<Option<u64
 #[test]
 fn a_variable_by_its_changed_rows_is_the_same_as_from_scratch(rt: HostRuntime) -> Result<(), Fail> {
     let alloc = rt.alloc();
-    let mut steps = MapOps::new(alloc);
-    steps.push(MapOp::Abs)?;
-    let mine = steps.try_clone()?;
-    let f = move |v: &Value| -> Result<Value, AllocError>
-        requires { IsSized (val_of v.now) }
-        ensures { Answers mine (val_of v.entry.now) result }
-    { apply_map(alloc, &mine, v) };
-    let mut conditions = PredOps::new(alloc);
-    conditions.push(PredOp::Even)?;
-    let own = conditions.try_clone()?;
-    let p = move |v: &Value| -> bool
-        requires { IsSized (val_of v.now) }
-        ensures { result ≡ passes own (val_of v.entry.now) }
-    { apply_pred(&own, v) };
-    let l = |v: &Value| -> i64
-        requires { IsSized (val_of v.now) }
-        ensures { result ≡ lifted lift.Itself (val_of v.entry.now) }
-    { apply_lift(&LiftOp::Itself, v) };
     let mut lib = Library::new(alloc);
-    lib.add_map("abs", StoredMap::new(steps, Box::new(alloc, f)?))?;
-    lib.add_pred("even", StoredPred::new(conditions, Box::new(alloc, p)?))?;
-    lib.add_lift(
-        "itself",
-        StoredLift::new(LiftOp::Itself, Box::new(alloc, l)?),
-    )?;
+    lib.add_map("abs", map_of(alloc, MapOp::Abs)?)?;
+    lib.add_pred("even", even(alloc)?)?;
+    lib.add_lift("itself", itself(alloc)?)?;
     let graph = read_graph(alloc, GRAPH.as_bytes(), &lib)?;
     assert!(rt; graph.fits(&lib));
-    assert_eq!(rt; first_other(alloc, &graph, &lib)?, None);
+    assert_eq!(rt; first_other(alloc, &graph, &lib, &CHANGES)?, None);
     Ok(())
 }
 
@@ -280,17 +285,9 @@ fn calls_of_three(alloc: Global, graph: &Graph, lib: &Library) -> Result<[Option
 #[test]
 fn a_function_is_called_once_for_each_changed_row(rt: HostRuntime) -> Result<(), Fail> {
     let alloc = rt.alloc();
-    let mut steps = MapOps::new(alloc);
-    steps.push(MapOp::Abs)?;
-    let mine = steps.try_clone()?;
-    let f = move |v: &Value| -> Result<Value, AllocError>
-        requires { IsSized (val_of v.now) }
-        ensures { Answers mine (val_of v.entry.now) result }
-    { apply_map(alloc, &mine, v) };
     let mut lib = Library::new(alloc);
-    lib.add_map("abs", StoredMap::new(steps, Box::new(alloc, f)?))?;
-    let text = "[[\"a\",\"orset\"],[\"m\",\"map\",\"a\",\"abs\"]]";
-    let graph = read_graph(alloc, text.as_bytes(), &lib)?;
+    lib.add_map("abs", map_of(alloc, MapOp::Abs)?)?;
+    let graph = read_graph(alloc, br#"[["a","orset"],["m","map","a","abs"]]"#, &lib)?;
     assert!(rt; graph.fits(&lib));
     assert_eq!(rt;
         calls_of_three(alloc, &graph, &lib)?,
