@@ -1,23 +1,25 @@
 -- Processes after changes of their inputs.
-use Rattle.std.proofs.Common.{◌≡◌, ◌∙◌, refl, sym, ap, subst, ◌≤◌, List, Option, Some, Result, Ok, Err, IfOk, unwrap_or, ℕ, arith}
+use Rattle.std.proofs.Common.{◌≡◌, ◌∙◌, refl, sym, ap, subst, ◌<◌, ◌≤◌, List, [], ◌∷◌, length, map, flat_map, filter, ℕ, arith}
 use Rattle.model_values.specs.Row.{Row}
-use Rattle.model_sets.specs.Rows.{mark, IsAscending}
-use Rattle.model_sets.specs.Equations.{changed}
-use Rattle.model_sets.proofs.EquationLaws.{ascending-changed, join-changed}
-use Rattle.model_states.specs.Content.{Content, of_set, at_row, IsContentAtMost}
+use Rattle.model_functions.specs.Map.{mapped}
+use Rattle.model_functions.specs.Predicate.{passes}
+use Rattle.model_sets.specs.Rows.{mark, IsAscending, of_rows, join, is_of}
+use Rattle.model_sets.specs.Equations.{changed, map_set, filter_set, product_set, intersect_set, paired, met, moved}
+use Rattle.model_sets.proofs.RowLaws.{ascending-join, ascending-of_rows, join-left, join-right, join-nothing, of_rows-ascending}
+use Rattle.model_sets.proofs.EquationLaws.{ascending-changed, join-changed, map-grown, filter-grown, union-grown, product-grown, intersect-grown, filter-ascending}
+use Rattle.model_states.specs.Content.{Content, of_set, at_row, IsContentAtMost, size_of}
 use Rattle.model_states.specs.Threshold.{set}
-use Rattle.model_graph.specs.Graph.{Kind}
+use Rattle.model_graph.specs.Graph.{Kind, OrSet, GSet, Counter, MaxReg, Union, Product, Intersection, Map, Filter, Fold}
 use Rattle.lasp_state.specs.declared.state.State.{State}
 use Rattle.lasp_state.specs.declared.state.State.TheVariants.{Set, Grow, Count, Max, Fold}
 use Rattle.lasp_state.specs.State.{content_of, shape_of}
-use Rattle.lasp_graph.specs.Delta.{IsStateOf, IsStateBefore}
+use Rattle.lasp_orset.proofs.CountLaws.{at_most-length}
+use Rattle.lasp_graph.specs.Evaluated.{process}
+use Rattle.lasp_graph.specs.Delta.{IsStateOf, IsStateBefore, IsSetBefore, gained}
 use Rattle.model_graph.specs.Increment.{IsChange}
 use Rattle.lasp_setops.specs.Grown.{IsGrown}
 use Rattle.lasp_setops.specs.Width.{IsSetOfWidth}
 use Rattle.lasp_fold.proofs.FoldLaws.{change-below}
-
-pub grown : (before change after : List Row) → IsChange before change after → IsGrown before change after
-grown before change after h = record { ascends = h.was; joined = h.joined }
 
 -- the changed rows are no wider than the rows
 pub width-change : (before change after : List Row) → IsChange before change after → IsSetOfWidth 16 after → IsSetOfWidth 16 change
@@ -25,13 +27,6 @@ width-change before change after h w = record {
   values = λ v t has. w.values v t (omega (arith, has, change-below before change after h v t));
   tokens = λ v t has. w.tokens v t (omega (arith, has, change-below before change after h v t));
 }
-
-pub ok-as : {A E : Type 0} {P Q : A → Type 0} (r : Result A E) → ((a : A) → P a → Q a) → IfOk r P → IfOk r Q
-ok-as (Ok a) f h = f a h
-ok-as (Err e) f h = tt
-
-pub ops-at : {A : Type 0} (o : Option A) (ops none : A) → o ≡ Some ops → unwrap_or o none ≡ ops
-ops-at o ops none is = ap (λ o. unwrap_or o none) is
 
 -- a set's state has rows alone
 pub set-content : (s : State) → shape_of s ≡ set → content_of s ≡ of_set (content_of s).rows
@@ -49,11 +44,6 @@ changed-change s t x y c is_s is_t is_c up_x up_y more =
       joined = join-changed x y up_y (λ v w. subst (λ (u : Content). mark u.rows v w ≤ mark y v w) is_s (subst (λ (u : Content). mark s.rows v w ≤ mark u.rows v w) is_t (more (at_row v w))));
     }))
 
-pub change-result : {E : Type 0} (r : Result (List Row) E) (s t : Content) (x y : List Row) → s ≡ of_set x → t ≡ of_set y → IsAscending x → IsAscending y → IfOk r (λ c. c ≡ changed x y)
-    → IfOk r (λ c. IsContentAtMost s t → IsChange s.rows c t.rows)
-change-result (Ok c) s t x y is_s is_t up_x up_y is = λ more. changed-change s t x y c is_s is_t is up_x up_y more
-change-result (Err e) s t x y is_s is_t up_x up_y is = tt
-
 -- before the changes, from the states of the inputs then
 pub state-before : (k : Kind) (base_x base_y old : State) (x_change x y_change y : List Row) → shape_of base_x ≡ set → shape_of base_y ≡ set → IsStateOf k (content_of base_x) (content_of base_y) old
     → IsChange (content_of base_x).rows x_change x → IsChange (content_of base_y).rows y_change y → IsStateBefore k x_change x y_change y old
@@ -64,3 +54,85 @@ state-before k base_x base_y old x_change x y_change y set_x set_y is h i = reco
   second_grown = i;
   state = subst (λ (u : Content). IsStateOf k u (of_set (content_of base_y).rows) old) (set-content base_x set_x) (subst (λ (u : Content). IsStateOf k (content_of base_x) u old) (set-content base_y set_y) is);
 }
+
+-- ---- what a process gains
+
+rows-were : (s t : List Row) → of_set s ≡ of_set t → s ≡ t
+rows-were s t e = ap (λ (u : Content). u.rows) e
+
+-- joined into the rows before, the rows that a process gains give those that it has
+pub set-gained : (k : Kind) (x_change x y_change y rows : List Row) → IsSetBefore k x_change x y_change y rows → process k (of_set x) (of_set y) ≡ of_set (join rows (gained k x_change x y_change y))
+set-gained OrSet x_change x y_change y rows h = ap (λ (s : List Row). of_set (join s [])) (sym (rows-were rows [] h.was))
+set-gained GSet x_change x y_change y rows h = ap (λ (s : List Row). of_set (join s [])) (sym (rows-were rows [] h.was))
+set-gained Counter x_change x y_change y rows h = ap (λ (s : List Row). of_set (join s [])) (sym (rows-were rows [] h.was))
+set-gained MaxReg x_change x y_change y rows h = ap (λ (s : List Row). of_set (join s [])) (sym (rows-were rows [] h.was))
+set-gained (Union i j) x_change x y_change y rows h =
+    ap of_set (union-grown h.first x_change x h.second y_change y h.first_grown.joined h.second_grown.joined ∙ ap (λ (s : List Row). join s (join x_change y_change)) (sym (rows-were rows _ h.was)))
+set-gained (Product i j) x_change x y_change y rows h =
+    ap of_set (product-grown h.first x_change x h.second y_change y h.first_grown.joined h.second_grown.joined ∙ ap (λ (s : List Row). join s (gained (Product i j) x_change x y_change y)) (sym (rows-were rows _ h.was)))
+set-gained (Intersection i j) x_change x y_change y rows h =
+    ap of_set (intersect-grown h.first x_change x h.second y_change y h.first_grown.joined h.second_grown.joined ∙ ap (λ (s : List Row). join s (gained (Intersection i j) x_change x y_change y)) (sym (rows-were rows _ h.was)))
+set-gained (Map i place ops) x_change x y_change y rows h =
+    ap of_set (map-grown (mapped ops) h.first x_change x h.first_grown.joined ∙ ap (λ (s : List Row). join s (map_set (mapped ops) x_change)) (sym (rows-were rows _ h.was)))
+set-gained (Filter i place ops) x_change x y_change y rows h =
+    ap of_set (filter-grown (passes ops) h.first x_change x h.first_grown.was h.first_grown.ascends h.first_grown.joined ∙ ap (λ (s : List Row). join s (filter_set (passes ops) x_change)) (sym (rows-were rows _ h.was)))
+set-gained (Fold i op place lift) x_change x y_change y rows h = ap of_set (sym h.first_grown.joined ∙ ap (λ (s : List Row). join s x_change) (sym (rows-were rows _ h.was)))
+
+ascending-gained : (k : Kind) (x_change x y_change y : List Row) → IsAscending x_change → IsAscending (gained k x_change x y_change y)
+ascending-gained OrSet x_change x y_change y up = refl
+ascending-gained GSet x_change x y_change y up = refl
+ascending-gained Counter x_change x y_change y up = refl
+ascending-gained MaxReg x_change x y_change y up = refl
+ascending-gained (Union i j) x_change x y_change y up = ascending-join x_change y_change
+ascending-gained (Product i j) x_change x y_change y up = ascending-join (product_set x_change y) (product_set x y_change)
+ascending-gained (Intersection i j) x_change x y_change y up = ascending-join (intersect_set x_change y) (intersect_set x y_change)
+ascending-gained (Map i place ops) x_change x y_change y up = ascending-of_rows (map (moved (mapped ops)) x_change)
+ascending-gained (Filter i place ops) x_change x y_change y up = filter-ascending (passes ops) x_change up
+ascending-gained (Fold i op place lift) x_change x y_change y up = up
+
+-- a process has at least the rows that it gains
+pub long-gained : (n : ℕ) (k : Kind) (x_change x y_change y rows : List Row) → IsSetBefore k x_change x y_change y rows → n < length (gained k x_change x y_change y) → n < size_of (process k (of_set x) (of_set y))
+long-gained n k x_change x y_change y rows h long =
+    let more = gained k x_change x y_change y in
+    let most = at_most-length more (join rows more) (ascending-gained k x_change x y_change y h.first_grown.ascends) (ascending-join rows more) (join-right rows more) in
+    let same = ap size_of (set-gained k x_change x y_change y rows h) in
+    omega (arith, long, most, same)
+
+-- what was joined is as large as the process
+pub long-joined : (n : ℕ) (k : Kind) (x_change x y_change y rows more all : List Row) → IsSetBefore k x_change x y_change y rows → more ≡ gained k x_change x y_change y → all ≡ join rows more → n < length all
+    → n < size_of (process k (of_set x) (of_set y))
+long-joined n k x_change x y_change y rows more all h is joined long =
+    let whole = ap size_of (set-gained k x_change x y_change y rows h) in
+    let same : length (join rows (gained k x_change x y_change y)) ≡ length all = ap length ((λ i. join rows (sym is i)) ∙ sym joined) in
+    omega (arith, long, whole, same)
+
+pub joined-rows : (all old rows new : List Row) → all ≡ old → new ≡ join all rows → new ≡ join old rows
+joined-rows all old rows new copy joined = joined ∙ ap (λ (s : List Row). join s rows) copy
+
+product-nothing : (x : List Row) → flat_map (λ r. map (paired r) []) x ≡ []
+product-nothing [] = refl
+product-nothing (r ∷ x) = product-nothing x
+
+intersect-nothing : (x : List Row) → flat_map (λ r. map (met r) (filter (is_of r.0.0) [])) x ≡ []
+intersect-nothing [] = refl
+intersect-nothing (r ∷ x) = intersect-nothing x
+
+-- nothing changed in the first set, and the second one is all new
+pub unchanged : (nothing x : List Row) → nothing ≡ [] → IsAscending x → IsGrown x nothing x
+unchanged nothing x none up = record { ascends = up; joined = ap (join x) none ∙ join-nothing x up }
+
+pub all-new : (d : List Row) → IsAscending d → IsGrown [] d d
+all-new d up = record { ascends = refl; joined = of_rows-ascending d up }
+
+pub product-none : (nothing x : List Row) → nothing ≡ [] → nothing ≡ product_set x []
+product-none nothing x none = none ∙ sym (ap of_rows (product-nothing x))
+
+pub intersect-none : (nothing x : List Row) → nothing ≡ [] → nothing ≡ intersect_set x []
+intersect-none nothing x none = none ∙ sym (ap of_rows (intersect-nothing x))
+
+-- what is too long is so with more joined in
+pub longer-left : (n : ℕ) (s t : List Row) → IsAscending s → n < length s → n < length (join s t)
+longer-left n s t up long = let most = at_most-length s (join s t) up (ascending-join s t) (join-left s t) in omega (arith, long, most)
+
+pub longer-right : (n : ℕ) (s t : List Row) → IsAscending t → n < length t → n < length (join s t)
+longer-right n s t up long = let most = at_most-length t (join s t) up (ascending-join s t) (join-right s t) in omega (arith, long, most)

@@ -1,5 +1,5 @@
 -- What is evaluated stays, and the first variable that is too large is the first that was met.
-use Rattle.std.proofs.Common.{◌≡◌, ◌∙◌, sym, ap, refl, subst, ℕ, zero, suc, ◌+◌, ◌<◌, ◌≤◌, List, [], ◌∷◌, ◌++◌, length, take, Err, Bool, IsTrue, IsFalse, true, false, Option, Some, None, nat_lt, if◌then◌else◌, append_assoc, length-append, Result, Ok, IfOk, arith}
+use Rattle.std.proofs.Common.{◌≡◌, ◌∙◌, sym, ap, refl, subst, ℕ, zero, suc, ◌+◌, ◌<◌, ◌≤◌, List, [], ◌∷◌, ◌++◌, length, take, Err, Bool, IsTrue, IsFalse, true, false, Some, None, nat_lt, if◌then◌else◌, append_assoc, length-append, Result, Ok, IfOk, arith}
 use Rattle.std.proofs.lemmas.List.{append-nil, length-map, map-append}
 use Rattle.std.proofs.lemmas.Bool.{lt-ltb, le-ltb}
 use Rattle.std.proofs.lemmas.Grind.{common_steps}
@@ -163,7 +163,8 @@ pub evaluated-source : (k : Kind) (done sources : List Held) (x : ℕ) (h : Held
 evaluated-source k done sources x h is long at =
     rw (source-inputs k is, length-contents done, long) (content-held sources x h at)
 
-process-inputs : (k : Kind) (contents : List Content) (p : ℕ × ℕ) → inputs_of k ≡ Some p → equation k contents ≡ process k (content_at contents p.0) (content_at contents p.1)
+-- the equation of a variable is its process on the contents of its inputs
+pub process-inputs : (k : Kind) (contents : List Content) (p : ℕ × ℕ) → inputs_of k ≡ Some p → equation k contents ≡ process k (content_at contents p.0) (content_at contents p.1)
 process-inputs OrSet contents p e = cc
 process-inputs GSet contents p e = cc
 process-inputs Counter contents p e = cc

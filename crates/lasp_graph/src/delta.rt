@@ -1,7 +1,8 @@
-//! One process after its inputs changed: from its state before and the changed rows.
+//! One process after its inputs changed: from its state before and the changed rows, its state and what it gained.
 
 ghost use Rattle.std.specs.Prelude.{◌≡◌, ◌+◌, ◌<◌, ◌≤◌, IfOk, IsFalse, length};
 ghost use Rattle.std.specs.Arc.{arc_value};
+ghost use Rattle.model_sets.specs.Rows.{join};
 ghost use Rattle.model_sets.specs.Equations.{changed};
 ghost use Rattle.model_states.specs.Content.{of_set, size_of, row_limit, IsContentAtMost};
 ghost use Rattle.model_states.specs.Threshold.{set};
@@ -16,7 +17,7 @@ ghost use Rattle.lasp_graph.specs.Evaluated.{process, Becomes, seen, derived_sha
 ghost use Rattle.lasp_graph.specs.Delta.{IsStateOf, IsStateBefore, IsForMemory};
 
 use super::graph::Graph;
-use super::increment::eval_increment;
+use super::increment::{Gain, eval_gain};
 use super::inputs::{EvalRefused, Inputs};
 use lasp_fns::StepLib;
 use lasp_orset::{OrSet, changed};
@@ -60,7 +61,7 @@ pub fn node_delta(
 }
 
 /// The state of a process on its inputs, from its state before and the rows that changed in each of them since: any rows that make the difference.
-/// It costs the changed rows and the rows that they give, and a share for each 64 to 128 rows of the result. It calls a stored function at most once for each changed row of the first input.
+/// It answers, refuses and costs as `node_gain`.
 pub fn node_increment(
     alloc: Global,
     g: &Graph,
@@ -84,11 +85,43 @@ pub fn node_increment(
     ensures library { counted.library_of lib.new ≡ counted.library_of lib.old }
     ensures ticks { counted.ticks_of lib.new ≤ counted.ticks_of lib.old + length first.now }
 {
+    match node_gain(alloc, g, lib, var, old, inputs, first, second) {
+        Ok(gain) => Ok(gain.state),
+        Err(refused) => Err(refused),
+    }
+}
+
+/// The state of a process on its inputs, from its state before and the rows that changed in each of them since, any rows that make the difference; and the rows that it gains.
+/// It costs the changed rows and the rows that they give, and a share for each 64 to 128 rows of the result. It calls a stored function at most once for each changed row of the first input.
+pub fn node_gain(
+    alloc: Global,
+    g: &Graph,
+    lib: &mut StepLib,
+    var: u8,
+    old: &State,
+    inputs: &Inputs,
+    first: &OrSet,
+    second: &OrSet,
+) -> Result<Gain, EvalRefused>
+    requires declared { var < length g.now }
+    requires derived { IsFalse (is_source (kind_at g.now var)) }
+    requires fits { FitsAll (library_of (counted.library_of lib.old)) g.now }
+    requires sets { (shape_of (arc_value inputs.now.first) ≡ set) × (shape_of (second_of inputs.now) ≡ set) }
+    requires old { IsStateBefore (kind_at g.now var) first.now (content_of (arc_value inputs.now.first)).rows second.now (content_of (second_of inputs.now)).rows old.now }
+    requires width { HasWidth 16 (content_of (arc_value inputs.now.first)) }
+    requires small { size_of (content_of (arc_value inputs.now.first)) ≤ row_limit }
+    ensures content { Becomes (seen (λ a. content_of a.state) result) (process (kind_at g.now var) (content_of (arc_value inputs.now.first)) (content_of (second_of inputs.now))) }
+    ensures shape { IfOk result (λ a. shape_of a.state ≡ derived_shape (kind_at g.now var)) }
+    ensures number { IfOk result (λ a. number_of a.state ≡ number_by (kind_at g.now var) (content_of a.state)) }
+    ensures gain { IfOk result (λ a. join (content_of old.now).rows a.rows ≡ (content_of a.state).rows) }
+    ensures library { counted.library_of lib.new ≡ counted.library_of lib.old }
+    ensures ticks { counted.ticks_of lib.new ≤ counted.ticks_of lib.old + length first.now }
+{
     g.recall();
     let kind = &g.at(var as u64).kind;
     let x = set_of(&inputs.first);
     let y = set_of(second_of(inputs));
-    eval_increment(alloc, kind, lib, old, x, first, y, second)
+    eval_gain(alloc, kind, lib, old, x, first, y, second)
 }
 
 /// The second input, or the first one where there is no second.

@@ -1,11 +1,11 @@
-//! One process after its inputs changed, on the sets themselves.
+//! What one process gains after its inputs changed, on the sets themselves.
 
-ghost use Rattle.std.specs.Prelude.{◌≡◌, ◌+◌, ◌<◌, ◌≤◌, Err, Some, IfOk, IsFalse, List, length};
-ghost use Rattle.model_values.specs.Row.{Row};
+ghost use Rattle.std.specs.Prelude.{◌≡◌, ◌+◌, ◌<◌, ◌≤◌, Err, Some, IfOk, IsFalse, length};
 ghost use Rattle.model_functions.specs.Map.{mapped};
 ghost use Rattle.model_functions.specs.Predicate.{passes};
 ghost use Rattle.model_functions.specs.Library.{operations_at};
-ghost use Rattle.model_sets.specs.Equations.{map_set, filter_set};
+ghost use Rattle.model_sets.specs.Rows.{join};
+ghost use Rattle.model_sets.specs.Equations.{map_set, filter_set, product_set, intersect_set};
 ghost use Rattle.model_states.specs.Content.{of_set, size_of, row_limit};
 ghost use Rattle.model_states.specs.Threshold.{set, fold};
 ghost use Rattle.model_graph.specs.Graph.{is_source};
@@ -22,22 +22,32 @@ ghost use Rattle.lasp_state.specs.State.{content_of, shape_of, number_of};
 ghost use Rattle.lasp_graph.specs.Library.{library_of};
 ghost use Rattle.lasp_graph.specs.Kind.{kind_of, fold_op_of};
 ghost use Rattle.lasp_graph.specs.Evaluated.{process, Becomes, seen, derived_shape, number_by};
-ghost use Rattle.lasp_graph.specs.Delta.{IsStateBefore, IsSetBefore};
+ghost use Rattle.lasp_graph.specs.Delta.{IsStateBefore, IsSetBefore, gained};
 
+use super::evaluate::MOST_ROWS;
 use super::inputs::EvalRefused;
 use super::kind::{FoldOp, Kind, LiftRef, MapRef, PredRef};
 use lasp_fns::StepLib;
 use lasp_fold::{Modulo, Sum, Xor, fold_increment};
 use lasp_orset::OrSet;
 use lasp_setops::{
-    SetRefused, filter_increment, intersect_increment, map_increment, product_increment,
-    union_increment,
+    SetRefused, filter_counted, intersect_increment, intersect_sets, map_counted,
+    product_increment, product_sets, union_sets,
 };
 use lasp_state::State;
 use std::alloc::{AllocError, Global};
 
-/// The state of a process of this kind on two sets, from its state before and the rows that changed in each since. A process over one set reads the first.
-pub(crate) fn eval_increment(
+/// What a process became after its inputs changed, and what it gained by it.
+#[derive(Drop)]
+pub struct Gain {
+    /// Its state on its inputs.
+    pub state: State,
+    /// The rows that, joined into those it had, give the state's rows: what the changed rows of its inputs give. Some of them it may have had before.
+    pub rows: OrSet,
+}
+
+/// What a process of this kind on two sets gains, from its state before and the rows that changed in each since. A process over one set reads the first.
+pub(crate) fn eval_gain(
     alloc: Global,
     kind: &Kind,
     lib: &mut StepLib,
@@ -46,29 +56,33 @@ pub(crate) fn eval_increment(
     x_change: &OrSet,
     y: &OrSet,
     y_change: &OrSet,
-) -> Result<State, EvalRefused>
+) -> Result<Gain, EvalRefused>
     requires derived { IsFalse (is_source (kind_of kind.now)) }
     requires fits { Fits (library_of (counted.library_of lib.old)) (kind_of kind.now) }
     requires sound { IsKind (kind_of kind.now) }
     requires old { IsStateBefore (kind_of kind.now) x_change.now x.now y_change.now y.now old.now }
     requires width { IsSetOfWidth 16 x.now }
     requires small { length x.now ≤ row_limit }
-    ensures content { Becomes (seen content_of result) (process (kind_of kind.now) (of_set x.now) (of_set y.now)) }
-    ensures shape { IfOk result (λ s. shape_of s ≡ derived_shape (kind_of kind.now)) }
-    ensures number { IfOk result (λ s. number_of s ≡ number_by (kind_of kind.now) (content_of s)) }
+    ensures content { Becomes (seen (λ a. content_of a.state) result) (process (kind_of kind.now) (of_set x.now) (of_set y.now)) }
+    ensures shape { IfOk result (λ a. shape_of a.state ≡ derived_shape (kind_of kind.now)) }
+    ensures number { IfOk result (λ a. number_of a.state ≡ number_by (kind_of kind.now) (content_of a.state)) }
+    ensures gain { IfOk result (λ a. join (content_of old.now).rows a.rows ≡ (content_of a.state).rows) }
     ensures library { counted.library_of lib.new ≡ counted.library_of lib.old }
     ensures ticks { counted.ticks_of lib.new ≤ counted.ticks_of lib.old + length x_change.now }
 {
     match (kind, old) {
         (Kind::Fold(_, op, l), State::Fold(before, number)) => {
-            match fold_after(lib, op, l, *number, before, x_change, x) {
-                Ok(fold) => Ok(fold),
+            match fold_gain(lib, op, l, *number, before, x_change, x) {
+                Ok(gain) => Ok(gain),
                 Err(_) => Err(EvalRefused::Memory),
             }
         }
         (_, State::Set(before)) => {
-            match set_after(alloc, kind, lib, before, x, x_change, y, y_change) {
-                Ok(set) => Ok(State::Set(set)),
+            match set_gain(alloc, kind, lib, before, x, x_change, y, y_change) {
+                Ok((set, rows)) => Ok(Gain {
+                    state: State::Set(set),
+                    rows,
+                }),
                 Err(SetRefused::TooManyRows) => Err(EvalRefused::TooManyRows),
                 Err(SetRefused::Memory) => Err(EvalRefused::Memory),
             }
@@ -77,8 +91,8 @@ pub(crate) fn eval_increment(
     }
 }
 
-/// The same of a process that gives a set.
-fn set_after(
+/// The same of a process that gives a set: its rows, and those of them that it gained.
+fn set_gain(
     alloc: Global,
     kind: &Kind,
     lib: &mut StepLib,
@@ -87,28 +101,56 @@ fn set_after(
     x_change: &OrSet,
     y: &OrSet,
     y_change: &OrSet,
-) -> Result<OrSet, SetRefused>
+) -> Result<(OrSet, OrSet), SetRefused>
     requires derived { IsFalse (is_source (kind_of kind.now)) }
     requires set { derived_shape (kind_of kind.now) ≡ set }
     requires fits { Fits (library_of (counted.library_of lib.old)) (kind_of kind.now) }
     requires old { IsSetBefore (kind_of kind.now) x_change.now x.now y_change.now y.now old.now }
     requires width { IsSetOfWidth 16 x.now }
-    requires small { length x.now ≤ row_limit }
-    ensures ok { IfOk result (λ s. process (kind_of kind.now) (of_set x.now) (of_set y.now) ≡ of_set s) }
-    ensures small { IfOk result (λ s. length s ≤ row_limit) }
+    ensures ok { IfOk result (λ p. process (kind_of kind.now) (of_set x.now) (of_set y.now) ≡ of_set p.0) }
+    ensures gain { IfOk result (λ p. join old.now p.1 ≡ p.0) }
+    ensures small { IfOk result (λ p. length p.0 ≤ row_limit) }
     ensures too_many { result ≡ Err SetRefused.TooManyRows → row_limit < size_of (process (kind_of kind.now) (of_set x.now) (of_set y.now)) }
     ensures library { counted.library_of lib.new ≡ counted.library_of lib.old }
     ensures ticks { counted.ticks_of lib.new ≤ counted.ticks_of lib.old + length x_change.now }
 {
+    let rows = gained_rows(alloc, kind, lib, x, x_change, y, y_change)?;
+    let mut all = old.try_clone()?;
+    all.join_in(&rows)?;
+    if all.rows() > MOST_ROWS {
+        return Err(SetRefused::TooManyRows);
+    }
+    Ok((all, rows))
+}
+
+/// What the changed rows give to a process that gives a set.
+fn gained_rows(
+    alloc: Global,
+    kind: &Kind,
+    lib: &mut StepLib,
+    x: &OrSet,
+    x_change: &OrSet,
+    y: &OrSet,
+    y_change: &OrSet,
+) -> Result<OrSet, SetRefused>
+    requires derived { IsFalse (is_source (kind_of kind.now)) }
+    requires set { derived_shape (kind_of kind.now) ≡ set }
+    requires fits { Fits (library_of (counted.library_of lib.old)) (kind_of kind.now) }
+    requires width { IsSetOfWidth 16 x_change.now }
+    ensures ok { IfOk result (λ s. s ≡ gained (kind_of kind.now) x_change.now x.now y_change.now y.now) }
+    ensures too_many { result ≡ Err SetRefused.TooManyRows → row_limit < length (gained (kind_of kind.now) x_change.now x.now y_change.now y.now) }
+    ensures library { counted.library_of lib.new ≡ counted.library_of lib.old }
+    ensures ticks { counted.ticks_of lib.new ≤ counted.ticks_of lib.old + length x_change.now }
+{
     match kind {
-        Kind::Union(_, _) => union_increment(old, x_change, y_change),
-        Kind::Product(_, _) => product_increment(alloc, old, x, x_change, y, y_change),
-        Kind::Intersection(_, _) => intersect_increment(alloc, old, x, x_change, y, y_change),
-        Kind::Map(_, f) => match map_after(alloc, lib, f, old, x_change, x) {
+        Kind::Union(_, _) => union_sets(x_change, y_change),
+        Kind::Product(_, _) => product_gain(alloc, x, x_change, y, y_change),
+        Kind::Intersection(_, _) => intersect_gain(alloc, x, x_change, y, y_change),
+        Kind::Map(_, f) => match map_gain(alloc, lib, f, x_change) {
             Ok(set) => Ok(set),
             Err(_) => Err(SetRefused::Memory),
         },
-        Kind::Filter(_, p) => match filter_after(lib, p, old, x_change, x) {
+        Kind::Filter(_, p) => match filter_gain(lib, p, x_change) {
             Ok(set) => Ok(set),
             Err(_) => Err(SetRefused::Memory),
         },
@@ -116,47 +158,75 @@ fn set_after(
     }
 }
 
-/// What a function of the library makes of a set that changed; it has no more rows.
-fn map_after(
+/// The changed rows of the first set with the second set, and the first set with the changed rows of the second, each gone through by the changed rows.
+fn product_gain(
+    alloc: Global,
+    x: &OrSet,
+    x_change: &OrSet,
+    y: &OrSet,
+    y_change: &OrSet,
+) -> Result<OrSet, SetRefused>
+    ensures ok { IfOk result (λ s. s ≡ join (product_set x_change.now y.now) (product_set x.now y_change.now)) }
+    ensures too_many { result ≡ Err SetRefused.TooManyRows → row_limit < length (join (product_set x_change.now y.now) (product_set x.now y_change.now)) }
+{
+    let nothing = x.empty();
+    let mut rows = product_sets(alloc, x_change, y)?;
+    x.ascends();
+    y_change.ascends();
+    let more = product_increment(alloc, &nothing, x, &nothing, y_change, y_change)?;
+    rows.join_in(&more)?;
+    Ok(rows)
+}
+
+/// The same of two sets' rows that have one value.
+fn intersect_gain(
+    alloc: Global,
+    x: &OrSet,
+    x_change: &OrSet,
+    y: &OrSet,
+    y_change: &OrSet,
+) -> Result<OrSet, SetRefused>
+    ensures ok { IfOk result (λ s. s ≡ join (intersect_set x_change.now y.now) (intersect_set x.now y_change.now)) }
+    ensures too_many { result ≡ Err SetRefused.TooManyRows → row_limit < length (join (intersect_set x_change.now y.now) (intersect_set x.now y_change.now)) }
+{
+    let nothing = x.empty();
+    let mut rows = intersect_sets(alloc, x_change, y)?;
+    x.ascends();
+    y_change.ascends();
+    let more = intersect_increment(alloc, &nothing, x, &nothing, y_change, y_change)?;
+    rows.join_in(&more)?;
+    Ok(rows)
+}
+
+/// What a function of the library makes of the changed rows.
+fn map_gain(
     alloc: Global,
     lib: &mut StepLib,
     f: &MapRef,
-    old: &OrSet,
     change: &OrSet,
-    x: &OrSet,
 ) -> Result<OrSet, AllocError>
     requires fits { operations_at (maps_of (counted.library_of lib.old)) f.now.place ≡ Some f.now.ops }
-    requires old { (before : List Row) × IsChange before change.now x.now × (old.now ≡ map_set (mapped f.now.ops) before) }
-    requires width { IsSetOfWidth 16 x.now }
-    ensures ok { IfOk result (λ s. s ≡ map_set (mapped f.now.ops) x.now) }
-    ensures small { length (map_set (mapped f.now.ops) x.now) ≤ length x.now }
+    requires width { IsSetOfWidth 16 change.now }
+    ensures ok { IfOk result (λ s. s ≡ map_set (mapped f.now.ops) change.now) }
     ensures library { counted.library_of lib.new ≡ counted.library_of lib.old }
     ensures ticks { counted.ticks_of lib.new ≤ counted.ticks_of lib.old + length change.now }
 {
-    map_increment(alloc, lib, f.place, old, change)
+    map_counted(alloc, lib, f.place, change)
 }
 
-/// The rows of a set that changed that pass a test of the library.
-fn filter_after(
-    lib: &mut StepLib,
-    p: &PredRef,
-    old: &OrSet,
-    change: &OrSet,
-    x: &OrSet,
-) -> Result<OrSet, AllocError>
+/// The changed rows that pass a test of the library.
+fn filter_gain(lib: &mut StepLib, p: &PredRef, change: &OrSet) -> Result<OrSet, AllocError>
     requires fits { operations_at (predicates_of (counted.library_of lib.old)) p.now.place ≡ Some p.now.ops }
-    requires old { (before : List Row) × IsChange before change.now x.now × (old.now ≡ filter_set (passes p.now.ops) before) }
-    requires width { IsSetOfWidth 16 x.now }
-    ensures ok { IfOk result (λ s. s ≡ filter_set (passes p.now.ops) x.now) }
-    ensures small { length (filter_set (passes p.now.ops) x.now) ≤ length x.now }
+    requires width { IsSetOfWidth 16 change.now }
+    ensures ok { IfOk result (λ s. s ≡ filter_set (passes p.now.ops) change.now) }
     ensures library { counted.library_of lib.new ≡ counted.library_of lib.old }
     ensures ticks { counted.ticks_of lib.new ≤ counted.ticks_of lib.old + length change.now }
 {
-    filter_increment(lib, p.place, old, change)
+    filter_counted(lib, p.place, change)
 }
 
-/// The fold of a set that changed, from the set and the number before.
-fn fold_after(
+/// The fold of a set that changed, from the set and the number before. It covers the changed rows.
+fn fold_gain(
     lib: &mut StepLib,
     op: &FoldOp,
     l: &LiftRef,
@@ -164,21 +234,25 @@ fn fold_after(
     before: &OrSet,
     change: &OrSet,
     x: &OrSet,
-) -> Result<State, AllocError>
+) -> Result<Gain, AllocError>
     requires fits { operations_at (lifts_of (counted.library_of lib.old)) l.now.place ≡ Some (lift_op_of l.now.op) }
     requires sound { IsFoldOp (fold_op_of op.now) }
     requires old { old ≡ fold_rows (fold_op_of op.now) (lift_op_of l.now.op) before.now }
     requires change { IsChange before.now change.now x.now }
     requires width { IsSetOfWidth 16 x.now }
     requires small { length x.now ≤ row_limit }
-    ensures content { IfOk result (λ s. content_of s ≡ of_set x.now) }
-    ensures shape { IfOk result (λ s. shape_of s ≡ fold) }
-    ensures number { IfOk result (λ s. number_of s ≡ fold_rows (fold_op_of op.now) (lift_op_of l.now.op) x.now) }
+    ensures content { IfOk result (λ a. content_of a.state ≡ of_set x.now) }
+    ensures shape { IfOk result (λ a. shape_of a.state ≡ fold) }
+    ensures number { IfOk result (λ a. number_of a.state ≡ fold_rows (fold_op_of op.now) (lift_op_of l.now.op) x.now) }
+    ensures gain { IfOk result (λ a. join before.now a.rows ≡ x.now) }
     ensures library { counted.library_of lib.new ≡ counted.library_of lib.old }
     ensures ticks { counted.ticks_of lib.new ≤ counted.ticks_of lib.old + length change.now }
 {
     let number = number_after(lib, op, l.place, old, before, change, x);
-    Ok(State::Fold(x.try_clone()?, number))
+    Ok(Gain {
+        state: State::Fold(x.try_clone()?, number),
+        rows: change.try_clone()?,
+    })
 }
 
 /// The number of a fold by the lift at a place.

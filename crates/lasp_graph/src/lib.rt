@@ -19,9 +19,10 @@ mod tree;
 mod written;
 
 pub use decl::Decl;
-pub use delta::{node_delta, node_increment};
+pub use delta::{node_delta, node_gain, node_increment};
 pub use evaluate::{eval_all, eval_node};
 pub use graph::Graph;
+pub use increment::Gain;
 pub use inputs::{EvalAll, EvalRefused, Inputs};
 pub use kind::{FoldOp, Kind, LiftRef, MapRef, PredRef};
 pub use model_readings::GraphWhy;

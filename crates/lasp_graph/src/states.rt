@@ -1,6 +1,6 @@
 //! The states of variables, shared.
 
-ghost use Rattle.std.specs.Prelude.{◌≡◌, ◌<◌, ◌++◌, ◌∷◌, [], length, slice_get, slice_set, Some, OnOk, OnErr};
+ghost use Rattle.std.specs.Prelude.{◌≡◌, ◌<◌, ◌++◌, ◌∷◌, [], length, slice_get, slice_set, Some, IfOk, OnOk, OnErr};
 ghost use Rattle.std.specs.Arc.{arc_value};
 ghost use Rattle.lasp_graph.specs.States.{held_of, held_at, grown, AreJoinable};
 
@@ -59,6 +59,25 @@ impl States {
     {
         self.states.push(state)?;
         Ok(())
+    }
+
+    /// The same states, each shared.
+    pub fn try_clone(&self, alloc: Global) -> Result<States, AllocError>
+        ensures { IfOk result (λ s. s ≡ self.now) }
+    {
+        let mut all = States::new(alloc);
+        for i in 0..self.len() {
+            all.push(Arc::try_clone(self.at(i))?)?;
+        }
+        Ok(all)
+    }
+
+    /// The state takes the place of the one there. It takes no memory.
+    pub fn replace(&mut self, i: u64, state: Arc<State>)
+        requires { i < length self.old }
+        ensures { self.new ≡ slice_set self.old i (held_of (arc_value state)) }
+    {
+        self.states[i as usize] = state;
     }
 
     /// Joins a state into the one at a place: in place where nobody shares it, else into a copy of its list of shares. Of two folds one covers the other, and the greater is taken with its number. After a refusal all is as before.

@@ -1,10 +1,8 @@
-use Rattle.std.proofs.Common.{◌≡◌, ◌∙◌, sym, ap, refl, subst, ◌<◌, suc, ◌+◌, ◌∷◌, ◌++◌, [], drop, drop-cons, arith, length, length-append, Result, Ok, IfOk}
+use Rattle.std.proofs.Common.{◌≡◌, ◌∙◌, sym, ap, refl, suc, ◌+◌, ◌∷◌, ◌++◌, [], drop, drop-cons, arith, length-append}
 use Rattle.std.specs.Arc.{arc_value}
 use Rattle.model_graph.specs.Graph.{no_decl, decl_at, kind_at}
 use Rattle.model_graph.specs.Evaluation.{eval, eval_from, evaluated}
-use Rattle.lasp_state.specs.State.{content_of}
 use Rattle.lasp_graph.specs.States.{held_of, contents_of}
-use Rattle.lasp_graph.specs.Evaluated.{AreSmall, KeepShapes}
 use Rattle.lasp_graph.proofs.Evaluation.{stopped-eval_from, small-push, contents-push, shapes-push, numbers-push, length-contents, done-width}
 use Rattle.lasp_graph.proofs.evaluate.eval_all.Goals as goal
 

@@ -1,16 +1,13 @@
-use Rattle.std.proofs.Common.{◌≡◌, ◌∙◌, sym, ap, subst, ◌<◌, ◌≤◌, Some, None, IsTrue, if◌then◌else◌}
+use Rattle.std.proofs.Common.{◌≡◌, ◌∙◌, sym, ap, subst, ◌≤◌, Some}
 use Rattle.std.specs.Arc.{arc_value}
 use Rattle.model_states.specs.Content.{Content, size_of, row_limit}
-use Rattle.model_states.specs.Threshold.{set}
-use Rattle.model_graph.specs.Graph.{Kind, kind_at, is_source}
-use Rattle.model_graph.specs.Evaluation.{content_at, evaluated}
+use Rattle.model_graph.specs.Graph.{kind_at}
 use Rattle.model_graph.specs.Width.{HasWidth}
 use Rattle.lasp_state.specs.State.{content_of, shape_of}
-use Rattle.lasp_graph.specs.Kind.{kind_of}
 use Rattle.lasp_graph.specs.Decl.{decl_of}
 use Rattle.lasp_graph.specs.States.{held_of, held_at, contents_of}
 use Rattle.lasp_graph.specs.Evaluated.{inputs_of, process, Becomes, seen}
-use Rattle.lasp_graph.proofs.Evaluation.{inputs_before, earlier-shape, derived-inputs, source-inputs, content-held, shape-held, evaluated-source, evaluated-process, small-at, source-shape, shape-as, kind-sound}
+use Rattle.lasp_graph.proofs.Evaluation.{inputs_before, earlier-shape, content-held, shape-held, evaluated-source, evaluated-process, small-at, source-shape, shape-as, kind-sound}
 use Rattle.lasp_graph.proofs.evaluate.eval_var.Goals as goal
 
 pub at-first-requires : goal.at-first-requires

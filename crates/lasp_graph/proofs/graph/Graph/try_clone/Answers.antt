@@ -1,4 +1,4 @@
-use Rattle.std.proofs.Common.{◌≡◌, ◌∙◌, sym, ap, subst, List, ◌∷◌, [], ◌++◌, take, arith}
+use Rattle.std.proofs.Common.{◌∙◌, sym, ap, List, ◌∷◌, [], ◌++◌, take, arith}
 use Rattle.std.proofs.lemmas.List.{take_more}
 use Rattle.std.proofs.lemmas.Option.{get_or_from_slice_get}
 use Rattle.model_graph.specs.Graph.{Decl}

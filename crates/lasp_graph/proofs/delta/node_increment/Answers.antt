@@ -1,6 +1,0 @@
-use Rattle.lasp_graph.specs.Decl.{decl_of}
-use Rattle.lasp_graph.proofs.Evaluation.{kind-sound}
-use Rattle.lasp_graph.proofs.delta.node_increment.Goals as goal
-
-pub eval_increment-requires-clause-sound : goal.eval_increment-requires-clause-sound
-eval_increment-requires-clause-sound g c = kind-sound c.args.g.now c.args.var (decl_of c.at.result.now) c.recall.ensures c.at.ensures.decl
