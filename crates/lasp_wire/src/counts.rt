@@ -1,6 +1,6 @@
 //! How many updates of each replica a message knows.
 
-ghost use Rattle.std.specs.Prelude.{◌≡◌, ◌<◌, ◌++◌, ◌∷◌, [], Some, IfOk, OnOk, OnErr, length, slice_get};
+ghost use Rattle.std.specs.Prelude.{◌≡◌, ◌<◌, ◌++◌, ◌∷◌, [], Some, IfOk, OnOk, OnErr, length, slice_get, slice_set};
 
 use std::alloc::{AllocError, Global};
 use std::marker::Model;
@@ -69,8 +69,16 @@ impl Counts {
         self.items[i as usize]
     }
 
+    /// The count at a place becomes this one.
+    pub fn set(&mut self, i: u64, count: u64)
+        requires { i < length self.old }
+        ensures { self.new ≡ slice_set self.old i count }
+    {
+        self.items[i as usize] = count;
+    }
+
     /// The counts.
-    pub(crate) fn as_slice(&self) -> &[u64]
+    pub fn as_slice(&self) -> &[u64]
         ensures { result.now ≡ self.now }
     {
         self.items.as_slice()
