@@ -1,0 +1,151 @@
+-- What the looks at single growths tell of all, since they ascend.
+use Rattle.std.proofs.Common.{◌≡◌, ℕ, zero, suc, ◌+◌, ◌-◌, ◌≤◌, ◌<◌, max, Bool, true, false, if◌then◌else◌, nat_lt, IsTrue, List, [], ◌∷◌, ◌++◌, length, drop, slice_index_or, slice_get, Option, Some, None, Result, Ok, Err, IsOk, is_ok, ◌↔◌, refl, sym, ap, subst, ◌∙◌, arith}
+use Rattle.std.proofs.lemmas.Bool.Decides.{nat_tests}
+use Rattle.std.proofs.lemmas.List.{drop_all}
+use Rattle.model_values.specs.Row.{Row}
+use Rattle.model_graph.proofs.PlaceLaws.{length-append}
+use Rattle.lasp_history.specs.History.{Growth, version_before, rows_before, AreBelow, AscendFrom, AreSound}
+use Rattle.lasp_history.specs.Kept.{growth}
+use Rattle.lasp_history.proofs.GrowthLaws.{version-below, ascend-push}
+
+drop-none : {A : Type 0} (xs : List A) → drop 0 xs ≡ xs
+drop-none [] = refl
+drop-none (x ∷ xs) = refl
+
+ascend-at : (free rows : ℕ) (gs : List Growth) (all i : ℕ) (g : Growth) → AscendFrom free rows gs all → i < length gs → g ≡ slice_index_or gs i g → (free ≤ g.entry) × (rows ≤ g.rows)
+ascend-at free rows [] all i g up h is = absurd (omega (arith, h))
+ascend-at free rows (f ∷ gs) all zero g up h is =
+    let entries : g.entry ≡ f.entry = ap (λ (x : Growth). x.entry) is in
+    let counts : g.rows ≡ f.rows = ap (λ (x : Growth). x.rows) is in
+    (omega (arith, entries, up.0), omega (arith, counts, up.1))
+ascend-at free rows (f ∷ gs) all (suc i) g up h is =
+    let later = ascend-at (f.entry + 1) f.rows gs all i g up.2 (omega (arith, h)) is in
+    (omega (arith, later.0, up.0), omega (arith, later.1, up.1))
+
+below-at : (n : ℕ) (gs : List Growth) (i : ℕ) (g : Growth) → AreBelow n gs → i < length gs → g ≡ slice_index_or gs i g → g.entry < n
+below-at n [] i g b h is = absurd (omega (arith, h))
+below-at n (f ∷ gs) zero g b h is = let entries : g.entry ≡ f.entry = ap (λ (x : Growth). x.entry) is in omega (arith, entries, b.0)
+below-at n (f ∷ gs) (suc i) g b h is = below-at n gs i g b.1 (omega (arith, h)) is
+
+-- ---- a walk back from the end
+
+version-else : (n : ℕ) (g : Growth) (gs : List Growth) → n ≤ g.entry → version_before (g ∷ gs) n ≡ version_before gs n
+version-else n g gs h = choose (nat_lt g.entry n) refl where
+  choose : (b : Bool) → nat_lt g.entry n ≡ b → (if b then version_before gs n + 1 else version_before gs n) ≡ version_before gs n
+  choose true e = absurd (grind (arith, nat_tests, e, h))
+  choose false e = refl
+
+version-one : (n : ℕ) (g : Growth) (gs : List Growth) → g.entry < n → version_before (g ∷ gs) n ≡ version_before gs n + 1
+version-one n g gs h = choose (nat_lt g.entry n) refl where
+  choose : (b : Bool) → nat_lt g.entry n ≡ b → (if b then version_before gs n + 1 else version_before gs n) ≡ version_before gs n + 1
+  choose true e = refl
+  choose false e = absurd (grind (arith, nat_tests, e, h))
+
+back-at : (n i : ℕ) (gs : List Growth) (g : Growth) → i < length gs → g ≡ slice_index_or gs i g → n ≤ g.entry → version_before (drop (suc i) gs) n ≡ 0 → version_before (drop i gs) n ≡ 0
+back-at n i [] g h is late none = absurd (omega (arith, h))
+back-at n zero (f ∷ gs) g h is late none =
+    let entries : g.entry ≡ f.entry = ap (λ (x : Growth). x.entry) is in
+    version-else n f gs (omega (arith, entries, late)) ∙ ap (λ (hs : List Growth). version_before hs n) (sym (drop-none gs)) ∙ none
+back-at n (suc i) (f ∷ gs) g h is late none = back-at n i gs g (omega (arith, h)) is late none
+
+-- a growth from the entry on: none after it counts either
+pub walk-back : (n count : ℕ) (gs : List Growth) (g : Growth) → 0 < count → count ≤ length gs → g ≡ slice_index_or gs (count - 1) g → n ≤ g.entry → version_before (drop count gs) n ≡ 0 → version_before (drop (count - 1) gs) n ≡ 0
+walk-back n zero gs g some small is late none = absurd (omega (arith, some))
+walk-back n (suc i) gs g some small is late none =
+    let back : suc i - 1 ≡ i = omega arith in
+    subst (λ (j : ℕ). version_before (drop j gs) n ≡ 0) (sym back)
+    (back-at n i gs g (omega (arith, small)) (subst (λ (j : ℕ). g ≡ slice_index_or gs j g) back is) late none)
+
+stop-at : (n i free rows : ℕ) (gs : List Growth) (all : ℕ) (g : Growth) → AscendFrom free rows gs all → i < length gs → g ≡ slice_index_or gs i g → g.entry < n → version_before (drop (suc i) gs) n ≡ 0 → version_before gs n ≡ suc i
+stop-at n i free rows [] all g up h is early none = absurd (omega (arith, h))
+stop-at n zero free rows (f ∷ gs) all g up h is early none =
+    let entries : g.entry ≡ f.entry = ap (λ (x : Growth). x.entry) is in
+    let after : version_before gs n ≡ 0 = ap (λ (hs : List Growth). version_before hs n) (sym (drop-none gs)) ∙ none in
+    version-one n f gs (omega (arith, entries, early)) ∙ omega (arith, after)
+stop-at n (suc i) free rows (f ∷ gs) all g up h is early none =
+    let later = (ascend-at (f.entry + 1) f.rows gs all i g up.2 (omega (arith, h)) is).0 in
+    version-one n f gs (omega (arith, later, early)) ∙ omega (arith, stop-at n i (f.entry + 1) f.rows gs all g up.2 (omega (arith, h)) is early none)
+
+-- a growth before the entry: it and those before it count
+pub walk-stop : (n count : ℕ) (log : List Row) (gs : List Growth) (g : Growth) → AreSound log gs → 0 < count → count ≤ length gs → g ≡ slice_index_or gs (count - 1) g → g.entry < n → version_before (drop count gs) n ≡ 0 → version_before gs n ≡ count
+walk-stop n zero log gs g up some small is early none = absurd (omega (arith, some))
+walk-stop n (suc i) log gs g up some small is early none =
+    let back : suc i - 1 ≡ i = omega arith in
+    stop-at n i 0 0 gs (length log) g up (omega (arith, small)) (subst (λ (j : ℕ). g ≡ slice_index_or gs j g) back is) early none
+
+-- the walk came to the first growth
+pub walk-whole : (n count : ℕ) (gs : List Growth) → count ≡ 0 → version_before (drop count gs) n ≡ 0 → version_before gs n ≡ count
+walk-whole n count gs e none =
+    ap (λ (hs : List Growth). version_before hs n) (sym (drop-none gs)) ∙ ap (λ (i : ℕ). version_before (drop i gs) n) (sym e) ∙ none ∙ sym e
+
+-- before the walk
+pub walk-begin : (n count : ℕ) (gs : List Growth) → count ≡ length gs → version_before (drop count gs) n ≡ 0
+walk-begin n count gs e = ap (λ (i : ℕ). version_before (drop i gs) n) e ∙ ap (λ (hs : List Growth). version_before hs n) (drop_all (length gs) gs (omega arith))
+
+-- ---- the last growth
+
+-- an element that a look found
+abbrev option_or : {A : Type 0} → A → Option A → A
+option_or x None = x
+option_or x (Some y) = y
+
+found-at : {A : Type 0} (xs : List A) (i : ℕ) (x : A) → Some x ≡ slice_get xs i → (i < length xs) × (x ≡ slice_index_or xs i x)
+found-at [] i x e = cc
+found-at (y ∷ xs) zero x e = (omega arith, ap (option_or x) e)
+found-at (y ∷ xs) (suc i) x e = let later = found-at xs i x e in (omega (arith, later.0), later.1)
+
+last-test : (n : ℕ) (log : List Row) (gs : List Growth) (g : Growth) → AreSound log gs → 0 < length gs → g ≡ slice_index_or gs (length gs - 1) g → IsTrue (nat_lt g.entry n) ↔ (version_before gs n ≡ length gs)
+last-test n log gs g up some is = (
+  λ e. let early : g.entry < n = grind (arith, nat_tests, e) in
+      walk-stop n (length gs) log gs g up some (omega arith) is early (walk-begin n (length gs) gs refl),
+  λ e. let early = below-at n gs (length gs - 1) g (version-below n gs e) (omega (arith, some)) is in
+      grind (arith, nat_tests, early),
+)
+
+pub last-tells : (n : ℕ) (log : List Row) (gs : List Growth) (g : Growth) → AreSound log gs → Some g ≡ slice_get gs (length gs - 1) → IsTrue (nat_lt g.entry n) ↔ (version_before gs n ≡ length gs)
+last-tells n log gs g up e = let found = found-at gs (length gs - 1) g e in last-test n log gs g up (omega (arith, found.0)) found.1
+
+-- ---- the rows at a growth
+
+version-late : (n free rows : ℕ) (gs : List Growth) (all : ℕ) → AscendFrom free rows gs all → n ≤ free → version_before gs n ≡ 0
+version-late n free rows [] all up h = refl
+version-late n free rows (f ∷ gs) all up h = version-else n f gs (omega (arith, up.0, h)) ∙ version-late n (f.entry + 1) f.rows gs all up.2 (omega (arith, up.0, h))
+
+pub rows-none : (n : ℕ) (gs : List Growth) → version_before gs n ≡ 0 → rows_before gs n ≡ 0
+rows-none n [] e = refl
+rows-none n (g ∷ gs) e = choose (nat_lt g.entry n) (λ later. rows-none n gs later) e where
+  choose : (b : Bool) → (version_before gs n ≡ 0 → rows_before gs n ≡ 0) → (if b then version_before gs n + 1 else version_before gs n) ≡ 0 → (if b then max g.rows (rows_before gs n) else rows_before gs n) ≡ 0
+  choose true rest e = absurd (omega (arith, e))
+  choose false rest e = rest e
+
+rows-place : (n i free rows : ℕ) (gs : List Growth) (all : ℕ) (g : Growth) → AscendFrom free rows gs all → version_before gs n ≡ suc i → i < length gs → g ≡ slice_index_or gs i g → rows_before gs n ≡ g.rows
+rows-place n i free rows [] all g up e h is = absurd (omega (arith, h))
+rows-place n i free rows (f ∷ gs) all g up e h is = choose (nat_lt f.entry n) refl i e h is (λ j later low at. rows-place n j (f.entry + 1) f.rows gs all g up.2 later low at) where
+  choose : (b : Bool) → nat_lt f.entry n ≡ b → (i : ℕ) → (if b then version_before gs n + 1 else version_before gs n) ≡ suc i → i < length (f ∷ gs) → g ≡ slice_index_or (f ∷ gs) i g
+      → ((j : ℕ) → version_before gs n ≡ suc j → j < length gs → g ≡ slice_index_or gs j g → rows_before gs n ≡ g.rows)
+      → (if b then max f.rows (rows_before gs n) else rows_before gs n) ≡ g.rows
+  choose true t zero e h is rest =
+      let counts : g.rows ≡ f.rows = ap (λ (x : Growth). x.rows) is in
+      omega (arith, counts, rows-none n gs (omega (arith, e)))
+  choose true t (suc j) e h is rest =
+      let least = (ascend-at (f.entry + 1) f.rows gs all j g up.2 (omega (arith, h)) is).1 in
+      omega (arith, least, rest j (omega (arith, e)) (omega (arith, h)) is)
+  choose false t i e h is rest =
+      let late : n ≤ f.entry = grind (arith, nat_tests, t) in
+      absurd (omega (arith, e, version-late n (f.entry + 1) f.rows gs all up.2 (omega (arith, late))))
+
+pub rows-at : (n count : ℕ) (log : List Row) (gs : List Growth) (g : Growth) → AreSound log gs → 0 < count → count ≡ version_before gs n → count ≤ length gs → g ≡ slice_index_or gs (count - 1) g → rows_before gs n ≡ g.rows
+rows-at n zero log gs g up some e small is = absurd (omega (arith, some))
+rows-at n (suc i) log gs g up some e small is =
+    let back : suc i - 1 ≡ i = omega arith in
+    rows-place n i 0 0 gs (length log) g up (sym e) (omega (arith, small)) (subst (λ (j : ℕ). g ≡ slice_index_or gs j g) back is)
+
+-- ---- one growth more
+
+pub sound-grown : (n : ℕ) (log pending : List Row) (gs : List Growth) → AreSound log gs → AreBelow n gs → AreSound (log ++ pending) (gs ++ growth n (length (log ++ pending)) ∷ [])
+sound-grown n log pending gs up below = ascend-push 0 0 n (length (log ++ pending)) gs (length log) up below (omega arith) (omega (arith, length-append log pending))
+
+-- what a call gives where it succeeds
+pub where-ok : {A E X : Type 0} (r : Result A E) (new more old : X) → IsOk r → new ≡ (if is_ok r then more else old) → new ≡ more
+where-ok (Ok a) new more old ok e = e
+where-ok (Err b) new more old ok e = cc

@@ -1,0 +1,37 @@
+-- A history as it is kept, with the rows of a growth that is prepared.
+use Rattle.std.specs.Prelude.{ℕ, ◌≤◌, ◌<◌, Bool, IsTrue, List, refl}
+use Rattle.std.specs.Coded.{Coded, code_by, coded×, coded_bool, coded_ℕ, coded_list}
+use Rattle.model_values.specs.Row.{Row, coded_rows}
+use Rattle.lasp_history.specs.History.{Growth, History, AreSound}
+
+-- what is seen of a history that is kept
+pub record Kept : Type 0 where
+  pub history : History
+  -- the rows of the growth that is prepared
+  pub pending : List Row
+  -- whether memory is there for one growth by these rows
+  pub prepared : Bool
+
+-- a growth at an entry, by which so many rows had changed the variable
+abbrev pub growth : ℕ → ℕ → Growth
+growth entry rows = record { entry = entry; rows = rows }
+
+-- what is seen of a log, its growths and the rows of a growth that is prepared or not
+abbrev pub kept : List Row → List Growth → List Row → Bool → Kept
+kept log growths pending prepared = record { history = record { log = log; growths = growths }; pending = pending; prepared = prepared }
+
+-- a growth as a tree of numbers
+abbrev pub coded_growth : Coded Growth
+coded_growth = code_by (ℕ × ℕ) (coded× coded_ℕ coded_ℕ) (λ g. (g.entry, g.rows)) (λ p. growth p.0 p.1) (λ _. refl)
+
+-- a kept history as a tree of numbers
+abbrev pub coded_kept : Coded Kept
+coded_kept =
+    code_by (List Row × (List Growth × (List Row × Bool))) (coded× coded_rows (coded× (coded_list coded_growth) (coded× coded_rows coded_bool)))
+    (λ k. (k.history.log, (k.history.growths, (k.pending, k.prepared)))) (λ p. kept p.0 p.1.0 p.1.1.0 p.1.1.1) (λ _. refl)
+
+-- the history is sound; where a growth is prepared the log has room for this many rows, and the growths for one more
+pub record IsKept (log : List Row) (growths : List Growth) (prepared : Bool) (rows rows_room entries entries_room : ℕ) : Type 0 where
+  pub sound : AreSound log growths
+  pub rows_fit : IsTrue prepared → rows ≤ rows_room
+  pub entry_fits : IsTrue prepared → entries < entries_room

@@ -1,0 +1,127 @@
+//! The history of one variable: what it answers, and how it goes on.
+
+ghost use Rattle.std.specs.Prelude.{◌≡◌, ◌≤◌, ◌↔◌, [], Bool, true, false, IfOk, OnOk, OnErr, IsTrue, length, drop};
+ghost use Rattle.model_sets.specs.Rows.{of_rows};
+ghost use Rattle.lasp_history.specs.History.{no_history, grown, version_before, rows_before, AreBelow};
+
+use super::growth::Growth;
+use super::news::{rows_of, set_of};
+use lasp_orset::{Entry, OrSet};
+use std::alloc::{AllocError, Global};
+use std::marker::Model;
+
+/// The rows that changed a variable and the entries at which it grew, each oldest first, and a growth that is prepared.
+#[derive(Drop)]
+pub struct History {
+    log: Vec<Entry>,
+    growths: Vec<Growth>,
+    pending: Vec<Entry>,
+    prepared: bool,
+}
+
+impl Model for History {
+    ghost use Rattle.std.specs.Prelude.{◌+◌, vec_len, vec_capacity};
+    ghost use Rattle.lasp_history.specs.Kept.{Kept, kept, coded_kept, IsKept};
+
+    ghost Value = { Kept };
+
+    ghost coded = { coded_kept };
+
+    ghost view = { λ a. kept a.log.items a.growths.items a.pending.items a.prepared };
+
+    ghost invariant = { λ a. IsKept a.log.items a.growths.items a.prepared (vec_len a.log + vec_len a.pending) (vec_capacity a.log) (vec_len a.growths) (vec_capacity a.growths) };
+}
+
+impl History {
+    /// The history of a variable to which nothing happened yet. It takes no memory.
+    pub fn new(alloc: Global) -> History
+        ensures history { result.history ≡ no_history }
+        ensures pending { result.pending ≡ [] }
+        ensures prepared { result.prepared ≡ false }
+    {
+        History {
+            log: Vec::new(alloc),
+            growths: Vec::new(alloc),
+            pending: Vec::new(alloc),
+            prepared: false,
+        }
+    }
+
+    /// How often the variable grew.
+    pub fn version(&self) -> u64
+        ensures { result ≡ length self.now.history.growths }
+    {
+        self.growths.len() as u64
+    }
+
+    /// How often the variable grew at the first `n` entries. It costs a look at each growth since.
+    pub fn version_before(&self, n: u64) -> u64
+        ensures exact { result ≡ version_before self.now.history.growths n }
+        ensures within { result ≤ length self.now.history.growths }
+    {
+        let mut count = self.growths.len();
+        while count > 0 && self.growths[count - 1].entry() >= n {
+            count -= 1;
+        }
+        count as u64
+    }
+
+    /// How many rows had changed the variable by the first `n` entries. It costs a look at each growth since.
+    pub fn rows_before(&self, n: u64) -> u64
+        ensures exact { result ≡ rows_before self.now.history.growths n }
+        ensures within { result ≤ length self.now.history.log }
+    {
+        let count = self.version_before(n) as usize;
+        if count == 0 {
+            return 0;
+        }
+        self.growths[count - 1].rows()
+    }
+
+    /// Whether the variable has not grown since the first `n` entries. It costs one look.
+    pub fn is_still_since(&self, n: u64) -> bool
+        ensures { IsTrue result ↔ (version_before self.now.history.growths n ≡ length self.now.history.growths) }
+    {
+        match self.growths.last() {
+            Some(last) => last.entry() < n,
+            None => true,
+        }
+    }
+
+    /// The rows by which the variable changed since the first `n` entries, as a set. It costs a search for each of these rows, which are shared, and a look at each growth since.
+    pub fn since(&self, alloc: Global, n: u64) -> Result<OrSet, AllocError>
+        ensures { IfOk result (λ s. s ≡ of_rows (drop (rows_before self.now.history.growths n) self.now.history.log)) }
+    {
+        let first = self.rows_before(n) as usize;
+        set_of(alloc, &self.log[first..])
+    }
+
+    /// Takes all memory that a growth by these rows needs, which are shared; for a variable that is no set, or that grew without rows, they are none. A growth that was prepared before is forgotten, except on an error.
+    pub fn prepare(&mut self, news: &OrSet) -> Result<(), AllocError>
+        ensures history { self.new.history ≡ self.old.history }
+        ensures pending { OnOk result (self.new.pending ≡ news.now) }
+        ensures prepared { OnOk result (IsTrue self.new.prepared) }
+        ensures err { OnErr result (self.new ≡ self.old) }
+    {
+        let pending = rows_of(*self.log.allocator(), news)?;
+        self.log.reserve(pending.len())?;
+        self.growths.reserve(1)?;
+        self.pending = pending;
+        self.prepared = true;
+        Ok(())
+    }
+
+    /// Records the growth that is prepared at an entry, counted from 0, behind all growths so far. It takes no memory.
+    pub fn record(&mut self, entry: u64)
+        requires prepared { IsTrue self.old.prepared }
+        requires after { AreBelow entry self.old.history.growths }
+        ensures history { self.new.history ≡ grown self.old.history self.old.pending entry }
+        ensures pending { self.new.pending ≡ [] }
+        ensures prepared { self.new.prepared ≡ false }
+    {
+        let _ = self.log.append(&mut self.pending);
+        let rows = self.log.len() as u64;
+        let _ = self.growths.push(Growth::new(entry, rows));
+        self.prepared = false;
+    }
+}
