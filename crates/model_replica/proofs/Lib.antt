@@ -1,0 +1,11 @@
+pub mod SourceLaws
+pub mod PeerLaws
+pub mod GraphLaws
+pub mod ValidLaws
+pub mod BaseLaws
+pub mod MessageLaws
+pub mod LegalLaws
+pub mod HeldLaws
+pub mod ReadLaws
+pub mod CoreLaws
+pub mod CleanLaws
