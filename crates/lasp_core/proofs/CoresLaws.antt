@@ -1,0 +1,223 @@
+-- What each call leaves of a core: its replica goes on, and its parked reads go on waiting or are released.
+use Rattle.std.proofs.Common.{◌≡◌, ℕ, ◌<◌, ◌≤◌, Bool, true, false, not, IsTrue, IsFalse, List, [], ◌∷◌, ◌++◌, length, map, filter, take, refl, sym, ap, subst, ◌∙◌, arith}
+use Rattle.std.specs.Prelude.{slice_get, Some, Result, Ok, Err, OnOk, OnErr, IfOk, vec_len, ◌==◌}
+use Rattle.std.specs.List.{AllByRecursion}
+use Rattle.model_states.specs.Content.{Content, least}
+use Rattle.model_states.specs.Threshold.{suits, meets}
+use Rattle.model_graph.specs.Graph.{Decl, kind_at}
+use Rattle.model_graph.specs.Evaluation.{content_at, least_of}
+use Rattle.model_graph.specs.Lawful as lawful
+use Rattle.model_graph.specs.Lawful.{IsDerived}
+use Rattle.model_graph.proofs.PlaceLaws.{at-append, map-length}
+use Rattle.model_held.specs.Held.{IsHeld}
+use Rattle.model_held.proofs.EachLaws.{each-weaker}
+use Rattle.model_journal.specs.Entry as model
+use Rattle.model_journal.specs.Entry.{Entry, Frame}
+use Rattle.model_journal.specs.Journal.{graph, val, vals}
+use Rattle.model_journal.specs.Clean.{version}
+use Rattle.model_journal.specs.Legal.{IsLegal}
+use Rattle.model_journal.proofs.JournalLaws.{journal-later}
+use Rattle.model_journal.proofs.LegalLaws.{legal-first}
+use Rattle.model_journal.proofs.CleanLaws.{vals-length}
+use Rattle.model_journal.proofs.EntryLaws.{extend-vals}
+use Rattle.model_replica.specs.Peer.{peer_of}
+use Rattle.model_replica.specs.Core.{Read, Core, is_met, entered, released, IsParked, IsCore}
+use Rattle.model_replica.proofs.BaseLaws.{graph-longer}
+use Rattle.model_replica.proofs.ReadLaws.{meets-grows, suits-stays, each-kept}
+use Rattle.model_replica.proofs.ValidLaws.{val-ordered}
+use Rattle.model_replica.proofs.CoreLaws.{entered-core, released-met}
+use Rattle.model_core.proofs.ReadLaws.{kept-version}
+use Rattle.lasp_state.specs.declared.state.State.{State}
+use Rattle.lasp_graph.specs.States.{held_of, held_at}
+use Rattle.lasp_graph.specs.Evaluated.{number_by}
+use Rattle.lasp_core.specs.Entries.{entry_of, read_of}
+use Rattle.lasp_core.specs.Replica.{frame_of, entries_of, parts_of, IsReplica, Grows, Stays}
+use Rattle.lasp_core.specs.Jobs.{HasBound}
+use Rattle.lasp_core.specs.Core.{core_of, IsSound, IsWatched, returned, IsStateOf}
+use Rattle.lasp_core.specs.declared.read.ReadNo.{ReadNo}
+use Rattle.lasp_core.specs.declared.replica.Replica.{Replica}
+use Rattle.lasp_core.proofs.ParkedLaws.{graph-length, state-shape, state-content, held-found}
+
+-- ---- facts of a frame and entries, along equations of them
+
+along : (P : Frame → List Entry → Type 0) (X Y : Frame) (h k : List Entry) → Y ≡ X → k ≡ h → P X h → P Y k
+along P X Y h k frames entries p = subst (λ (Z : Frame). P Z k) (sym frames) (subst (λ (l : List Entry). P X l) (sym entries) p)
+
+back : (P : Frame → List Entry → Type 0) (X Y : Frame) (h k : List Entry) → Y ≡ X → k ≡ h → P Y k → P X h
+back P X Y h k frames entries p = along P Y X k h (sym frames) (sym entries) p
+
+-- what holds where a call answers Ok and where it answers Err
+pub either-way : {A E : Type 0} (P Q C : Type 0) (r : Result A E) → OnOk r P → OnErr r Q → (P → C) → (Q → C) → C
+either-way P Q C (Ok a) p q f g = f p
+either-way P Q C (Err e) p q f g = g q
+
+-- the journal has so many entries
+pub entries-many : (r : Replica) → vec_len r.journal ≡ length (entries_of r)
+entries-many r = r.journal.ok.0 ∙ sym (map-length entry_of r.journal.items)
+
+-- ---- a sound replica with its reads is a core
+
+pub held-here : (r : Replica) → IsReplica r → IsHeld (frame_of r).nodes (graph (frame_of r) (entries_of r)) (peer_of (frame_of r) (entries_of r))
+held-here r is = subst (λ (g : List Decl). IsHeld (frame_of r).nodes g (peer_of (frame_of r) (entries_of r))) is.kept.graph is.held
+
+pub sound-core : (r : Replica) (reads : List ReadNo) (opened owed : ℕ) → IsSound r reads → IsCore (core_of r reads opened owed)
+sound-core r reads opened owed is = record { legal = is.replica.legal; held = held-here r is.replica; few = is.replica.few; parked = is.parked }
+
+-- ---- parked reads are watched
+
+take-whole : {A : Type 0} (xs ys : List A) → take (length xs) (xs ++ ys) ≡ xs
+take-whole [] [] = refl
+take-whole [] (y ∷ ys) = refl
+take-whole (x ∷ xs) ys = ap (λ rest. x ∷ rest) (take-whole xs ys)
+
+still-unmet : (X : Frame) (h more : List Entry) → IsLegal X (h ++ more) → (r : Read) → version X h r.var ≡ version X (h ++ more) r.var → IsFalse (is_met X h r) → IsFalse (is_met X (h ++ more) r)
+still-unmet X h more legal r same unmet = choose (is_met X (h ++ more) r) refl where
+  choose : (b : Bool) → is_met X (h ++ more) r ≡ b → b ≡ false
+  choose true met = absurd
+      (let down : is_met X h r ≡ true = meets-grows r.threshold (val X (h ++ more) r.var) (val X h r.var) (val-ordered X (h ++ more) legal r.var) (val-ordered X h (legal-first X h more legal) r.var) ((journal-later X h more).same r.var same) met in
+      let both : true ≡ false = sym down ∙ unmet in cc)
+  choose false met = refl
+
+watched : (new : Replica) (X : Frame) (h more : List Entry) → IsReplica new → frame_of new ≡ X → entries_of new ≡ h ++ more → (r : Read) → IsParked X h r → IsWatched new (length h) r
+watched new X h more is frames entries r p = record {
+  declared = low;
+  suits_it = along (λ (Z : Frame) (k : List Entry). IsTrue (suits r.threshold (lawful.shape_of Z.nodes (kind_at (graph Z k) r.var)))) X (frame_of new) (h ++ more) (entries_of new) frames entries (suits-stays X h more r.var r.threshold p.declared p.suits_it);
+  still = λ still. along (λ (Z : Frame) (k : List Entry). IsFalse (is_met Z k r)) X (frame_of new) (h ++ more) (entries_of new) frames entries
+      (still-unmet X h more (back (λ (Z : Frame) (k : List Entry). IsLegal Z k) X (frame_of new) (h ++ more) (entries_of new) frames entries is.legal) r
+      (before ∙ (is.kept.histories r.var there).versions (length h) within ∙ still ∙ sym (kept-version (frame_of new) (entries_of new) (parts_of new) is.kept r.var there) ∙ after) p.unmet);
+} where
+  low : r.var < length (graph (frame_of new) (entries_of new))
+  low = along (λ (Z : Frame) (k : List Entry). r.var < length (graph Z k)) X (frame_of new) (h ++ more) (entries_of new) frames entries (omega (arith, p.declared, graph-longer X h more))
+
+  there : r.var < length (parts_of new).graph
+  there = omega (arith, low, graph-length new is)
+
+  long : (xs ys : List Entry) → length xs ≤ length (xs ++ ys)
+  long [] ys = omega arith
+  long (x ∷ xs) ys = omega (arith, long xs ys)
+
+  within : length h ≤ length (entries_of new)
+  within = omega (arith, long h more, ap (λ (k : List Entry). length k) entries)
+
+  before : version X h r.var ≡ version (frame_of new) (take (length h) (entries_of new)) r.var
+  before = ap (λ (k : List Entry). version X k r.var) (sym (take-whole h more)) ∙ (λ i. version (sym frames i) (take (length h) (sym entries i)) r.var)
+
+  after : version (frame_of new) (entries_of new) r.var ≡ version X (h ++ more) r.var
+  after = λ i. version (frames i) (entries i) r.var
+
+-- the reads that were parked before an entry are watched after it
+pub all-watched : (old new : Replica) (reads : List ReadNo) (more : List Entry) (n : ℕ) → IsSound old reads → IsReplica new → frame_of new ≡ frame_of old → entries_of new ≡ entries_of old ++ more → n ≡ length (entries_of old)
+    → AllByRecursion (IsWatched new n) (map read_of reads)
+all-watched old new reads more n sound is frames entries many =
+    subst (λ (m : ℕ). AllByRecursion (IsWatched new m) (map read_of reads)) (sym many)
+    (each-weaker (IsParked (frame_of old) (entries_of old)) (IsWatched new (length (entries_of old))) (λ r p. watched new (frame_of old) (entries_of old) more is frames entries r p) (map read_of reads) sound.parked)
+
+-- ---- the core after an entry
+
+abbrev pub Remain : Replica → List ReadNo → List ReadNo → Type 0
+Remain new reads rest = map read_of rest ≡ filter (λ r. not (is_met (frame_of new) (entries_of new) r)) (map read_of reads)
+
+remain-is : (old new : Replica) (e : Entry) (reads rest : List ReadNo) → frame_of new ≡ frame_of old → entries_of new ≡ entries_of old ++ e ∷ [] → Remain new reads rest
+    → map read_of rest ≡ filter (λ r. not (is_met (frame_of old) (entries_of old ++ e ∷ []) r)) (map read_of reads)
+remain-is old new e reads rest frames entries left = left ∙ (λ i. filter (λ r. not (is_met (frames i) (entries i) r)) (map read_of reads))
+
+pub bound-is : (old new : Replica) (by y n : ℕ) (reads rest : List ReadNo) (opened owed : ℕ) → HasBound by y n old new → Remain new reads rest
+    → core_of new rest opened owed ≡ returned y (entered (record { by = by; act = model.Bind y n }) (core_of old reads opened owed))
+bound-is old new by y n reads rest opened owed bound left i = record {
+  frame = bound.frame i;
+  entries = bound.entries i;
+  parked = remain-is old new (record { by = by; act = model.Bind y n }) reads rest bound.frame bound.entries left i;
+  busy = bound.busy i;
+  opened = opened;
+  owed = owed;
+}
+
+pub released-is : (old new : Replica) (e : Entry) (reads out : List ReadNo) (opened owed : ℕ) → frame_of new ≡ frame_of old → entries_of new ≡ entries_of old ++ e ∷ []
+    → map read_of out ≡ filter (λ r. is_met (frame_of new) (entries_of new) r) (map read_of reads) → map read_of out ≡ released e (core_of old reads opened owed)
+released-is old new e reads out opened owed frames entries met = met ∙ (λ i. filter (λ r. is_met (frames i) (entries i) r) (map read_of reads))
+
+pub entered-sound : (old new : Replica) (e : Entry) (reads rest : List ReadNo) → IsSound old reads → IsReplica new → frame_of new ≡ frame_of old → entries_of new ≡ entries_of old ++ e ∷ [] → Remain new reads rest → IsSound new rest
+entered-sound old new e reads rest sound is frames entries left = record {
+  replica = is;
+  parked = subst (λ (rs : List Read). AllByRecursion (IsParked (frame_of new) (entries_of new)) rs) (sym (remain-is old new e reads rest frames entries left))
+      (along (λ (Z : Frame) (k : List Entry). AllByRecursion (IsParked Z k) c.parked) (frame_of old) (frame_of new) h (entries_of new) frames entries
+      (entered-core (core_of old reads 0 0) e (sound-core old reads 0 0 sound)
+      (back (λ (Z : Frame) (k : List Entry). IsLegal Z k) (frame_of old) (frame_of new) h (entries_of new) frames entries is.legal)
+      (back (λ (Z : Frame) (k : List Entry). IsHeld Z.nodes (graph Z k) (peer_of Z k)) (frame_of old) (frame_of new) h (entries_of new) frames entries (held-here new is))).parked);
+} where
+  h : List Entry
+  h = entries_of old ++ e ∷ []
+
+  c : Core
+  c = entered e (core_of old reads 0 0)
+
+-- ---- the core after what is no entry
+
+-- a replica with the frame and the entries of another one may have its reads
+pub same-sound : (old new : Replica) (reads : List ReadNo) → IsSound old reads → IsReplica new → frame_of new ≡ frame_of old → entries_of new ≡ entries_of old → IsSound new reads
+same-sound old new reads sound is frames entries = record {
+  replica = is;
+  parked = along (λ (Z : Frame) (k : List Entry). AllByRecursion (IsParked Z k) (map read_of reads)) (frame_of old) (frame_of new) (entries_of old) (entries_of new) frames entries sound.parked;
+}
+
+pub stays-sound : (old new : Replica) (reads : List ReadNo) → IsSound old reads → Stays old new → IsSound new reads
+stays-sound old new reads sound stays = same-sound old new reads sound stays.sound stays.frame stays.entries
+
+-- ---- declarations
+
+-- a declaration leaves the variables before it
+extend-keeps : (X : Frame) (h : List Entry) → IsLegal X h → (e : Entry) (d : Decl) → e.act ≡ model.Extend d → (x : ℕ) → x < length (graph X h) → val X (h ++ e ∷ []) x ≡ val X h x
+extend-keeps X h legal e d act x low = ap (λ (ss : List Content). content_at ss x) (extend-vals X h e d act) ∙ at-append (vals X h) (least_of X.nodes d.kind ∷ []) x least (omega (arith, low, vals-length X h legal))
+
+parked-extended : (X : Frame) (h : List Entry) → IsLegal X h → (e : Entry) (d : Decl) → e.act ≡ model.Extend d → (r : Read) → IsParked X h r → IsParked X (h ++ e ∷ []) r
+parked-extended X h legal e d act r p = record {
+  declared = omega (arith, p.declared, graph-longer X h (e ∷ []));
+  suits_it = suits-stays X h (e ∷ []) r.var r.threshold p.declared p.suits_it;
+  unmet = ap (λ (s : Content). meets r.threshold s) (extend-keeps X h legal e d act r.var p.declared) ∙ p.unmet;
+}
+
+pub declared-sound : (old new : Replica) (e : Entry) (d : Decl) (reads : List ReadNo) → e.act ≡ model.Extend d → IsSound old reads → Grows e old new → IsSound new reads
+declared-sound old new e d reads act sound grows = record {
+  replica = grows.sound;
+  parked = along (λ (Z : Frame) (k : List Entry). AllByRecursion (IsParked Z k) (map read_of reads)) (frame_of old) (frame_of new) (entries_of old ++ e ∷ []) (entries_of new) grows.frame grows.entries
+      (each-weaker (IsParked (frame_of old) (entries_of old)) (IsParked (frame_of old) (entries_of old ++ e ∷ []))
+      (λ r p. parked-extended (frame_of old) (entries_of old) sound.replica.legal e d act r p) (map read_of reads) sound.parked);
+}
+
+-- ---- closed reads
+
+abbrev pub Closed : ℕ → List ReadNo → List ReadNo → Type 0
+Closed number reads rest = map read_of rest ≡ filter (λ r. not (r.number == number)) (map read_of reads)
+
+pub closed-sound : (r : Replica) (number : ℕ) (reads rest : List ReadNo) → IsSound r reads → Closed number reads rest → IsSound r rest
+closed-sound r number reads rest sound closes = record {
+  replica = sound.replica;
+  parked = subst (λ (rs : List Read). AllByRecursion (IsParked (frame_of r) (entries_of r)) rs) (sym closes)
+      (each-kept (IsParked (frame_of r) (entries_of r)) (IsParked (frame_of r) (entries_of r)) (λ x. not (x.number == number)) (λ x e p. p) (map read_of reads) sound.parked);
+}
+
+-- ---- numbers of states
+
+pub state-number : (r : Replica) → IsReplica r → (x : ℕ) → (s : State) → held_at r.states x ≡ held_of s → IsDerived (graph (frame_of r) (entries_of r)) x
+    → (held_of s).number ≡ number_by (kind_at (graph (frame_of r) (entries_of r)) x) (held_of s).content
+state-number r is x s at derived =
+    subst (λ h. h.number ≡ number_by (kind_at (graph (frame_of r) (entries_of r)) x) h.content) at
+    (subst (λ (g : List Decl). (held_at r.states x).number ≡ number_by (kind_at g x) (held_at r.states x).content) is.kept.graph
+    (is.kept.numbers x (subst (λ (g : List Decl). IsDerived g x) (sym is.kept.graph) derived)))
+
+pub state-is : (r : Replica) → IsReplica r → (reads : List ReadNo) (opened owed : ℕ) (x : ℕ) → x < length (graph (frame_of r) (entries_of r)) → (s : State) → slice_get r.states x ≡ Some (held_of s) → IsStateOf (core_of r reads opened owed) x s
+state-is r is reads opened owed x low s at = record {
+  content = state-content r is x s at;
+  shape = state-shape r is x low s at;
+  number = λ derived. state-number r is x s (held-found r.states x (held_of s) at) derived;
+}
+
+-- ---- reads that the result of a job releases
+
+-- each is met where the call leaves the core
+pub finished-met : {E : Type 0} (c new : Core) (e : Entry) (y : ℕ) → IsCore c → (result : Result (List Read) E) → OnOk result (new ≡ returned y (entered e c)) → IfOk result (λ reads. reads ≡ released e c)
+    → IfOk result (λ reads. AllByRecursion (λ r. IsTrue (is_met new.frame new.entries r)) reads)
+finished-met c new e y core (Ok reads) ok out =
+    subst (λ (s : Core). AllByRecursion (λ r. IsTrue (is_met s.frame s.entries r)) reads) (sym ok)
+    (subst (λ (rs : List Read). AllByRecursion (λ r. IsTrue (is_met c.frame (c.entries ++ e ∷ []) r)) rs) (sym out) (released-met c e core))
+finished-met c new e y core (Err why) ok out = tt

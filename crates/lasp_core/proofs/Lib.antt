@@ -1,0 +1,15 @@
+pub mod ReplicaLaws
+pub mod LeastLaws
+pub mod ExtendLaws
+pub mod UpdateLaws
+pub mod SettledLaws
+pub mod TakeLaws
+pub mod FinishLaws
+pub mod BeginLaws
+pub mod RaiseLaws
+pub mod TakenLaws
+pub mod RecordLaws
+pub mod DeliverLaws
+pub mod ParkedLaws
+pub mod CoresLaws
+pub mod NewsLaws

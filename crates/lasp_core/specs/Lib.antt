@@ -1,0 +1,9 @@
+pub mod Coded
+pub mod Entries
+pub mod Replica
+pub mod Jobs
+pub mod Core
+pub mod Update
+pub mod Finish
+pub mod Delivery
+pub mod Listed

@@ -1,0 +1,109 @@
+//! What a worker asks of a replica, however it comes by it.
+
+ghost use Rattle.std.specs.Prelude.{◌≡◌, ℕ, List, [], ◌∷◌, ◌++◌, Option, None, length, IfOk, IfErr, OnOk, OnErr, IfSome, IfNone, IsTrue};
+ghost use Rattle.std.specs.List.{AllByRecursion};
+ghost use Rattle.model_graph.specs.Lawful.{IsDerived};
+ghost use Rattle.model_journal.specs.Entry as model;
+ghost use Rattle.model_journal.specs.Journal.{graph};
+ghost use Rattle.model_journal.specs.Legal.{IsLegal};
+ghost use Rattle.model_replica.specs.Peer.{entry};
+ghost use Rattle.model_replica.specs.Core.{is_met};
+ghost use Rattle.lasp_core.specs.Jobs.{counted_up, IsUnclean, IsJobOf, IsJobNow, IsResultOf};
+ghost use Rattle.lasp_core.specs.Core.{rows_of};
+ghost use Rattle.lasp_core.specs.Listed.{GoesOn, EndsWith, AreClean, HasLooked};
+
+use crate::read::Released;
+use crate::replica_core::Core;
+use lasp_job::Job;
+use lasp_state::State;
+use std::alloc::AllocError;
+
+/// A replica that hands out jobs and takes in their results. It is seen by its frame, which no call changes, and by its list of entries, which only goes on.
+pub trait Jobs {
+    // what never changes of it
+    ghost frame: { Self → model.Frame };
+
+    // the entries that it has seen
+    ghost list: { Self → List model.Entry };
+
+    // the number of the caller who makes its entries
+    ghost caller: { Self → ℕ };
+
+    // how many changed rows its jobs had
+    ghost owed: { Self → ℕ };
+
+    // how often it looked for entries of others, where it does
+    ghost looks: { Self → Option ℕ };
+
+    // how many entries it was told of, where others make some
+    ghost told: { Self → Option ℕ };
+
+    /// Recalls, at no cost, that its list is legal.
+    fn recall_legal(&self)
+        ensures { IsLegal (frame self.now) (list self.now) };
+
+    /// A job of a derived variable that isn't clean; none where all are clean.
+    fn take(&mut self) -> Result<Option<Job>, AllocError>
+        ensures frame { frame self.new ≡ frame self.old }
+        ensures list { GoesOn (list self.old) (list self.new) }
+        ensures alone { looks self.old ≡ None → list self.new ≡ list self.old }
+        ensures looked { OnOk result (HasLooked (looks self.old) (looks self.new) (told self.new) (length (list self.new))) }
+        ensures none { IfOk result (λ found. IfNone found (AreClean (frame self.new) (list self.new))) }
+        ensures unclean { IfOk result (λ found. IfSome found (λ job. IsUnclean (frame self.new) (list self.new) job.var)) }
+        ensures job { IfOk result (λ found. IfSome found (λ job. IsJobNow (frame self.new) (list self.new) job.var job)) }
+        ensures owed { IfOk result (λ found. IfSome found (λ job. owed self.new ≡ counted_up (owed self.old) (rows_of job))) }
+        ensures rest { IfOk result (λ found. IfNone found (owed self.new ≡ owed self.old)) }
+        ensures err { OnErr result (owed self.new ≡ owed self.old) };
+
+    /// Takes in the result of a job.
+    fn finish(&mut self, job: Job, state: State) -> Result<Released, (Job, AllocError)>
+        requires job { IsJobOf (frame self.old) (list self.old) job }
+        requires result { IsResultOf job state }
+        ensures frame { frame self.new ≡ frame self.old }
+        ensures ok { OnOk result (EndsWith (entry (caller self.old) (model.Bind job.var job.n)) (list self.old) (list self.new)) }
+        ensures err { OnErr result (GoesOn (list self.old) (list self.new)) }
+        ensures alone { looks self.old ≡ None → OnOk result (list self.new ≡ list self.old ++ entry (caller self.old) (model.Bind job.var job.n) ∷ []) }
+        ensures same { looks self.old ≡ None → OnErr result (list self.new ≡ list self.old) }
+        ensures met { IfOk result (λ reads. AllByRecursion (λ r. IsTrue (is_met (frame self.new) (list self.new) r)) reads) }
+        ensures owed { owed self.new ≡ owed self.old }
+        ensures back { IfErr result (λ e. e.0 ≡ job) };
+
+    /// Takes a job back that wasn't done.
+    fn give_back(&mut self, job: Job)
+        requires { IsDerived (graph (frame self.old) (list self.old)) job.var }
+        ensures frame { frame self.new ≡ frame self.old }
+        ensures list { GoesOn (list self.old) (list self.new) }
+        ensures alone { looks self.old ≡ None → list self.new ≡ list self.old }
+        ensures owed { owed self.new ≡ owed self.old };
+}
+
+impl Jobs for Core {
+    ghost frame = { λ c. c.frame };
+
+    ghost list = { λ c. c.entries };
+
+    ghost caller = { λ c. 0 };
+
+    ghost owed = { λ c. c.owed };
+
+    ghost looks = { λ c. None };
+
+    ghost told = { λ c. None };
+
+    fn recall_legal(&self) {
+        self.recall();
+    }
+
+    fn take(&mut self) -> Result<Option<Job>, AllocError> {
+        Core::take(self)
+    }
+
+    fn finish(&mut self, job: Job, state: State) -> Result<Released, (Job, AllocError)> {
+        self.recall();
+        Core::finish(self, 0, job, state)
+    }
+
+    fn give_back(&mut self, job: Job) {
+        Core::give_back(self, job)
+    }
+}

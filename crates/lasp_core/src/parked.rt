@@ -1,0 +1,60 @@
+//! The parked reads of a replica after an entry.
+
+ghost use Rattle.std.specs.Prelude.{◌≡◌, ◌==◌, ◌+◌, ◌≤◌, ◌++◌, [], not, map, filter, vec_len, vec_capacity};
+ghost use Rattle.std.specs.List.{AllByRecursion};
+ghost use Rattle.model_replica.specs.Core.{is_met};
+ghost use Rattle.lasp_core.specs.Entries.{read_of};
+ghost use Rattle.lasp_core.specs.Replica.{frame_of, entries_of, IsReplica};
+ghost use Rattle.lasp_core.specs.Core.{IsWatched};
+
+use crate::read::ReadNo;
+use crate::replica::Replica;
+
+/// Whether a read's variable grew at an entry from number n on and has come to the threshold.
+fn is_met_since(replica: &Replica, n: u64, read: &ReadNo) -> bool
+    requires replica { IsReplica replica.now }
+    requires read { IsWatched replica.now n (read_of read.now) }
+    ensures { result ≡ is_met (frame_of replica.now) (entries_of replica.now) (read_of read.now) }
+{
+    !replica.histories[read.var as usize].is_still_since(n)
+        && read.threshold.meets(replica.states.at(u64::from(read.var)))
+}
+
+/// Moves the reads that came to be met at an entry from number n on, in their order. There is room for them.
+pub(crate) fn split_met(
+    replica: &Replica,
+    n: u64,
+    parked: &mut Vec<ReadNo>,
+    released: &mut Vec<ReadNo>,
+)
+    requires replica { IsReplica replica.now }
+    requires reads { AllByRecursion (IsWatched replica.now n) (map read_of parked.old.items) }
+    requires empty { released.old.items ≡ [] }
+    requires room { vec_len released.old + vec_len parked.old ≤ vec_capacity released.old }
+    ensures parked { map read_of parked.new.items ≡ filter (λ r. not (is_met (frame_of replica.now) (entries_of replica.now) r)) (map read_of parked.old.items) }
+    ensures released { map read_of released.new.items ≡ filter (λ r. is_met (frame_of replica.now) (entries_of replica.now) r) (map read_of parked.old.items) }
+{
+    let mut i = 0;
+    while i < parked.len() {
+        if is_met_since(replica, n, &parked[i]) {
+            let read = parked.remove(i);
+            let _ = released.push(read);
+        } else {
+            i += 1;
+        }
+    }
+}
+
+/// Removes the reads of a number. The others stay in their order.
+pub(crate) fn remove_read(reads: &mut Vec<ReadNo>, number: u64)
+    ensures { map read_of reads.new.items ≡ filter (λ r. not (r.number == number)) (map read_of reads.old.items) }
+{
+    let mut i = 0;
+    while i < reads.len() {
+        if reads[i].number == number {
+            let _ = reads.remove(i);
+        } else {
+            i += 1;
+        }
+    }
+}

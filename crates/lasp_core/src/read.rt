@@ -1,0 +1,88 @@
+//! Reads that wait for a threshold, and those that a call released.
+
+ghost use Rattle.std.specs.Prelude.{◌≡◌, ◌<◌, ◌++◌, ◌∷◌, [], length, map, slice_get, Some, IfOk};
+ghost use Rattle.std.specs.Arc.{arc_value};
+ghost use Rattle.lasp_core.specs.Entries.{read_of};
+
+use lasp_state::Threshold;
+use std::alloc::{AllocError, Global};
+use std::marker::Model;
+use std::sync::Arc;
+
+/// A read that was opened: its number, its variable, and how far that has to have come. Whoever has it may poll the read.
+#[derive(Drop)]
+pub struct ReadNo {
+    pub(crate) number: u64,
+    pub(crate) var: u8,
+    pub(crate) threshold: Arc<Threshold>,
+}
+
+impl ReadNo {
+    /// The read's number: how many were opened at its replica before.
+    pub fn number(&self) -> u64
+        ensures { result ≡ (read_of self.now).number }
+    {
+        self.number
+    }
+
+    /// The variable that it reads.
+    pub fn var(&self) -> u8
+        ensures { result ≡ (read_of self.now).var }
+    {
+        self.var
+    }
+
+    /// The same read, which shares the threshold.
+    pub(crate) fn twin(&self) -> Result<ReadNo, AllocError>
+        ensures { IfOk result (λ r. read_of r ≡ read_of self.now) }
+    {
+        Ok(ReadNo {
+            number: self.number,
+            var: self.var,
+            threshold: Arc::try_clone(&self.threshold)?,
+        })
+    }
+}
+
+/// The reads whose thresholds came to be met by one call, each once, in the order in which they were opened. Contracts see the list of their numbers, variables and thresholds.
+#[derive(Drop)]
+pub struct Released {
+    reads: Vec<ReadNo>,
+}
+
+impl Model for Released {
+    ghost use Rattle.std.specs.Prelude.{List, map};
+    ghost use Rattle.model_replica.specs.Core.{Read};
+    ghost use Rattle.lasp_core.specs.Entries.{read_of};
+    ghost use Rattle.lasp_core.specs.Coded.{coded_reads};
+
+    ghost Value = { List Read };
+
+    ghost coded = { coded_reads };
+
+    ghost view = { λ a. map read_of a.reads.items };
+}
+
+impl Released {
+    /// These reads.
+    pub(crate) fn of(reads: Vec<ReadNo>) -> Released
+        ensures { result ≡ map read_of reads.items }
+    {
+        Released { reads }
+    }
+
+    /// The number of reads.
+    pub fn len(&self) -> u64
+        ensures { result ≡ length self.now }
+    {
+        self.reads.len() as u64
+    }
+
+    /// The read at a place, counted from 0.
+    pub fn at(&self, i: u64) -> &ReadNo
+        requires { i < length self.now }
+        ensures { slice_get self.now i ≡ Some (read_of result.now) }
+    {
+        &self.reads[i as usize]
+    }
+}

@@ -1,0 +1,318 @@
+//! The core of a replica, as callers see it.
+
+ghost use Rattle.std.specs.Prelude.{◌≡◌, ◌<◌, ◌≤◌, ◌↔◌, [], IfOk, IfErr, OnOk, OnErr, IfSome, IfNone, IsTrue, is_some, length, slice_get, Some, vec_capacity};
+ghost use Rattle.std.specs.Arc.{arc_value};
+ghost use Rattle.model_states.specs.Counts.{count_at};
+ghost use Rattle.model_states.specs.Threshold.{suits, meets};
+ghost use Rattle.model_graph.specs.Graph.{kind_at};
+ghost use Rattle.model_graph.specs.Lawful.{IsDerived, shape_of, variable_limit};
+ghost use Rattle.model_readings.specs.Lawful.{IsNext as MayFollow};
+ghost use Rattle.model_journal.specs.Entry as model;
+ghost use Rattle.model_journal.specs.Journal as journal;
+ghost use Rattle.model_journal.specs.Clean.{IsClean};
+ghost use Rattle.model_replica.specs.Peer.{entry};
+ghost use Rattle.model_replica.specs.Core as plain;
+ghost use Rattle.model_replica.specs.Core.{entered};
+ghost use Rattle.lasp_state.specs.State as state;
+ghost use Rattle.lasp_state.specs.State.{op_of};
+ghost use Rattle.lasp_state.specs.Threshold.{threshold_of};
+ghost use Rattle.lasp_graph.specs.Decl.{decl_of};
+ghost use Rattle.lasp_graph.specs.States.{contents_of};
+ghost use Rattle.lasp_core.specs.Entries.{entry_of, read_of};
+ghost use Rattle.lasp_core.specs.Replica.{IsSmall, update_refusal, IsAnswered, IsDelivered};
+ghost use Rattle.lasp_core.specs.Jobs.{IsUnclean, IsFirst, IsNext, Lacks, IsJobOf, IsJobNow, IsResultOf};
+ghost use Rattle.lasp_core.specs.Core.{fresh_core, IsOpen, opened_read, opened, closed, rows_of, taken, returned, IsSettled, declared, IsStateOf, AreOfKind};
+
+use crate::entry::Entry;
+use crate::parked::{remove_read, split_met};
+use crate::read::{ReadNo, Released};
+use crate::refused::{DeliverRefused, NotYet, UpdateRefused};
+use crate::replica::Replica;
+use lasp_graph::{Decl, Graph, States};
+use lasp_job::Job;
+use lasp_state::{Op, State, Threshold};
+use lasp_wire::{Counts, Message};
+use std::alloc::{AllocError, Global};
+use std::marker::Model;
+use std::sync::Arc;
+
+/// One replica, seen as what never changes of it (the graph that it opened with, its number, the number of nodes), its journal, its parked reads, how many jobs of each variable are out, how many reads were opened, and how many changed rows its jobs had.
+#[derive(Drop)]
+pub struct Core {
+    replica: Replica,
+    parked: Vec<ReadNo>,
+    opened: u64,
+    owed: u64,
+}
+
+impl Model for Core {
+    ghost use Rattle.model_replica.specs.Core as plain;
+    ghost use Rattle.lasp_core.specs.Coded.{coded_core};
+    ghost use Rattle.lasp_core.specs.Core.{core_of, IsSound};
+
+    ghost Value = { plain.Core };
+
+    ghost coded = { coded_core };
+
+    ghost view = { λ a. core_of a.replica a.parked.items a.opened a.owed };
+
+    ghost invariant = { λ a. IsSound a.replica a.parked.items };
+}
+
+impl Core {
+    /// The core of replica `me` of so many nodes, at most 8, to which nothing has happened.
+    pub fn new(alloc: Global, graph: Arc<Graph>, me: u8, nodes: u8) -> Result<Core, AllocError>
+        requires { me < nodes }
+        ensures { IfOk result (λ c. c ≡ fresh_core (arc_value graph) me nodes) }
+    {
+        Ok(Core {
+            replica: Replica::new(alloc, graph, me, nodes)?,
+            parked: Vec::new(alloc),
+            opened: 0,
+            owed: 0,
+        })
+    }
+
+    /// Room for as many reads as are parked.
+    fn room(&self) -> Result<Vec<ReadNo>, AllocError>
+        ensures empty { IfOk result (λ reads. reads.items ≡ []) }
+        ensures room { IfOk result (λ reads. length self.now.parked ≤ vec_capacity reads) }
+    {
+        Vec::with_capacity(self.replica.allocator(), self.parked.len())
+    }
+
+    /// Updates a source: what the operation joins in is joined into the variable, and the update is counted.
+    pub fn update(&mut self, by: u64, var: u8, op: &Op) -> Result<Released, UpdateRefused>
+        requires small { IsSmall self.old.frame.nodes op.now }
+        ensures ok { OnOk result (self.new ≡ entered (entry by (model.Update var (op_of op.now))) self.old) }
+        ensures released { IfOk result (λ reads. reads ≡ plain.released (entry by (model.Update var (op_of op.now))) self.old) }
+        ensures err { OnErr result (self.new ≡ self.old) }
+        ensures answer { IsAnswered (update_refusal self.old.frame.nodes self.old.frame.replica (journal.graph self.old.frame self.old.entries) (journal.vals self.old.frame self.old.entries) (journal.counts self.old.frame self.old.entries) var op.now) result }
+    {
+        let mut released = self.room()?;
+        let n = self.replica.journal.len() as u64;
+        self.replica.update(by, var, op)?;
+        split_met(&self.replica, n, &mut self.parked, &mut released);
+        Ok(Released::of(released))
+    }
+
+    /// Joins a message in: each of its sources into the variable of its place among the sources, and its counts.
+    pub fn deliver(
+        &mut self,
+        by: u64,
+        number: u32,
+        message: &Arc<Message>,
+    ) -> Result<Released, DeliverRefused>
+        ensures ok { OnOk result (self.new ≡ entered (entry by (model.Deliver number (arc_value message.now))) self.old) }
+        ensures released { IfOk result (λ reads. reads ≡ plain.released (entry by (model.Deliver number (arc_value message.now))) self.old) }
+        ensures err { OnErr result (self.new ≡ self.old) }
+        ensures answer { IsDelivered self.old.frame.nodes (journal.graph self.old.frame self.old.entries) (journal.vals self.old.frame self.old.entries) (arc_value message.now) result }
+    {
+        let mut released = self.room()?;
+        let n = self.replica.journal.len() as u64;
+        self.replica.deliver(by, number, message)?;
+        split_met(&self.replica, n, &mut self.parked, &mut released);
+        Ok(Released::of(released))
+    }
+
+    /// Declares a variable behind the others.
+    pub fn extend(&mut self, by: u64, decl: &Decl) -> Result<(), AllocError>
+        requires room { length (journal.graph self.old.frame self.old.entries) < variable_limit }
+        requires next { MayFollow (journal.graph self.old.frame self.old.entries) (decl_of decl.now) }
+        ensures ok { OnOk result (self.new ≡ declared (entry by (model.Extend (decl_of decl.now))) self.old) }
+        ensures err { OnErr result (self.new ≡ self.old) }
+    {
+        self.replica.extend(by, decl)
+    }
+
+    /// A job of the least derived variable that is neither clean nor busy, or else of the least one that isn't clean; none where all are clean.
+    pub fn take(&mut self) -> Result<Option<Job>, AllocError>
+        ensures none { IfOk result (λ found. IfNone found (IsSettled self.old)) }
+        ensures same { IfOk result (λ found. IfNone found (self.new ≡ self.old)) }
+        ensures next { IfOk result (λ found. IfSome found (λ job. IsNext self.old.frame self.old.entries self.old.busy job.var)) }
+        ensures job { IfOk result (λ found. IfSome found (λ job. IsJobNow self.old.frame self.old.entries job.var job)) }
+        ensures taken { IfOk result (λ found. IfSome found (λ job. self.new ≡ taken job.var (rows_of job) self.old)) }
+        ensures err { OnErr result (self.new ≡ self.old) }
+    {
+        match self.replica.next_var() {
+            None => Ok(None),
+            Some(var) => Ok(Some(self.take_var(var)?)),
+        }
+    }
+
+    /// A job of a derived variable, which is busy once more.
+    pub fn take_var(&mut self, var: u8) -> Result<Job, AllocError>
+        requires { IsDerived (journal.graph self.old.frame self.old.entries) var }
+        ensures job { IfOk result (λ job. IsJobNow self.old.frame self.old.entries var job) }
+        ensures taken { IfOk result (λ job. self.new ≡ taken var (rows_of job) self.old) }
+        ensures err { OnErr result (self.new ≡ self.old) }
+    {
+        let job = self.replica.take_var(var)?;
+        self.owed = self.owed.saturating_add(job.changed_rows());
+        Ok(job)
+    }
+
+    /// Takes in the result of a job.
+    pub fn finish(&mut self, by: u64, job: Job, state: State) -> Result<Released, (Job, AllocError)>
+        requires job { IsJobOf self.old.frame self.old.entries job }
+        requires result { IsResultOf job state }
+        ensures ok { OnOk result (self.new ≡ returned job.var (entered (entry by (model.Bind job.var job.n)) self.old)) }
+        ensures released { IfOk result (λ reads. reads ≡ plain.released (entry by (model.Bind job.var job.n)) self.old) }
+        ensures err { OnErr result (self.new ≡ self.old) }
+        ensures back { IfErr result (λ e. e.0 ≡ job) }
+    {
+        match self.room() {
+            Err(error) => Err((job, error)),
+            Ok(mut released) => {
+                let n = self.replica.journal.len() as u64;
+                self.replica.finish(by, job, state)?;
+                split_met(&self.replica, n, &mut self.parked, &mut released);
+                Ok(Released::of(released))
+            }
+        }
+    }
+
+    /// Takes a job back that wasn't done: its variable is busy once less.
+    pub fn give_back(&mut self, job: Job)
+        requires { IsDerived (journal.graph self.old.frame self.old.entries) job.var }
+        ensures { self.new ≡ returned job.var self.old }
+    {
+        let parts = job.into_parts();
+        self.replica.stop(parts.var);
+    }
+
+    /// Whether a derived variable has taken in its inputs as they are.
+    pub fn is_clean(&self, var: u8) -> bool
+        requires { IsDerived (journal.graph self.now.frame self.now.entries) var }
+        ensures { IsTrue result ↔ IsClean self.now.frame self.now.entries var }
+    {
+        self.replica.is_clean(var as usize)
+    }
+
+    /// The length of the journal, where every derived variable has taken in its inputs as they are.
+    pub fn check_settled(&self) -> Result<u64, NotYet>
+        ensures settled { OnOk result (IsSettled self.now) }
+        ensures length { IfOk result (λ n. n ≡ length self.now.entries) }
+        ensures first { IfErr result (λ why. IsFirst (IsUnclean self.now.frame self.now.entries) why.var) }
+        ensures lacks { IfErr result (λ why. Lacks self.now.frame self.now.entries why.var why) }
+    {
+        match self.replica.first_unclean() {
+            None => Ok(self.journal_len()),
+            Some(var) => Err(self.replica.lacking(var)),
+        }
+    }
+
+    /// Opens a read. It is parked where its variable hasn't come to the threshold.
+    pub fn open_read(&mut self, var: u8, threshold: Threshold) -> Result<ReadNo, AllocError>
+        requires { IsOpen self.old.frame self.old.entries (opened_read self.old var (threshold_of threshold)) }
+        ensures read { IfOk result (λ r. read_of r ≡ opened_read self.old var (threshold_of threshold)) }
+        ensures ok { OnOk result (self.new ≡ opened (opened_read self.old var (threshold_of threshold)) self.old) }
+        ensures err { OnErr result (self.new ≡ self.old) }
+    {
+        let alloc = self.replica.allocator();
+        let read = ReadNo {
+            number: self.opened,
+            var,
+            threshold: Arc::new(alloc, threshold)?,
+        };
+        if !read.threshold.meets(self.state(var)) {
+            self.parked.push(read.twin()?)?;
+        }
+        self.opened = self.opened.saturating_add(1);
+        Ok(read)
+    }
+
+    /// The state of a read's variable, where it has come to the threshold.
+    pub fn poll_read(&self, read: &ReadNo) -> Result<Option<Arc<State>>, AllocError>
+        requires { IsOpen self.now.frame self.now.entries (read_of read.now) }
+        ensures met { IfOk result (λ found. is_some found ≡ plain.is_met self.now.frame self.now.entries (read_of read.now)) }
+        ensures state { IfOk result (λ found. IfSome found (λ s. state.content_of (arc_value s) ≡ journal.val self.now.frame self.now.entries (read_of read.now).var)) }
+    {
+        if read.threshold.meets(self.state(read.var)) {
+            Ok(Some(Arc::try_clone(self.state(read.var))?))
+        } else {
+            Ok(None)
+        }
+    }
+
+    /// Closes a read: no call releases it any more. Where its number isn't parked nothing happens.
+    pub fn close_read(&mut self, read: &ReadNo)
+        ensures { self.new ≡ closed (read_of read.now).number self.old }
+    {
+        remove_read(&mut self.parked, read.number);
+    }
+
+    /// The state of a variable.
+    pub fn state(&self, var: u8) -> &Arc<State>
+        requires { var < length (journal.graph self.now.frame self.now.entries) }
+        ensures { IsStateOf self.now var (arc_value result.now) }
+    {
+        self.replica.states.at(u64::from(var))
+    }
+
+    /// The states of all variables.
+    pub fn states(&self) -> &States
+        ensures contents { contents_of result.now ≡ journal.vals self.now.frame self.now.entries }
+        ensures kinds { AreOfKind self.now.frame.nodes (journal.graph self.now.frame self.now.entries) result.now }
+    {
+        &self.replica.states
+    }
+
+    /// How many updates of each replica it knows.
+    pub fn counts(&self) -> &Counts
+        ensures { result.now ≡ journal.counts self.now.frame self.now.entries }
+    {
+        &self.replica.counts
+    }
+
+    /// The length of the journal.
+    pub fn journal_len(&self) -> u64
+        ensures { result ≡ length self.now.entries }
+    {
+        self.replica.journal.len() as u64
+    }
+
+    /// The entry at a place of the journal, counted from 0.
+    pub fn entry_at(&self, i: u64) -> &Entry
+        requires { i < length self.now.entries }
+        ensures { slice_get self.now.entries i ≡ Some (entry_of result.now) }
+    {
+        &self.replica.journal[i as usize]
+    }
+
+    /// The graph with all that was declared.
+    pub fn graph(&self) -> &Arc<Graph>
+        ensures { arc_value result.now ≡ journal.graph self.now.frame self.now.entries }
+    {
+        &self.replica.graph
+    }
+
+    /// Recalls, at no cost, what holds of every core: its journal is legal, its sources may stand in messages, and no parked read's variable has come to the threshold.
+    pub fn recall(&self)
+        ensures { plain.IsCore self.now }
+    {
+        let _ = &self.replica;
+    }
+
+    /// The number of reads that are parked.
+    pub fn parked_len(&self) -> u64
+        ensures { result ≡ length self.now.parked }
+    {
+        self.parked.len() as u64
+    }
+
+    /// The read at a place of the parked list, counted from 0.
+    pub fn parked_at(&self, i: u64) -> &ReadNo
+        requires { i < length self.now.parked }
+        ensures { slice_get self.now.parked i ≡ Some (read_of result.now) }
+    {
+        &self.parked[i as usize]
+    }
+
+    /// How many changed rows the jobs had that were handed out, held at the greatest number of 64 bits.
+    pub fn owed(&self) -> u64
+        ensures { result ≡ self.now.owed }
+    {
+        self.owed
+    }
+}
