@@ -1,11 +1,12 @@
 -- Laws of the nodes of a run: what one node did, the world did.
 use Rattle.std.proofs.Common.{zero, suc, refl, sym, ap, subst, ◌∙◌, arith, get_or}
-use Rattle.std.specs.Prelude.{◌≡◌, ◌≢◌, ℕ, ◌+◌, ◌<◌, ◌≤◌, List, [], ◌∷◌, ◌++◌, map, length, Option, Some, None, slice_get, slice_set, Result, Ok, Err, Bool, if◌then◌else◌}
+use Rattle.std.specs.Prelude.{◌≡◌, ◌≢◌, ℕ, ◌+◌, ◌<◌, ◌≤◌, List, [], ◌∷◌, ◌++◌, map, length, Option, Some, None, slice_get, slice_set, Result, Ok, Err, Bool, if◌then◌else◌, IsTrue}
 use Rattle.std.proofs.lemmas.List.{map-set, get_or-map}
 use Rattle.std.proofs.lemmas.Bool.{le-ltb, lt-ltb}
 use Rattle.std.proofs.lemmas.Option.{slice_get_read, get_or_from_slice_get}
 use Rattle.model_states.specs.Content.{size_of, row_limit}
 use Rattle.model_states.specs.Counts.{count_at}
+use Rattle.model_states.specs.Threshold.{Threshold, suits}
 use Rattle.model_states.specs.Update.{Op}
 use Rattle.model_graph.specs.Graph.{Decl, kind_at}
 use Rattle.model_graph.specs.Lawful.{shape_of}
@@ -191,6 +192,12 @@ member-here decls number among g many p n here within = omega (arith, here.repli
 
 pub var-here : {N : Type 0} (decls : N → List Decl) (g : List Decl) (x : ℕ) (n : N) → decls n ≡ g → x < length g → x < length (decls n)
 var-here decls g x n graph within = subst (λ (h : List Decl). x < length h) (sym graph) within
+
+-- a threshold that suits a variable suits it at the node
+pub suited-here : {N : Type 0} (decls : N → List Decl) (number among : N → ℕ) (g : List Decl) (many p x : ℕ) (n : N) (t : Threshold) → IsNode decls number among g many p n → IsTrue (suits t (shape_of many (kind_at g x)))
+    → IsTrue (suits t (shape_of (among n) (kind_at (decls n) x)))
+suited-here decls number among g many p x n t here suited =
+    subst (λ (k : ℕ). IsTrue (suits t (shape_of k (kind_at (decls n) x)))) (sym here.nodes) (subst (λ (h : List Decl). IsTrue (suits t (shape_of many (kind_at h x)))) (sym here.graph) suited)
 
 -- counts below a command's number are within the format
 pub below-limit : (c : ℕ) (counts : List ℕ) → c ≤ 100000 → AreBelow c counts → AreBelow 100001 counts

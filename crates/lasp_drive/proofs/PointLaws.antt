@@ -1,16 +1,18 @@
--- Laws of points and declarations: loops over the nodes of a run.
+-- Laws of points, declarations and reads: what the nodes of a run do and show.
 use Rattle.std.proofs.Common.{zero, suc, refl, sym, ap, subst, ◌∙◌, arith, get_or, drop, take}
-use Rattle.std.specs.Prelude.{◌≡◌, ℕ, ◌+◌, ◌<◌, ◌≤◌, List, [], ◌∷◌, ◌++◌, map, length, Option, Some, None, slice_get, slice_set, replicate, Result, Ok, Err, OnOk}
+use Rattle.std.specs.Prelude.{◌≡◌, ℕ, ◌+◌, ◌<◌, ◌≤◌, List, [], ◌∷◌, ◌++◌, map, length, Option, Some, None, slice_get, slice_set, replicate, Result, Ok, Err, OnOk, Bool, true, false, if◌then◌else◌}
 use Rattle.std.specs.Arc.{arc_value}
 use Rattle.std.proofs.lemmas.List.{map-append, map-set, get_or-map, length-map, drop_more}
-use Rattle.std.proofs.lemmas.Option.{slice_get_within, get_or_from_slice_get}
+use Rattle.std.proofs.lemmas.Option.{slice_get_read, slice_get_within, get_or_from_slice_get}
 use Rattle.model_states.specs.Content.{Content}
+use Rattle.model_states.specs.Threshold.{Threshold, meets}
 use Rattle.model_graph.specs.Graph.{Decl}
-use Rattle.model_graph.specs.Evaluation.{first_large}
-use Rattle.model_world.specs.World.{Peer, Run, shown_at, point_from, stop_from, extended, with_decl}
+use Rattle.model_graph.specs.Evaluation.{content_at, first_large}
+use Rattle.model_world.specs.Command.{Until}
+use Rattle.model_world.specs.World.{Peer, Run, Reach, act, peer_at, shown_at, shown_content_at, threshold_of, point_from, stop_from, extended, with_decl}
 use Rattle.model_world.specs.declared.stop.Stop.{Stop}
-use Rattle.model_world.specs.declared.stop.Stop.TheVariants.{TooLarge}
-use Rattle.lasp_drive.specs.Node.{Settles, IsNode, AreNodes, AreSettled, AreSettledBelow}
+use Rattle.model_world.specs.declared.stop.Stop.TheVariants.{TooLarge, NotReached}
+use Rattle.lasp_drive.specs.Node.{Awaited, awaits, Settles, IsNode, AreNodes, AreSettled, AreSettledBelow}
 use Rattle.lasp_drive.specs.declared.node.NodeStop.{NodeStop}
 use Rattle.lasp_drive.specs.declared.node.NodeStop.TheVariants as node
 use Rattle.std.specs.declared.vec.Vec.{Vec}
@@ -22,7 +24,8 @@ use Rattle.std.specs.declared.sync.Arc.{Arc}
 use Rattle.lasp_graph.specs.declared.graph.Graph.{Graph}
 use Rattle.lasp_drive.specs.Driver.{opened_of, run_of, stage_of, AreOpened, IsReady}
 use Rattle.lasp_drive.specs.declared.driver.Driver.{Driver}
-use Rattle.lasp_drive.proofs.NodeLaws.{at-set, with_peers}
+use Rattle.lasp_drive.proofs.NodeLaws.{at-set, peer-here, with_peers}
+use Rattle.lasp_drive.proofs.DriverLaws.{opened}
 
 -- a node that stopped at a variable is too large there first
 pub stopped-first : (large : Option ℕ) (stop : NodeStop) (y : ℕ) → stop ≡ node.TooLarge y → Settles {A = Unit {0}} large (Err stop) → large ≡ Some y
@@ -156,16 +159,16 @@ fresh-push peer p fresh nodes new all is =
 -- ---- the run after a point
 
 -- other nodes with the same replicas
-pub settled-ready : {N E : Type 0} (decls : N → List Decl) (number among : N → ℕ) (peer : N → Peer) (many c : ℕ) (d : Driver N) (nodes : Vec N Global) (result : Result (Unit {0}) E) → IsReady decls number among peer many c d → length nodes.items ≡ length d.nodes.items → AreNodes decls number among (arc_value d.graph) many nodes.items
-    → map peer nodes.items ≡ map peer d.nodes.items → OnOk result (IsReady decls number among peer many c (record { graph = d.graph; nodes = nodes; network = d.network; marks = d.marks; reads = d.reads; text = d.text }))
-settled-ready decls number among peer many c d nodes (Err e) ready size each same = tt
-settled-ready decls number among peer many c d nodes (Ok done) ready size each same = record {
+pub settled-ready : {N R A E : Type 0} (decls : N → List Decl) (number among : N → ℕ) (peer : N → Peer) (awaited : R → Awaited) (many c : ℕ) (d : Driver N R) (nodes : Vec N Global) (result : Result A E) → IsReady decls number among peer awaited many c d → length nodes.items ≡ length d.nodes.items → AreNodes decls number among (arc_value d.graph) many nodes.items
+    → map peer nodes.items ≡ map peer d.nodes.items → OnOk result (IsReady decls number among peer awaited many c (record { graph = d.graph; nodes = nodes; network = d.network; marks = d.marks; reads = d.reads; text = d.text }))
+settled-ready decls number among peer awaited many c d nodes (Err e) ready size each same = tt
+settled-ready decls number among peer awaited many c d nodes (Ok done) ready size each same = record {
   some = ready.some;
   few = ready.few;
   size = size ∙ ready.size;
   nodes = each;
   limit = ready.limit;
-  sound = subst (λ (rs : List Peer). IsSound many c (stage_of d) (with_peers (run_of peer d) rs)) (sym same) ready.sound;
+  sound = subst (λ (rs : List Peer). IsSound many c (stage_of d) (with_peers (run_of peer awaited d) rs)) (sym same) ready.sound;
 }
 
 -- ---- the run after a declaration
@@ -174,17 +177,17 @@ done_with : Run → Result Run Stop
 done_with run = Ok run
 
 -- the nodes went on with the larger graph
-pub extended-ready : {N : Type 0} (decls : N → List Decl) (number among : N → ℕ) (peer : N → Peer) (many c : ℕ) (d : Driver N) (decl : Decl) (graph : Arc Graph Global) (nodes : Vec N Global) → IsReady decls number among peer many c d → arc_value graph ≡ arc_value d.graph ++ decl ∷ [] → length d.nodes.items ≡ many
+pub extended-ready : {N R : Type 0} (decls : N → List Decl) (number among : N → ℕ) (peer : N → Peer) (awaited : R → Awaited) (many c : ℕ) (d : Driver N R) (decl : Decl) (graph : Arc Graph Global) (nodes : Vec N Global) → IsReady decls number among peer awaited many c d → arc_value graph ≡ arc_value d.graph ++ decl ∷ [] → length d.nodes.items ≡ many
     → length nodes.items ≡ length d.nodes.items → AreNodes decls number among (arc_value graph) many nodes.items → map peer nodes.items ≡ map (extended many decl) (map peer d.nodes.items)
-    → IsReady decls number among peer many c (record { graph = graph; nodes = nodes; network = d.network; marks = d.marks; reads = d.reads; text = d.text })
-extended-ready decls number among peer many c d decl graph nodes ready is known size each same = record {
+    → IsReady decls number among peer awaited many c (record { graph = graph; nodes = nodes; network = d.network; marks = d.marks; reads = d.reads; text = d.text })
+extended-ready decls number among peer awaited many c d decl graph nodes ready is known size each same = record {
   some = ready.some;
   few = ready.few;
   size = size ∙ known;
   nodes = each;
   limit = ready.limit;
   sound =
-      let run = run_of peer d in
+      let run = run_of peer awaited d in
       let count : length (map peer d.nodes.items) ≡ many = length-map d.nodes.items peer ∙ known in
       let next : Run = with_decl run decl in
       let sound = sound-extend many c (stage_of d) decl run next ready.sound refl in
@@ -195,11 +198,45 @@ extended-ready decls number among peer many c d decl graph nodes ready is known 
 
 -- ---- the reads of a run
 
-pub opened-ready : {N : Type 0} (decls : N → List Decl) (number among : N → ℕ) (peer : N → Peer) (c : ℕ) (d : Driver N) → IsReady decls number among peer (length d.nodes.items) c d → AreOpened decls number among peer d.nodes.items d.reads.items
-opened-ready decls number among peer c d ready = (run_of peer d, refl, ready.nodes, λ k read at. subst (IsOpened (length d.nodes.items) (arc_value d.graph)) (read-here k read at) (ready.sound.reads k (omega (arith, slice_get_within d.reads.items k read at, length-map d.reads.items opened_of)))) where
-  read-here : (k : ℕ) (read : OpenRead) → slice_get d.reads.items k ≡ Some read → read_at (map opened_of d.reads.items) k ≡ opened_of read
-  read-here k read at = get_or_from_slice_get (map opened_of d.reads.items) k (opened_of read) no_read (mapped d.reads.items k read at) where
-    mapped : (reads : List OpenRead) (k : ℕ) (read : OpenRead) → slice_get reads k ≡ Some read → slice_get (map opened_of reads) k ≡ Some (opened_of read)
+-- a call that leaves a node's replica as it was leaves the run as it was
+pub called-same : {N R : Type 0} (peer : N → Peer) (awaited : R → Awaited) (d : Driver N R) (p : ℕ) (n new : N) → n ≡ get_or d.nodes.items p n → peer new ≡ peer n → with_peers (run_of peer awaited d) (map peer (slice_set d.nodes.items p new)) ≡ run_of peer awaited d
+called-same peer awaited d p n new found same = ap (with_peers (run_of peer awaited d)) (peers-stay peer d.nodes.items p n new found same)
+
+pub called-sound : {N R : Type 0} (peer : N → Peer) (awaited : R → Awaited) (many c : ℕ) (d : Driver N R) (p : ℕ) (n new : N) → n ≡ get_or d.nodes.items p n → peer new ≡ peer n → IsSound many c (stage_of d) (run_of peer awaited d)
+    → IsSound many c (stage_of d) (with_peers (run_of peer awaited d) (map peer (slice_set d.nodes.items p new)))
+called-sound peer awaited many c d p n new found same sound = subst (λ (run : Run). IsSound many c (stage_of d) run) (sym (called-same peer awaited d p n new found same)) sound
+
+-- what a settled node shows of a variable, the run shows
+pub shown-here : {N : Type 0} (decls : N → List Decl) (peer : N → Peer) (shown : N → List Content) (g : List Decl) (nodes : List N) (p x : ℕ) (n : N) → AreSettled decls peer shown nodes → p < length nodes → n ≡ get_or nodes p n → decls n ≡ g
+    → content_at (shown n) x ≡ content_at (shown_at g (peer_at (map peer nodes) p)) x
+shown-here decls peer shown g nodes p x n settled within found graph =
+    ap (λ (cs : List Content). content_at cs x)
+    (settled p n (slice_get_read nodes (length nodes) p n refl within found) ∙ ap (λ (h : List Decl). shown_at h (peer n)) graph ∙ ap (shown_at g) (sym (peer-here peer nodes p n within found)))
+
+-- a read that was opened of a variable
+pub opened-here : {R : Type 0} (awaited : R → Awaited) (p x : ℕ) (r : R) (t : Threshold) → awaited r ≡ awaits x t → opened p (awaited r).var (awaited r).threshold ≡ opened p x t
+opened-here awaited p x r t e = ap (λ (a : Awaited). opened p a.var a.threshold) e
+
+abbrev reached_by : ℕ → Run → Bool → Result Run Stop
+reached_by c run met = if met then Ok run else Err (NotReached c)
+
+-- a variable that is at its threshold lets the run go on
+pub reach-done : (c p x : ℕ) (run next : Run) (until : Until) (t : Threshold) (s : Content) (met : Bool) → met ≡ meets t s → met ≡ true → t ≡ threshold_of run.marks until → s ≡ shown_content_at run p x → next ≡ run
+    → act c run (Reach p x until) ≡ Ok next
+reach-done c p x run next until t s met is true_here same shown e =
+    ap (reached_by c run) (sym (sym true_here ∙ is ∙ ap (λ (u : Threshold). meets u s) same ∙ ap (meets (threshold_of run.marks until)) shown)) ∙ ap (λ (r : Run). Ok r) (sym e)
+
+-- one that isn't stops it
+pub reach-stops : (c p x : ℕ) (run : Run) (until : Until) (t : Threshold) (s : Content) (met : Bool) → met ≡ meets t s → met ≡ false → t ≡ threshold_of run.marks until → s ≡ shown_content_at run p x
+    → act c run (Reach p x until) ≡ Err (NotReached c)
+reach-stops c p x run until t s met is false_here same shown =
+    ap (reached_by c run) (sym (sym false_here ∙ is ∙ ap (λ (u : Threshold). meets u s) same ∙ ap (meets (threshold_of run.marks until)) shown))
+
+pub opened-ready : {N R : Type 0} (decls : N → List Decl) (number among : N → ℕ) (peer : N → Peer) (awaited : R → Awaited) (c : ℕ) (d : Driver N R) → IsReady decls number among peer awaited (length d.nodes.items) c d → AreOpened decls number among peer awaited d.nodes.items d.reads.items
+opened-ready {N} {R} decls number among peer awaited c d ready = (run_of peer awaited d, refl, ready.nodes, λ k read at. subst (IsOpened (length d.nodes.items) (arc_value d.graph)) (read-here k read at) (ready.sound.reads k (omega (arith, slice_get_within d.reads.items k read at, length-map d.reads.items (opened_of awaited))))) where
+  read-here : (k : ℕ) (read : OpenRead R) → slice_get d.reads.items k ≡ Some read → read_at (map (opened_of awaited) d.reads.items) k ≡ opened_of awaited read
+  read-here k read at = get_or_from_slice_get (map (opened_of awaited) d.reads.items) k (opened_of awaited read) no_read (mapped d.reads.items k read at) where
+    mapped : (reads : List (OpenRead R)) (k : ℕ) (read : OpenRead R) → slice_get reads k ≡ Some read → slice_get (map (opened_of awaited) reads) k ≡ Some (opened_of awaited read)
     mapped [] k read at = absurd cc
-    mapped (r ∷ reads) zero read at = ap (λ (o : OpenRead). Some (opened_of o)) (let same : r ≡ read = cc in same)
+    mapped (r ∷ reads) zero read at = ap (λ (o : OpenRead R). Some (opened_of awaited o)) (let same : r ≡ read = cc in same)
     mapped (r ∷ reads) (suc k) read at = mapped reads k read at

@@ -8,8 +8,7 @@ use Rattle.model_world.specs.declared.stop.Stop.{Stop}
 use Rattle.model_world.specs.declared.stop.Stop.TheVariants as stop
 use Rattle.model_held.specs.Sound.{IsSound, IsOpened}
 use Rattle.lasp_state.specs.State.{content_of, shape_of}
-use Rattle.lasp_state.specs.Threshold.{threshold_of}
-use Rattle.lasp_drive.specs.Node.{AreNodes}
+use Rattle.lasp_drive.specs.Node.{Awaited, AreNodes}
 use Rattle.lasp_drive.specs.declared.halt.Halt.{Halt}
 use Rattle.lasp_drive.specs.declared.halt.Halt.TheVariants as halt
 use Rattle.lasp_drive.specs.declared.driver.Mark.{Mark}
@@ -21,31 +20,31 @@ abbrev pub marked_of : Mark → Marked
 marked_of m = record { shape = shape_of (arc_value m.state); content = content_of (arc_value m.state) }
 
 -- a read that was opened
-abbrev pub opened_of : OpenRead → Opened
-opened_of r = record { node = r.node; var = r.var; threshold = threshold_of r.threshold }
+abbrev pub opened_of : {R : Type 0} → (R → Awaited) → OpenRead R → Opened
+opened_of awaited r = record { node = r.node; var = (awaited r.read).var; threshold = (awaited r.read).threshold }
 
 -- the run that a driver has come to
-abbrev pub run_of : {N : Type 0} → (N → Peer) → Driver N → Run
-run_of peer d = record { graph = arc_value d.graph; peers = map peer d.nodes.items; sent = d.network.sent; marks = map marked_of d.marks.items; reads = map opened_of d.reads.items; text = string_bytes d.text }
+abbrev pub run_of : {N R : Type 0} → (N → Peer) → (R → Awaited) → Driver N R → Run
+run_of peer awaited d = record { graph = arc_value d.graph; peers = map peer d.nodes.items; sent = d.network.sent; marks = map marked_of d.marks.items; reads = map (opened_of awaited) d.reads.items; text = string_bytes d.text }
 
 -- what stands there by the commands alone
-abbrev pub stage_of : {N : Type 0} → Driver N → Stage
+abbrev pub stage_of : {N R : Type 0} → Driver N R → Stage
 stage_of d = record { graph = arc_value d.graph; marked = map (λ (m : Mark). m.var) d.marks.items; sent = length d.network.sent }
 
 -- nodes of one run, and reads of it that their variables' thresholds suit
-abbrev pub AreOpened : {N : Type 0} → (N → List Decl) → (N → ℕ) → (N → ℕ) → (N → Peer) → List N → List OpenRead → Type 0
-AreOpened {N} decls number among peer nodes reads =
+abbrev pub AreOpened : {N R : Type 0} → (N → List Decl) → (N → ℕ) → (N → ℕ) → (N → Peer) → (R → Awaited) → List N → List (OpenRead R) → Type 0
+AreOpened {N} {R} decls number among peer awaited nodes reads =
     (run : Run) × (map peer nodes ≡ run.peers) × AreNodes decls number among run.graph (length nodes) nodes
-    × ((k : ℕ) (read : OpenRead) → slice_get reads k ≡ Some read → IsOpened (length nodes) run.graph (opened_of read))
+    × ((k : ℕ) (read : OpenRead R) → slice_get reads k ≡ Some read → IsOpened (length nodes) run.graph (opened_of awaited read))
 
 -- before command number c: the nodes are those of one run, which is sound
-pub record IsReady {N : Type 0} (decls : N → List Decl) (number among : N → ℕ) (peer : N → Peer) (many c : ℕ) (d : Driver N) : Type 0 where
+pub record IsReady {N R : Type 0} (decls : N → List Decl) (number among : N → ℕ) (peer : N → Peer) (awaited : R → Awaited) (many c : ℕ) (d : Driver N R) : Type 0 where
   pub some : 1 ≤ many
   pub few : many ≤ 8
   pub size : length d.nodes.items ≡ many
   pub nodes : AreNodes decls number among (arc_value d.graph) many d.nodes.items
   pub limit : d.network.limit ≡ network_limit
-  pub sound : IsSound many c (stage_of d) (run_of peer d)
+  pub sound : IsSound many c (stage_of d) (run_of peer awaited d)
 
 -- a run that didn't go on stopped where the world stops, or memory was wanting
 abbrev pub Halts : {B : Type 0} → Result B Stop → Halt → Type 0

@@ -1,11 +1,20 @@
--- What the calls of a node mean for its replica, and which nodes are those of one run.
+-- What the calls of a node mean for its replica, what its reads wait for, and which nodes are those of one run.
 use Rattle.std.specs.Prelude.{◌≡◌, ℕ, ◌<◌, ◌≤◌, List, slice_get, Option, Some, None, Result, Ok, Err}
 use Rattle.model_states.specs.Content.{Content, size_of, row_limit}
+use Rattle.model_states.specs.Threshold.{Threshold}
 use Rattle.model_graph.specs.Graph.{Decl}
 use Rattle.model_graph.specs.Evaluation.{content_at, first_large}
 use Rattle.model_world.specs.World.{Peer, shown_at}
 use Rattle.lasp_drive.specs.declared.node.NodeStop.{NodeStop}
 use Rattle.lasp_drive.specs.declared.node.NodeStop.TheVariants as node
+
+-- what a read waits for: a variable, and how far it has to have come
+pub record Awaited : Type 0 where
+  pub var : ℕ
+  pub threshold : Threshold
+
+abbrev pub awaits : ℕ → Threshold → Awaited
+awaits x threshold = record { var = x; threshold = threshold }
 
 -- a node was updated: it is as it should be and within the limit; or the variable is too large; or memory was wanting
 abbrev pub Updates : {A : Type 0} → Peer → ℕ → Result A NodeStop → Peer → Type 0

@@ -10,7 +10,7 @@ ghost use Rattle.lasp_drive.specs.Driver.{run_of, stage_of, IsReady};
 use super::node::Node;
 use lasp_gossip::Network;
 use lasp_graph::Graph;
-use lasp_state::{State, Threshold};
+use lasp_state::State;
 use std::alloc::{AllocError, Global};
 use std::sync::Arc;
 
@@ -26,20 +26,18 @@ pub struct Mark {
     pub state: Arc<State>,
 }
 
-/// A read that waits for its threshold.
+/// A read that was opened at a node.
 #[derive(Drop)]
-pub struct OpenRead {
+pub struct OpenRead<R: Drop> {
     /// The node.
     pub node: u8,
-    /// The variable.
-    pub var: u8,
-    /// How far the variable has to have come.
-    pub threshold: Threshold,
+    /// The read as the node knows it.
+    pub read: R,
 }
 
 /// A run of a script: its graph so far, its nodes by their numbers, all that was sent, marked and opened so far, and the printed lines.
 #[derive(Drop)]
-pub struct Driver<N: Drop> {
+pub struct Driver<N: Node> {
     /// The graph, with what was declared so far.
     pub graph: Arc<Graph>,
     /// The nodes.
@@ -49,7 +47,7 @@ pub struct Driver<N: Drop> {
     /// The marks.
     pub marks: Vec<Mark>,
     /// The reads.
-    pub reads: Vec<OpenRead>,
+    pub reads: Vec<OpenRead<N::Read>>,
     /// The printed lines.
     pub text: String,
 }
@@ -72,8 +70,8 @@ impl<N: Node> Driver<N> {
     pub fn new(alloc: Global, graph: &Arc<Graph>, nodes: u8) -> Result<Driver<N>, AllocError>
         requires some { 1 ≤ nodes }
         requires few { nodes ≤ 8 }
-        ensures ready { IfOk result (IsReady N.decls N.number N.among N.peer nodes 1) }
-        ensures start { IfOk result (λ d. run_of N.peer d ≡ start (arc_value graph.now) nodes) }
+        ensures ready { IfOk result (IsReady N.decls N.number N.among N.peer N.awaited nodes 1) }
+        ensures start { IfOk result (λ d. run_of N.peer N.awaited d ≡ start (arc_value graph.now) nodes) }
         ensures stage { IfOk result (λ d. stage_of d ≡ opening_stage (arc_value graph.now)) }
     {
         Ok(Driver {

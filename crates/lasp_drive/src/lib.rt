@@ -19,5 +19,5 @@ mod text;
 pub use driver::{Driver, Mark, OpenRead};
 pub use halt::Halt;
 pub use node::{Node, NodeStop};
-pub use plain::PlainNode;
+pub use plain::{PlainNode, PlainRead};
 pub use text::{push_counts, push_state};

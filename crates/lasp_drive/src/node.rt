@@ -1,9 +1,11 @@
 //! What the driver asks of one node, whatever engine keeps its states.
 
-ghost use Rattle.std.specs.Prelude.{◌≡◌, ◌<◌, ◌++◌, ◌∷◌, [], ℕ, List, IfOk, OnOk, IsTrue, length};
+ghost use Rattle.std.specs.Prelude.{◌≡◌, ◌<◌, ◌++◌, ◌∷◌, [], ℕ, List, IfOk, IfSome, OnOk, IsTrue, length};
 ghost use Rattle.std.specs.Arc.{arc_value};
+ghost use Rattle.std.specs.Option.{is_some};
 ghost use Rattle.model_states.specs.Content.{Content};
 ghost use Rattle.model_states.specs.Counts.{count_at};
+ghost use Rattle.model_states.specs.Threshold.{suits, meets};
 ghost use Rattle.model_graph.specs.Graph.{Decl, is_source, kind_at};
 ghost use Rattle.model_graph.specs.Evaluation.{content_at, first_large};
 ghost use Rattle.model_graph.specs.Lawful.{shape_of};
@@ -14,12 +16,13 @@ ghost use Rattle.model_wire.specs.Lawful.{IsMessage};
 ghost use Rattle.model_held.specs.Held.{IsHeld, IsSentTo, IsUpdate};
 ghost use Rattle.lasp_state.specs.State as state;
 ghost use Rattle.lasp_state.specs.State.{shown_state, op_of, IsOpOf};
+ghost use Rattle.lasp_state.specs.Threshold.{threshold_of};
 ghost use Rattle.lasp_graph.specs.Library.{library_of};
-ghost use Rattle.lasp_drive.specs.Node.{Updates, Delivers, Settles, IsNode};
+ghost use Rattle.lasp_drive.specs.Node.{Awaited, awaits, Updates, Delivers, Settles, IsNode};
 
 use lasp_fns::Library;
 use lasp_graph::Graph;
-use lasp_state::{Op, State};
+use lasp_state::{Op, State, Threshold};
 use lasp_wire::Message;
 use std::alloc::{AllocError, Global};
 use std::sync::Arc;
@@ -49,6 +52,9 @@ impl From<AllocError> for NodeStop {
 
 /// One node of a run.
 pub trait Node: Drop + Sized {
+    /// A read that was opened at a node of this engine.
+    type Read: Drop;
+
     // its graph
     ghost decls: { Self → List Decl };
 
@@ -63,6 +69,9 @@ pub trait Node: Drop + Sized {
 
     // what its variables show since the last settle
     ghost shown: { Self → List Content };
+
+    // what a read waits for
+    ghost awaited: { Self.Read → Awaited };
 
     /// A node to which nothing has happened.
     fn new(alloc: Global, graph: &Arc<Graph>, replica: u8, nodes: u8) -> Result<Self, AllocError>
@@ -84,6 +93,7 @@ pub trait Node: Drop + Sized {
     /// What a source holds, shared.
     fn source(&self, x: u8) -> &Arc<State>
         requires var { x < length (decls self.now) }
+        requires source { IsTrue (is_source (kind_at (decls self.now) x)) }
         ensures content { state.content_of (arc_value result.now) ≡ content_at (peer self.now).contents x }
         ensures shape { state.shape_of (arc_value result.now) ≡ shape_of (among self.now) (kind_at (decls self.now) x) };
 
@@ -92,12 +102,12 @@ pub trait Node: Drop + Sized {
         requires { IsMessage (message_at (decls self.now) (peer self.now)) }
         ensures { IfOk result (λ m. m ≡ message_at (decls self.now) (peer self.now)) };
 
-    /// Takes a message: its sources are joined in, and the counts become the larger ones.
-    fn deliver(&mut self, alloc: Global, m: &Message) -> Result<(), NodeStop>
+    /// Takes message i of all that were sent: its sources are joined in, and the counts become the larger ones.
+    fn deliver(&mut self, alloc: Global, i: u32, m: &Arc<Message>) -> Result<(), NodeStop>
         requires held { IsHeld (among self.old) (decls self.old) (peer self.old) }
-        requires sent { IsSentTo (among self.old) (decls self.old) m.now }
+        requires sent { IsSentTo (among self.old) (decls self.old) (arc_value m.now) }
         ensures node { IsNode decls number among (decls self.old) (among self.old) (number self.old) self.new }
-        ensures done { Delivers (delivered (decls self.old) m.now (peer self.old)) result (peer self.new) };
+        ensures done { Delivers (delivered (decls self.old) (arc_value m.now) (peer self.old)) result (peer self.new) };
 
     /// Goes on with a graph that has one declaration more, of which nothing has happened.
     fn extend(&mut self, alloc: Global, graph: &Arc<Graph>) -> Result<(), AllocError>
@@ -121,6 +131,34 @@ pub trait Node: Drop + Sized {
         ensures content { state.content_of result.now ≡ content_at (shown self.now) x }
         ensures shape { state.shape_of result.now ≡ shape_of (among self.now) (kind_at (decls self.now) x) }
         ensures text { shown_state result.now ≡ shown_content (kind_at (decls self.now) x) (content_at (shown self.now) x) };
+
+    /// Opens a read: it waits for a variable to come to the threshold.
+    fn open_read(
+        &mut self,
+        alloc: Global,
+        x: u8,
+        threshold: Threshold,
+    ) -> Result<Self::Read, AllocError>
+        requires var { x < length (decls self.old) }
+        requires suits { IsTrue (suits (threshold_of threshold) (shape_of (among self.old) (kind_at (decls self.old) x))) }
+        ensures node { IsNode decls number among (decls self.old) (among self.old) (number self.old) self.new }
+        ensures peer { peer self.new ≡ peer self.old }
+        ensures shown { shown self.new ≡ shown self.old }
+        ensures read { IfOk result (λ r. awaited r ≡ awaits x (threshold_of threshold)) };
+
+    /// The state of a read's variable, shared, where it is at the threshold.
+    fn poll_read(&self, r: &Self::Read) -> Result<Option<Arc<State>>, AllocError>
+        requires settled { shown self.now ≡ shown_at (decls self.now) (peer self.now) }
+        requires var { (awaited r.now).var < length (decls self.now) }
+        requires suits { IsTrue (suits (awaited r.now).threshold (shape_of (among self.now) (kind_at (decls self.now) (awaited r.now).var))) }
+        ensures met { IfOk result (λ o. is_some o ≡ meets (awaited r.now).threshold (content_at (shown self.now) (awaited r.now).var)) }
+        ensures state { IfOk result (λ o. IfSome o (λ s. state.content_of (arc_value s) ≡ content_at (shown self.now) (awaited r.now).var)) };
+
+    /// Closes a read: nobody waits for it any more.
+    fn close_read(&mut self, r: &Self::Read)
+        ensures node { IsNode decls number among (decls self.old) (among self.old) (number self.old) self.new }
+        ensures peer { peer self.new ≡ peer self.old }
+        ensures shown { shown self.new ≡ shown self.old };
 
     /// How many updates of each replica it knows.
     fn counts(&self) -> &[u64]

@@ -6,6 +6,8 @@ ghost use Rattle.std.specs.Coded.{Coded-set, →_prop};
 ghost use Rattle.model_graph.specs.Evaluation.{eval, first_large};
 ghost use Rattle.lasp_graph.specs.States.{contents_of};
 ghost use Rattle.lasp_graph.specs.Evaluated.{KeepShapes, KeepNumbers};
+ghost use Rattle.lasp_state.specs.Threshold.{threshold_of};
+ghost use Rattle.lasp_drive.specs.Node.{awaits};
 ghost use Rattle.lasp_drive.specs.Plain.{coded_contents, AreShaped};
 
 mod counts;
@@ -16,11 +18,18 @@ use counts::{raise, zeros};
 use lasp_fns::Library;
 use lasp_gossip::{join_message, message_of};
 use lasp_graph::{EvalAll, Graph, States, eval_all};
-use lasp_state::{Op, State};
+use lasp_state::{Op, State, Threshold};
 use lasp_wire::Message;
 use sources::{first_large, is_large, join_update, least_state, least_states};
 use std::alloc::{AllocError, Global};
 use std::sync::Arc;
+
+/// A read of a plain node: its variable, and how far that has to have come.
+#[derive(Drop)]
+pub struct PlainRead {
+    var: u8,
+    threshold: Threshold,
+}
 
 /// A node that evaluates whole states.
 #[derive(Drop)]
@@ -41,6 +50,8 @@ pub struct PlainNode {
 }
 
 impl Node for PlainNode {
+    type Read = PlainRead;
+
     ghost decls = { λ n. arc_value n.graph };
 
     ghost number = { λ n. n.replica };
@@ -50,6 +61,8 @@ impl Node for PlainNode {
     ghost peer = { λ n. record { contents = contents_of n.sources; counts = n.counts.items } };
 
     ghost shown = { λ n. contents_of n.shown };
+
+    ghost awaited = { λ r. awaits r.var (threshold_of r.threshold) };
 
     fn new(
         alloc: Global,
@@ -88,7 +101,7 @@ impl Node for PlainNode {
         message_of(alloc, &self.graph, &self.sources, &self.counts)
     }
 
-    fn deliver(&mut self, alloc: Global, m: &Message) -> Result<(), NodeStop> {
+    fn deliver(&mut self, alloc: Global, _i: u32, m: &Arc<Message>) -> Result<(), NodeStop> {
         self.is_settled = false;
         self.shown = States::new(alloc);
         join_message(alloc, &self.graph, &mut self.sources, m)?;
@@ -128,6 +141,26 @@ impl Node for PlainNode {
     fn state(&self, x: u8) -> &State {
         self.shown.at(x as u64)
     }
+
+    fn open_read(
+        &mut self,
+        _alloc: Global,
+        x: u8,
+        threshold: Threshold,
+    ) -> Result<PlainRead, AllocError> {
+        Ok(PlainRead { var: x, threshold })
+    }
+
+    fn poll_read(&self, r: &PlainRead) -> Result<Option<Arc<State>>, AllocError> {
+        let state = self.shown.at(r.var as u64);
+        if r.threshold.meets(state) {
+            Ok(Some(Arc::try_clone(state)?))
+        } else {
+            Ok(None)
+        }
+    }
+
+    fn close_read(&mut self, _r: &PlainRead) {}
 
     fn counts(&self) -> &[u64] {
         &self.counts

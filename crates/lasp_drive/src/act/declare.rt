@@ -42,12 +42,12 @@ fn extend_all<N: Node>(
 impl<N: Node> Driver<N> {
     /// Declares a variable at every node.
     pub fn extend(&mut self, alloc: Global, c: u32, decl: &Decl) -> Result<(), Halt>
-        requires ready { IsReady N.decls N.number N.among N.peer (length self.old.nodes.items) c self.old }
+        requires ready { IsReady N.decls N.number N.among N.peer N.awaited (length self.old.nodes.items) c self.old }
         requires room { length (arc_value self.old.graph) < variable_limit }
         requires next { IsNext (arc_value self.old.graph) (decl_of decl.now) }
-        ensures ready { OnOk result (IsReady N.decls N.number N.among N.peer (length self.old.nodes.items) c self.new) }
+        ensures ready { OnOk result (IsReady N.decls N.number N.among N.peer N.awaited (length self.old.nodes.items) c self.new) }
         ensures stage { OnOk result (stage_of self.new ≡ stage_after (length self.old.nodes.items) (stage_of self.old) (command.Declare (decl_of decl.now))) }
-        ensures done { Does (act c (run_of N.peer self.old) (Extend (decl_of decl.now))) result (run_of N.peer self.new) }
+        ensures done { Does (act c (run_of N.peer N.awaited self.old) (Extend (decl_of decl.now))) result (run_of N.peer N.awaited self.new) }
     {
         let grown = Arc::new(alloc, self.graph.with(alloc, decl)?)?;
         extend_all(&mut self.nodes, alloc, &self.graph, &grown, decl)?;

@@ -17,18 +17,19 @@ use crate::driver::{Driver, Mark, OpenRead};
 use crate::halt::Halt;
 use crate::node::Node;
 use lasp_state::Threshold;
+use std::alloc::Global;
 use std::sync::Arc;
 
 impl<N: Node> Driver<N> {
     /// Marks what source x of node p holds; it is shared.
     pub fn keep(&mut self, c: u32, p: u8, x: u8) -> Result<(), Halt>
-        requires ready { IsReady N.decls N.number N.among N.peer (length self.old.nodes.items) c self.old }
+        requires ready { IsReady N.decls N.number N.among N.peer N.awaited (length self.old.nodes.items) c self.old }
         requires node { p < length self.old.nodes.items }
         requires var { x < length (arc_value self.old.graph) }
         requires source { IsTrue (is_source (kind_at (arc_value self.old.graph) x)) }
-        ensures ready { OnOk result (IsReady N.decls N.number N.among N.peer (length self.old.nodes.items) c self.new) }
+        ensures ready { OnOk result (IsReady N.decls N.number N.among N.peer N.awaited (length self.old.nodes.items) c self.new) }
         ensures stage { OnOk result (stage_of self.new ≡ stage_after (length self.old.nodes.items) (stage_of self.old) (command.Mark p x)) }
-        ensures done { Does (act c (run_of N.peer self.old) (Keep p x)) result (run_of N.peer self.new) }
+        ensures done { Does (act c (run_of N.peer N.awaited self.old) (Keep p x)) result (run_of N.peer N.awaited self.new) }
     {
         let state = Arc::try_clone(self.nodes[p as usize].source(x))?;
         self.marks.push(Mark { var: x, state })?;
@@ -36,22 +37,26 @@ impl<N: Node> Driver<N> {
     }
 
     /// Opens a read of variable x at node p.
-    pub fn open(&mut self, c: u32, p: u8, x: u8, threshold: Threshold) -> Result<(), Halt>
-        requires ready { IsReady N.decls N.number N.among N.peer (length self.old.nodes.items) c self.old }
+    pub fn open(
+        &mut self,
+        alloc: Global,
+        c: u32,
+        p: u8,
+        x: u8,
+        threshold: Threshold,
+    ) -> Result<(), Halt>
+        requires ready { IsReady N.decls N.number N.among N.peer N.awaited (length self.old.nodes.items) c self.old }
         requires node { p < length self.old.nodes.items }
         requires var { x < length (arc_value self.old.graph) }
         requires suits { IsTrue (suits (threshold_of threshold) (shape_of (length self.old.nodes.items) (kind_at (arc_value self.old.graph) x))) }
-        requires until { (until : Until) × (threshold_of threshold ≡ world.threshold_of (run_of N.peer self.old).marks until) }
-        ensures ready { OnOk result (IsReady N.decls N.number N.among N.peer (length self.old.nodes.items) c self.new) }
+        requires until { (until : Until) × (threshold_of threshold ≡ world.threshold_of (run_of N.peer N.awaited self.old).marks until) }
+        ensures ready { OnOk result (IsReady N.decls N.number N.among N.peer N.awaited (length self.old.nodes.items) c self.new) }
         ensures stage { OnOk result (stage_of self.new ≡ stage_of self.old) }
-        ensures done { (until : Until) → threshold_of threshold ≡ world.threshold_of (run_of N.peer self.old).marks until
-            → Does (act c (run_of N.peer self.old) (Open p x until)) result (run_of N.peer self.new) }
+        ensures done { (until : Until) → threshold_of threshold ≡ world.threshold_of (run_of N.peer N.awaited self.old).marks until
+            → Does (act c (run_of N.peer N.awaited self.old) (Open p x until)) result (run_of N.peer N.awaited self.new) }
     {
-        self.reads.push(OpenRead {
-            node: p,
-            var: x,
-            threshold,
-        })?;
+        let read = self.nodes[p as usize].open_read(alloc, x, threshold)?;
+        self.reads.push(OpenRead { node: p, read })?;
         Ok(())
     }
 }

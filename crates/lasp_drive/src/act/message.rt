@@ -17,12 +17,12 @@ use std::alloc::Global;
 impl<N: Node> Driver<N> {
     /// Node p sends what it holds, under the next number.
     pub fn post(&mut self, alloc: Global, c: u32, p: u8) -> Result<(), Halt>
-        requires ready { IsReady N.decls N.number N.among N.peer (length self.old.nodes.items) c self.old }
+        requires ready { IsReady N.decls N.number N.among N.peer N.awaited (length self.old.nodes.items) c self.old }
         requires number { c ≤ 100000 }
         requires node { p < length self.old.nodes.items }
-        ensures ready { OnOk result (IsReady N.decls N.number N.among N.peer (length self.old.nodes.items) c self.new) }
+        ensures ready { OnOk result (IsReady N.decls N.number N.among N.peer N.awaited (length self.old.nodes.items) c self.new) }
         ensures stage { OnOk result (stage_of self.new ≡ stage_after (length self.old.nodes.items) (stage_of self.old) (command.Send p)) }
-        ensures done { Does (act c (run_of N.peer self.old) (Post p)) result (run_of N.peer self.new) }
+        ensures done { Does (act c (run_of N.peer N.awaited self.old) (Post p)) result (run_of N.peer N.awaited self.new) }
     {
         self.graph.recall();
         self.network.len();
@@ -36,15 +36,15 @@ impl<N: Node> Driver<N> {
 
     /// Node p takes message i.
     pub fn take(&mut self, alloc: Global, c: u32, p: u8, i: u32) -> Result<(), Halt>
-        requires ready { IsReady N.decls N.number N.among N.peer (length self.old.nodes.items) c self.old }
+        requires ready { IsReady N.decls N.number N.among N.peer N.awaited (length self.old.nodes.items) c self.old }
         requires node { p < length self.old.nodes.items }
         requires message { i < length self.old.network.sent }
-        ensures ready { OnOk result (IsReady N.decls N.number N.among N.peer (length self.old.nodes.items) c self.new) }
+        ensures ready { OnOk result (IsReady N.decls N.number N.among N.peer N.awaited (length self.old.nodes.items) c self.new) }
         ensures stage { OnOk result (stage_of self.new ≡ stage_of self.old) }
-        ensures done { Does (act c (run_of N.peer self.old) (Take p i)) result (run_of N.peer self.new) }
+        ensures done { Does (act c (run_of N.peer N.awaited self.old) (Take p i)) result (run_of N.peer N.awaited self.new) }
     {
         let message = self.network.receive(alloc, i)?;
-        match self.nodes[p as usize].deliver(alloc, &message) {
+        match self.nodes[p as usize].deliver(alloc, i, &message) {
             Ok(()) => Ok(()),
             Err(NodeStop::TooLarge(x)) => Err(Halt::TooLarge(c, p, x)),
             Err(NodeStop::Memory) => Err(Halt::Memory),

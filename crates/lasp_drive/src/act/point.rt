@@ -47,12 +47,12 @@ fn settle_all<N: Node>(
 impl<N: Node> Driver<N> {
     /// Command number c settles every node, nodes ascending.
     pub fn point(&mut self, alloc: Global, lib: &Library, c: u32) -> Result<(), Halt>
-        requires ready { IsReady N.decls N.number N.among N.peer (length self.old.nodes.items) c self.old }
+        requires ready { IsReady N.decls N.number N.among N.peer N.awaited (length self.old.nodes.items) c self.old }
         requires fits { FitsAll (library_of lib.now) (arc_value self.old.graph) }
-        ensures ready { OnOk result (IsReady N.decls N.number N.among N.peer (length self.old.nodes.items) c self.new) }
+        ensures ready { OnOk result (IsReady N.decls N.number N.among N.peer N.awaited (length self.old.nodes.items) c self.new) }
         ensures stage { OnOk result (stage_of self.new ≡ stage_of self.old) }
         ensures settled { OnOk result (AreSettled N.decls N.peer N.shown self.new.nodes.items) }
-        ensures done { Does (act c (run_of N.peer self.old) Point) result (run_of N.peer self.new) }
+        ensures done { Does (act c (run_of N.peer N.awaited self.old) Point) result (run_of N.peer N.awaited self.new) }
     {
         settle_all(&mut self.nodes, alloc, &self.graph, lib, c)
     }

@@ -15,11 +15,11 @@ use std::alloc::Global;
 impl<N: Node> Driver<N> {
     /// Every node sends, nodes ascending.
     fn post_all(&mut self, alloc: Global, c: u32) -> Result<(), Halt>
-        requires ready { IsReady N.decls N.number N.among N.peer (length self.old.nodes.items) c self.old }
+        requires ready { IsReady N.decls N.number N.among N.peer N.awaited (length self.old.nodes.items) c self.old }
         requires number { c ≤ 100000 }
-        ensures ready { OnOk result (IsReady N.decls N.number N.among N.peer (length self.old.nodes.items) c self.new) }
+        ensures ready { OnOk result (IsReady N.decls N.number N.among N.peer N.awaited (length self.old.nodes.items) c self.new) }
         ensures stage { OnOk result (stage_of self.new ≡ stage_after (length self.old.nodes.items) (stage_of self.old) command.Sync) }
-        ensures done { Does (each c (run_of N.peer self.old) (map Post (range_with_len 0 (length self.old.nodes.items)))) result (run_of N.peer self.new) }
+        ensures done { Does (each c (run_of N.peer N.awaited self.old) (map Post (range_with_len 0 (length self.old.nodes.items)))) result (run_of N.peer N.awaited self.new) }
     {
         for p in 0..self.nodes.len() {
             match self.post(alloc, c, p as u8) {
@@ -32,12 +32,12 @@ impl<N: Node> Driver<N> {
 
     /// Node p takes the messages of all others, senders ascending; the first node's has number i.
     fn take_others(&mut self, alloc: Global, c: u32, p: u8, i: u32) -> Result<(), Halt>
-        requires ready { IsReady N.decls N.number N.among N.peer (length self.old.nodes.items) c self.old }
+        requires ready { IsReady N.decls N.number N.among N.peer N.awaited (length self.old.nodes.items) c self.old }
         requires node { p < length self.old.nodes.items }
         requires messages { i + length self.old.nodes.items ≤ length self.old.network.sent }
-        ensures ready { OnOk result (IsReady N.decls N.number N.among N.peer (length self.old.nodes.items) c self.new) }
+        ensures ready { OnOk result (IsReady N.decls N.number N.among N.peer N.awaited (length self.old.nodes.items) c self.new) }
         ensures stage { OnOk result (stage_of self.new ≡ stage_of self.old) }
-        ensures done { Does (each c (run_of N.peer self.old) (takes (length self.old.nodes.items) i p)) result (run_of N.peer self.new) }
+        ensures done { Does (each c (run_of N.peer N.awaited self.old) (takes (length self.old.nodes.items) i p)) result (run_of N.peer N.awaited self.new) }
     {
         self.network.len();
         for q in 0..self.nodes.len() {
@@ -53,11 +53,11 @@ impl<N: Node> Driver<N> {
 
     /// Every node takes the messages of all others, nodes ascending; the first node's has number i.
     fn take_all(&mut self, alloc: Global, c: u32, i: u32) -> Result<(), Halt>
-        requires ready { IsReady N.decls N.number N.among N.peer (length self.old.nodes.items) c self.old }
+        requires ready { IsReady N.decls N.number N.among N.peer N.awaited (length self.old.nodes.items) c self.old }
         requires messages { i + length self.old.nodes.items ≤ length self.old.network.sent }
-        ensures ready { OnOk result (IsReady N.decls N.number N.among N.peer (length self.old.nodes.items) c self.new) }
+        ensures ready { OnOk result (IsReady N.decls N.number N.among N.peer N.awaited (length self.old.nodes.items) c self.new) }
         ensures stage { OnOk result (stage_of self.new ≡ stage_of self.old) }
-        ensures done { Does (each c (run_of N.peer self.old) (flat_map (takes (length self.old.nodes.items) i) (range_with_len 0 (length self.old.nodes.items)))) result (run_of N.peer self.new) }
+        ensures done { Does (each c (run_of N.peer N.awaited self.old) (flat_map (takes (length self.old.nodes.items) i) (range_with_len 0 (length self.old.nodes.items)))) result (run_of N.peer N.awaited self.new) }
     {
         for p in 0..self.nodes.len() {
             match self.take_others(alloc, c, p as u8, i) {
@@ -70,11 +70,11 @@ impl<N: Node> Driver<N> {
 
     /// Every node sends, and then each takes the messages of all others.
     pub fn sync(&mut self, alloc: Global, c: u32) -> Result<(), Halt>
-        requires ready { IsReady N.decls N.number N.among N.peer (length self.old.nodes.items) c self.old }
+        requires ready { IsReady N.decls N.number N.among N.peer N.awaited (length self.old.nodes.items) c self.old }
         requires number { c ≤ 100000 }
-        ensures ready { OnOk result (IsReady N.decls N.number N.among N.peer (length self.old.nodes.items) c self.new) }
+        ensures ready { OnOk result (IsReady N.decls N.number N.among N.peer N.awaited (length self.old.nodes.items) c self.new) }
         ensures stage { OnOk result (stage_of self.new ≡ stage_after (length self.old.nodes.items) (stage_of self.old) command.Sync) }
-        ensures done { Does (each c (run_of N.peer self.old) (sync_acts (length self.old.nodes.items) (length self.old.network.sent))) result (run_of N.peer self.new) }
+        ensures done { Does (each c (run_of N.peer N.awaited self.old) (sync_acts (length self.old.nodes.items) (length self.old.network.sent))) result (run_of N.peer N.awaited self.new) }
     {
         let first = self.network.len() as u32;
         match self.post_all(alloc, c) {

@@ -10,5 +10,5 @@ abbrev pub invariant-loop-k : goal.invariant-loop-k
 invariant-loop-k g l = record {
   within : l.k ≤ length l.reads;
   text : (run : Run) → map g.N.Node.peer l.nodes ≡ run.peers → AreNodes g.N.Node.decls g.N.Node.number g.N.Node.among run.graph (length l.nodes) l.nodes
-      → string_bytes l.text ++ read_lines l.k run (map opened_of (drop l.k l.reads)) ≡ string_bytes l.fn.text ++ read_lines 0 run (map opened_of l.reads);
+      → string_bytes l.text ++ read_lines l.k run (map (opened_of g.N.Node.awaited) (drop l.k l.reads)) ≡ string_bytes l.fn.text ++ read_lines 0 run (map (opened_of g.N.Node.awaited) l.reads);
 }

@@ -15,8 +15,8 @@ use Rattle.lasp_drive.proofs.driver.Driver.new.Goals as goal
 pub returns-clause-ready : goal.returns-clause-ready
 returns-clause-ready g c =
     let graph : arc_value c.in_ok-try_clone.field-0 ≡ arc_value c.args.graph.now = search rules in
-    let d : Driver g.row.N.Denot = record { graph = c.in_ok-try_clone.field-0; nodes = c.in_ok-fresh_nodes.field-0; network = c.new.result; marks = c.new-2.result; reads = c.new-3.result; text = c.new-4.result } in
-    let run : run_of g.N.Node.peer d ≡ start (arc_value c.args.graph.now) c.args.nodes = search rules in
+    let d : Driver g.row.N.Denot g.row.N-Read.Denot = record { graph = c.in_ok-try_clone.field-0; nodes = c.in_ok-fresh_nodes.field-0; network = c.new.result; marks = c.new-2.result; reads = c.new-3.result; text = c.new-4.result } in
+    let run : run_of g.N.Node.peer g.N.Node.awaited d ≡ start (arc_value c.args.graph.now) c.args.nodes = search rules in
     let stage : stage_of d ≡ opening_stage (arc_value c.args.graph.now) = search rules in
     record {
       some = c.requires.some;

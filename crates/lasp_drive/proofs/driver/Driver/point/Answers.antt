@@ -11,5 +11,5 @@ settle_all-requires-clause-nodes g c =
 
 pub returns-clause-ready : goal.returns-clause-ready
 returns-clause-ready g c =
-    settled-ready g.N.Node.decls g.N.Node.number g.N.Node.among g.N.Node.peer (length c.args.self.now.nodes.items) c.args.c c.args.self.now c.settle_all.new.nodes c.settle_all.result c.requires.ready c.settle_all.ensures.size
+    settled-ready g.N.Node.decls g.N.Node.number g.N.Node.among g.N.Node.peer g.N.Node.awaited (length c.args.self.now.nodes.items) c.args.c c.args.self.now c.settle_all.new.nodes c.settle_all.result c.requires.ready c.settle_all.ensures.size
     (subst (λ (h : List Decl). AreNodes g.N.Node.decls g.N.Node.number g.N.Node.among h (length c.args.self.now.nodes.items) c.settle_all.new.nodes.items) c.deref.ensures c.settle_all.ensures.nodes) c.settle_all.ensures.peers

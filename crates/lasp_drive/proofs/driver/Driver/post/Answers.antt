@@ -31,7 +31,7 @@ returns-in-Ok-clause-done g c =
     let graph = arc_value c.args.self.now.graph in
     let nodes = c.args.self.now.nodes.items in
     let here = node-here g.N.Node.decls g.N.Node.number g.N.Node.among graph (length nodes) nodes c.args.p c.index.result.now c.requires.ready.nodes c.requires.node c.index.ensures in
-    let run = run_of g.N.Node.peer c.args.self.now in
+    let run = run_of g.N.Node.peer g.N.Node.awaited c.args.self.now in
     network-done _ run (c.args.self.now.network.sent ++ c.in_ok-message.message ∷ []) c.send.new.self.sent
     (post-done run c.args.c c.in_ok-message.message (message_at graph (peer_at (map g.N.Node.peer nodes) c.args.p))
     (c.in_ok-message.ensures ∙ message-here g.N.Node.decls g.N.Node.peer graph nodes c.args.p c.index.result.now here.graph c.requires.node c.index.ensures) (omega (arith, c.in-Ok.ensures.room, c.requires.ready.limit)))
@@ -42,7 +42,7 @@ returns-in-Ok-clause-ready g c =
     let graph = arc_value c.args.self.now.graph in
     let nodes = c.args.self.now.nodes.items in
     let here = node-here g.N.Node.decls g.N.Node.number g.N.Node.among graph (length nodes) nodes c.args.p c.index.result.now c.requires.ready.nodes c.requires.node c.index.ensures in
-    let run = run_of g.N.Node.peer c.args.self.now in
+    let run = run_of g.N.Node.peer g.N.Node.awaited c.args.self.now in
     let sent : List Message = c.args.self.now.network.sent ++ c.in_ok-message.message ∷ [] in
     record {
       some = c.requires.ready.some;
@@ -61,6 +61,6 @@ returns-in-Err-NetworkFull-clause-done g c =
     let graph = arc_value c.args.self.now.graph in
     let nodes = c.args.self.now.nodes.items in
     let here = node-here g.N.Node.decls g.N.Node.number g.N.Node.among graph (length nodes) nodes c.args.p c.index.result.now c.requires.ready.nodes c.requires.node c.index.ensures in
-    post-stops (run_of g.N.Node.peer c.args.self.now) c.args.c c.in_ok-message.message (message_at graph (peer_at (map g.N.Node.peer nodes) c.args.p))
+    post-stops (run_of g.N.Node.peer g.N.Node.awaited c.args.self.now) c.args.c c.in_ok-message.message (message_at graph (peer_at (map g.N.Node.peer nodes) c.args.p))
     (c.in_ok-message.ensures ∙ message-here g.N.Node.decls g.N.Node.peer graph nodes c.args.p c.index.result.now here.graph c.requires.node c.index.ensures)
     (omega (arith, c.in-Err-NetworkFull.ensures.full (search rules), c.requires.ready.limit))

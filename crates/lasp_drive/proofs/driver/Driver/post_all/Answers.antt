@@ -8,19 +8,19 @@ use Rattle.lasp_drive.proofs.driver.Driver.post_all.Goals as goal
 
 pub returns-in-Err-clause-done : goal.returns-in-Err-clause-done
 returns-in-Err-clause-done g c =
-    halts-as (each c.args.c (run_of g.N.Node.peer c.args.self.now) (map Post (range_with_len 0 (length c.args.self.now.nodes.items)))) _ c.in-Err.halt (sym c.loop-p.invariant.rest)
-    (post-halts c.args.c (length c.args.self.now.nodes.items) c.loop-p.p (run_of g.N.Node.peer c.loop-p.self) c.in-Err.halt (omega (arith, c.loop-p-test.true, c.len-p-end.ensures)) c.in-Err.ensures.done)
+    halts-as (each c.args.c (run_of g.N.Node.peer g.N.Node.awaited c.args.self.now) (map Post (range_with_len 0 (length c.args.self.now.nodes.items)))) _ c.in-Err.halt (sym c.loop-p.invariant.rest)
+    (post-halts c.args.c (length c.args.self.now.nodes.items) c.loop-p.p (run_of g.N.Node.peer g.N.Node.awaited c.loop-p.self) c.in-Err.halt (omega (arith, c.loop-p-test.true, c.len-p-end.ensures)) c.in-Err.ensures.done)
 
 pub loop-p-preserved : goal.loop-p-preserved
 loop-p-preserved g c =
     let within : c.loop-p.p < length c.args.self.now.nodes.items = omega (arith, c.loop-p-test.true, c.len-p-end.ensures) in
     record {
       within = omega (arith, within);
-      ready = subst (λ (many : ℕ). IsReady g.N.Node.decls g.N.Node.number g.N.Node.among g.N.Node.peer many c.args.c c.post.new.self) c.loop-p.invariant.ready.size c.in-Ok.ensures.ready;
+      ready = subst (λ (many : ℕ). IsReady g.N.Node.decls g.N.Node.number g.N.Node.among g.N.Node.peer g.N.Node.awaited many c.args.c c.post.new.self) c.loop-p.invariant.ready.size c.in-Ok.ensures.ready;
       stage = c.in-Ok.ensures.stage ∙ sent-next (length c.loop-p.self.nodes.items) c.loop-p.p (stage_of c.loop-p.self) (stage_of c.args.self.now) c.loop-p.p c.loop-p.invariant.stage;
-      rest = sym (post-next c.args.c (length c.args.self.now.nodes.items) c.loop-p.p (run_of g.N.Node.peer c.loop-p.self) (run_of g.N.Node.peer c.post.new.self) within c.in-Ok.ensures.done) ∙ c.loop-p.invariant.rest;
+      rest = sym (post-next c.args.c (length c.args.self.now.nodes.items) c.loop-p.p (run_of g.N.Node.peer g.N.Node.awaited c.loop-p.self) (run_of g.N.Node.peer g.N.Node.awaited c.post.new.self) within c.in-Ok.ensures.done) ∙ c.loop-p.invariant.rest;
     }
 
 pub returns-clause-done : goal.returns-clause-done
 returns-clause-done g c =
-    sym c.loop-p.invariant.rest ∙ post-end c.args.c (length c.args.self.now.nodes.items) c.loop-p.p (run_of g.N.Node.peer c.loop-p.self) (omega (arith, c.loop-p-test.false, c.len-p-end.ensures))
+    sym c.loop-p.invariant.rest ∙ post-end c.args.c (length c.args.self.now.nodes.items) c.loop-p.p (run_of g.N.Node.peer g.N.Node.awaited c.loop-p.self) (omega (arith, c.loop-p-test.false, c.len-p-end.ensures))

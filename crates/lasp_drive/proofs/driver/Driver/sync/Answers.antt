@@ -8,9 +8,9 @@ use Rattle.lasp_drive.proofs.driver.Driver.sync.Goals as goal
 
 pub returns-in-Ok-clause-done : goal.returns-in-Ok-clause-done
 returns-in-Ok-clause-done g c =
-    sync-does c.args.c (run_of g.N.Node.peer c.args.self.now) (run_of g.N.Node.peer c.post_all.new.self) (run_of g.N.Node.peer c.take_all.new.self) (length c.args.self.now.nodes.items) (length c.post_all.new.self.nodes.items) (length c.args.self.now.network.sent) c.len-first.result c.take_all.result
+    sync-does c.args.c (run_of g.N.Node.peer g.N.Node.awaited c.args.self.now) (run_of g.N.Node.peer g.N.Node.awaited c.post_all.new.self) (run_of g.N.Node.peer g.N.Node.awaited c.take_all.new.self) (length c.args.self.now.nodes.items) (length c.post_all.new.self.nodes.items) (length c.args.self.now.network.sent) c.len-first.result c.take_all.result
     c.in-Ok.ensures.ready.size c.len-first.ensures.exact c.in-Ok.ensures.done c.take_all.ensures.done
 
 pub returns-in-Err-clause-done : goal.returns-in-Err-clause-done
 returns-in-Err-clause-done g c =
-    append-halts c.args.c (run_of g.N.Node.peer c.args.self.now) (map Post (range_with_len 0 (length c.args.self.now.nodes.items))) (flat_map (takes (length c.args.self.now.nodes.items) (length c.args.self.now.network.sent)) (range_with_len 0 (length c.args.self.now.nodes.items))) c.in-Err.halt c.in-Err.ensures.done
+    append-halts c.args.c (run_of g.N.Node.peer g.N.Node.awaited c.args.self.now) (map Post (range_with_len 0 (length c.args.self.now.nodes.items))) (flat_map (takes (length c.args.self.now.nodes.items) (length c.args.self.now.network.sent)) (range_with_len 0 (length c.args.self.now.nodes.items))) c.in-Err.halt c.in-Err.ensures.done

@@ -23,18 +23,18 @@ deliver-requires-clause-sent g c =
     let graph = arc_value c.args.self.now.graph in
     let nodes = c.args.self.now.nodes.items in
     let here = node-here g.N.Node.decls g.N.Node.number g.N.Node.among graph (length nodes) nodes c.args.p c.index_mut.result.now c.requires.ready.nodes c.requires.node c.index_mut.ensures.value in
-    sent-here g.N.Node.decls g.N.Node.number g.N.Node.among graph (length nodes) c.args.p c.index_mut.result.now c.deref.result.now here
-    (subst (λ (m : Message). IsSentTo (length nodes) graph m) (sym (c.deref.ensures ∙ sent-read c.args.self.now.network.sent c.args.i (arc_value c.in_ok-message.message) c.in_ok-message.ensures.message)) (c.requires.ready.sound.sent c.args.i c.requires.message))
+    sent-here g.N.Node.decls g.N.Node.number g.N.Node.among graph (length nodes) c.args.p c.index_mut.result.now (arc_value c.in_ok-message.message) here
+    (subst (λ (m : Message). IsSentTo (length nodes) graph m) (sym (sent-read c.args.self.now.network.sent c.args.i (arc_value c.in_ok-message.message) c.in_ok-message.ensures.message)) (c.requires.ready.sound.sent c.args.i c.requires.message))
 
 pub returns-in-Ok-clause-done : goal.returns-in-Ok-clause-done
 returns-in-Ok-clause-done g c =
     let graph = arc_value c.args.self.now.graph in
     let nodes = c.args.self.now.nodes.items in
     let here = node-here g.N.Node.decls g.N.Node.number g.N.Node.among graph (length nodes) nodes c.args.p c.index_mut.result.now c.requires.ready.nodes c.requires.node c.index_mut.ensures.value in
-    let run = run_of g.N.Node.peer c.args.self.now in
+    let run = run_of g.N.Node.peer g.N.Node.awaited c.args.self.now in
     network-done _ (with_peers run (map g.N.Node.peer (slice_set nodes c.args.p c.deliver.new.self))) c.args.self.now.network.sent c.receive.new.self.sent
-    (deliver-done g.N.Node.decls g.N.Node.peer run c.deref.result.now (sent_number c.args.self.now.network.sent c.args.i) nodes c.args.c c.args.p c.index_mut.result.now c.deliver.new.self
-    refl here.graph (c.deref.ensures ∙ sent-read c.args.self.now.network.sent c.args.i (arc_value c.in_ok-message.message) c.in_ok-message.ensures.message) c.requires.node c.index_mut.ensures.value c.in-Ok.ensures.done.0 c.in-Ok.ensures.done.1)
+    (deliver-done g.N.Node.decls g.N.Node.peer run (arc_value c.in_ok-message.message) (sent_number c.args.self.now.network.sent c.args.i) nodes c.args.c c.args.p c.index_mut.result.now c.deliver.new.self
+    refl here.graph (sent-read c.args.self.now.network.sent c.args.i (arc_value c.in_ok-message.message) c.in_ok-message.ensures.message) c.requires.node c.index_mut.ensures.value c.in-Ok.ensures.done.0 c.in-Ok.ensures.done.1)
     (ap (λ (n : Network). n.sent) c.receive.ensures.same)
 
 pub returns-in-Ok-clause-ready : goal.returns-in-Ok-clause-ready
@@ -43,7 +43,7 @@ returns-in-Ok-clause-ready g c =
     let nodes = c.args.self.now.nodes.items in
     let here = node-here g.N.Node.decls g.N.Node.number g.N.Node.among graph (length nodes) nodes c.args.p c.index_mut.result.now c.requires.ready.nodes c.requires.node c.index_mut.ensures.value in
     let stays = node-stays g.N.Node.decls g.N.Node.number g.N.Node.among graph (length nodes) c.args.p c.index_mut.result.now c.deliver.new.self here c.in-Ok.ensures.node in
-    let run = run_of g.N.Node.peer c.args.self.now in
+    let run = run_of g.N.Node.peer g.N.Node.awaited c.args.self.now in
     let next = with_peers run (map g.N.Node.peer (slice_set nodes c.args.p c.deliver.new.self)) in
     record {
       some = c.requires.ready.some;
@@ -53,8 +53,8 @@ returns-in-Ok-clause-ready g c =
       limit = ap (λ (n : Network). n.limit) c.receive.ensures.same ∙ c.requires.ready.limit;
       sound = network-sound (length nodes) c.args.c graph (map (λ (m : Mark). m.var) c.args.self.now.marks.items) next c.args.self.now.network.sent c.receive.new.self.sent (ap (λ (n : Network). n.sent) c.receive.ensures.same)
           (sound-take (length nodes) c.args.c c.args.p c.args.i (stage_of c.args.self.now) run next c.requires.ready.sound c.requires.node c.requires.message
-          (deliver-done g.N.Node.decls g.N.Node.peer run c.deref.result.now (sent_number c.args.self.now.network.sent c.args.i) nodes c.args.c c.args.p c.index_mut.result.now c.deliver.new.self
-          refl here.graph (c.deref.ensures ∙ sent-read c.args.self.now.network.sent c.args.i (arc_value c.in_ok-message.message) c.in_ok-message.ensures.message) c.requires.node c.index_mut.ensures.value c.in-Ok.ensures.done.0 c.in-Ok.ensures.done.1));
+          (deliver-done g.N.Node.decls g.N.Node.peer run (arc_value c.in_ok-message.message) (sent_number c.args.self.now.network.sent c.args.i) nodes c.args.c c.args.p c.index_mut.result.now c.deliver.new.self
+          refl here.graph (sent-read c.args.self.now.network.sent c.args.i (arc_value c.in_ok-message.message) c.in_ok-message.ensures.message) c.requires.node c.index_mut.ensures.value c.in-Ok.ensures.done.0 c.in-Ok.ensures.done.1));
     }
 
 pub returns-in-Err-TooLarge-clause-done : goal.returns-in-Err-TooLarge-clause-done
@@ -62,6 +62,6 @@ returns-in-Err-TooLarge-clause-done g c =
     let graph = arc_value c.args.self.now.graph in
     let nodes = c.args.self.now.nodes.items in
     let here = node-here g.N.Node.decls g.N.Node.number g.N.Node.among graph (length nodes) nodes c.args.p c.index_mut.result.now c.requires.ready.nodes c.requires.node c.index_mut.ensures.value in
-    deliver-stops g.N.Node.decls g.N.Node.peer (run_of g.N.Node.peer c.args.self.now) c.deref.result.now (sent_number c.args.self.now.network.sent c.args.i) nodes c.args.c c.args.p c.in-Err-TooLarge.x c.index_mut.result.now
-    here.graph (c.deref.ensures ∙ sent-read c.args.self.now.network.sent c.args.i (arc_value c.in_ok-message.message) c.in_ok-message.ensures.message) c.requires.node c.index_mut.ensures.value
-    (stopped-delivery (delivered (g.N.Node.decls c.index_mut.result.now) c.deref.result.now (g.N.Node.peer c.index_mut.result.now)) (g.N.Node.peer c.deliver.new.self) c.in-Err-TooLarge.field-0 c.in-Err-TooLarge.x c.in-Err-TooLarge.field-0-is c.in-Err-TooLarge.ensures.done)
+    deliver-stops g.N.Node.decls g.N.Node.peer (run_of g.N.Node.peer g.N.Node.awaited c.args.self.now) (arc_value c.in_ok-message.message) (sent_number c.args.self.now.network.sent c.args.i) nodes c.args.c c.args.p c.in-Err-TooLarge.x c.index_mut.result.now
+    here.graph (sent-read c.args.self.now.network.sent c.args.i (arc_value c.in_ok-message.message) c.in_ok-message.ensures.message) c.requires.node c.index_mut.ensures.value
+    (stopped-delivery (delivered (g.N.Node.decls c.index_mut.result.now) (arc_value c.in_ok-message.message) (g.N.Node.peer c.index_mut.result.now)) (g.N.Node.peer c.deliver.new.self) c.in-Err-TooLarge.field-0 c.in-Err-TooLarge.x c.in-Err-TooLarge.field-0-is c.in-Err-TooLarge.ensures.done)

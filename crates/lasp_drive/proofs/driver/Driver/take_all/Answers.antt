@@ -8,21 +8,21 @@ use Rattle.lasp_drive.proofs.driver.Driver.take_all.Goals as goal
 
 pub returns-in-Err-clause-done : goal.returns-in-Err-clause-done
 returns-in-Err-clause-done g c =
-    halts-as (each c.args.c (run_of g.N.Node.peer c.args.self.now) (flat_map (takes (length c.args.self.now.nodes.items) c.args.i) (range_with_len 0 (length c.args.self.now.nodes.items)))) _ c.in-Err.halt (sym c.loop-p.invariant.rest)
-    (all-halts c.args.c (length c.args.self.now.nodes.items) c.args.i c.loop-p.p (run_of g.N.Node.peer c.loop-p.self) c.in-Err.halt (omega (arith, c.loop-p-test.true, c.len-p-end.ensures))
-    (many-halts c.args.c (run_of g.N.Node.peer c.loop-p.self) (length c.loop-p.self.nodes.items) (length c.args.self.now.nodes.items) c.args.i c.loop-p.p c.in-Err.halt c.loop-p.invariant.ready.size c.in-Err.ensures.done))
+    halts-as (each c.args.c (run_of g.N.Node.peer g.N.Node.awaited c.args.self.now) (flat_map (takes (length c.args.self.now.nodes.items) c.args.i) (range_with_len 0 (length c.args.self.now.nodes.items)))) _ c.in-Err.halt (sym c.loop-p.invariant.rest)
+    (all-halts c.args.c (length c.args.self.now.nodes.items) c.args.i c.loop-p.p (run_of g.N.Node.peer g.N.Node.awaited c.loop-p.self) c.in-Err.halt (omega (arith, c.loop-p-test.true, c.len-p-end.ensures))
+    (many-halts c.args.c (run_of g.N.Node.peer g.N.Node.awaited c.loop-p.self) (length c.loop-p.self.nodes.items) (length c.args.self.now.nodes.items) c.args.i c.loop-p.p c.in-Err.halt c.loop-p.invariant.ready.size c.in-Err.ensures.done))
 
 pub loop-p-preserved : goal.loop-p-preserved
 loop-p-preserved g c =
     let within : c.loop-p.p < length c.args.self.now.nodes.items = omega (arith, c.loop-p-test.true, c.len-p-end.ensures) in
     record {
       within = omega (arith, within);
-      ready = subst (λ (many : ℕ). IsReady g.N.Node.decls g.N.Node.number g.N.Node.among g.N.Node.peer many c.args.c c.take_others.new.self) c.loop-p.invariant.ready.size c.in-Ok.ensures.ready;
+      ready = subst (λ (many : ℕ). IsReady g.N.Node.decls g.N.Node.number g.N.Node.among g.N.Node.peer g.N.Node.awaited many c.args.c c.take_others.new.self) c.loop-p.invariant.ready.size c.in-Ok.ensures.ready;
       stage = c.in-Ok.ensures.stage ∙ c.loop-p.invariant.stage;
-      rest = sym (all-next c.args.c (length c.args.self.now.nodes.items) c.args.i c.loop-p.p (run_of g.N.Node.peer c.loop-p.self) (run_of g.N.Node.peer c.take_others.new.self) within
-          (many-done c.args.c (run_of g.N.Node.peer c.loop-p.self) (run_of g.N.Node.peer c.take_others.new.self) (length c.loop-p.self.nodes.items) (length c.args.self.now.nodes.items) c.args.i c.loop-p.p c.loop-p.invariant.ready.size c.in-Ok.ensures.done)) ∙ c.loop-p.invariant.rest;
+      rest = sym (all-next c.args.c (length c.args.self.now.nodes.items) c.args.i c.loop-p.p (run_of g.N.Node.peer g.N.Node.awaited c.loop-p.self) (run_of g.N.Node.peer g.N.Node.awaited c.take_others.new.self) within
+          (many-done c.args.c (run_of g.N.Node.peer g.N.Node.awaited c.loop-p.self) (run_of g.N.Node.peer g.N.Node.awaited c.take_others.new.self) (length c.loop-p.self.nodes.items) (length c.args.self.now.nodes.items) c.args.i c.loop-p.p c.loop-p.invariant.ready.size c.in-Ok.ensures.done)) ∙ c.loop-p.invariant.rest;
     }
 
 pub returns-clause-done : goal.returns-clause-done
 returns-clause-done g c =
-    sym c.loop-p.invariant.rest ∙ all-end c.args.c (length c.args.self.now.nodes.items) c.args.i c.loop-p.p (run_of g.N.Node.peer c.loop-p.self) (omega (arith, c.loop-p-test.false, c.len-p-end.ensures))
+    sym c.loop-p.invariant.rest ∙ all-end c.args.c (length c.args.self.now.nodes.items) c.args.i c.loop-p.p (run_of g.N.Node.peer g.N.Node.awaited c.loop-p.self) (omega (arith, c.loop-p-test.false, c.len-p-end.ensures))

@@ -10,8 +10,8 @@ use Rattle.lasp_drive.proofs.driver.Driver.take_others.Goals.{then-q-p+in-Ok, el
 
 pub returns-in-Err-clause-done : goal.returns-in-Err-clause-done
 returns-in-Err-clause-done g c =
-    halts-as (each c.args.c (run_of g.N.Node.peer c.args.self.now) (takes (length c.args.self.now.nodes.items) c.args.i c.args.p)) _ c.in-Err.halt (sym c.loop-q.invariant.rest)
-    (take-halts c.args.c (length c.args.self.now.nodes.items) c.args.i c.args.p c.loop-q.q (run_of g.N.Node.peer c.loop-q.self) c.in-Err.halt (omega (arith, c.loop-q-test.true, c.len-q-end.ensures)) (other-node c.loop-q.q c.args.p c.if-q-p.true) c.in-Err.ensures.done)
+    halts-as (each c.args.c (run_of g.N.Node.peer g.N.Node.awaited c.args.self.now) (takes (length c.args.self.now.nodes.items) c.args.i c.args.p)) _ c.in-Err.halt (sym c.loop-q.invariant.rest)
+    (take-halts c.args.c (length c.args.self.now.nodes.items) c.args.i c.args.p c.loop-q.q (run_of g.N.Node.peer g.N.Node.awaited c.loop-q.self) c.in-Err.halt (omega (arith, c.loop-q-test.true, c.len-q-end.ensures)) (other-node c.loop-q.q c.args.p c.if-q-p.true) c.in-Err.ensures.done)
 
 pub loop-q-preserved : goal.loop-q-preserved
 loop-q-preserved g c =
@@ -20,26 +20,26 @@ loop-q-preserved g c =
     elim c.if-q-p.branch [
       | then-q-p+in-Ok w ↦ record {
         within = omega (arith, within);
-        ready = subst (λ (d : Driver g.row.N.Denot). IsReady g.N.Node.decls g.N.Node.number g.N.Node.among g.N.Node.peer many c.args.c d) (sym w.self-is)
-            (subst (λ (k : ℕ). IsReady g.N.Node.decls g.N.Node.number g.N.Node.among g.N.Node.peer k c.args.c w.take.new.self) c.loop-q.invariant.ready.size w.in-Ok.ensures.ready);
-        stage = ap (λ (d : Driver g.row.N.Denot). stage_of d) w.self-is ∙ w.in-Ok.ensures.stage ∙ c.loop-q.invariant.stage;
-        rest = ap (λ (d : Driver g.row.N.Denot). each c.args.c (run_of g.N.Node.peer d) (takes_of c.args.i c.args.p (drop (c.loop-q.q + 1) (range_with_len 0 many)))) w.self-is
-            ∙ sym (take-next c.args.c many c.args.i c.args.p c.loop-q.q (run_of g.N.Node.peer c.loop-q.self) (run_of g.N.Node.peer w.take.new.self) within (other-node c.loop-q.q c.args.p w.if-q-p.true) w.in-Ok.ensures.done)
+        ready = subst (λ (d : Driver g.row.N.Denot g.row.N-Read.Denot). IsReady g.N.Node.decls g.N.Node.number g.N.Node.among g.N.Node.peer g.N.Node.awaited many c.args.c d) (sym w.self-is)
+            (subst (λ (k : ℕ). IsReady g.N.Node.decls g.N.Node.number g.N.Node.among g.N.Node.peer g.N.Node.awaited k c.args.c w.take.new.self) c.loop-q.invariant.ready.size w.in-Ok.ensures.ready);
+        stage = ap (λ (d : Driver g.row.N.Denot g.row.N-Read.Denot). stage_of d) w.self-is ∙ w.in-Ok.ensures.stage ∙ c.loop-q.invariant.stage;
+        rest = ap (λ (d : Driver g.row.N.Denot g.row.N-Read.Denot). each c.args.c (run_of g.N.Node.peer g.N.Node.awaited d) (takes_of c.args.i c.args.p (drop (c.loop-q.q + 1) (range_with_len 0 many)))) w.self-is
+            ∙ sym (take-next c.args.c many c.args.i c.args.p c.loop-q.q (run_of g.N.Node.peer g.N.Node.awaited c.loop-q.self) (run_of g.N.Node.peer g.N.Node.awaited w.take.new.self) within (other-node c.loop-q.q c.args.p w.if-q-p.true) w.in-Ok.ensures.done)
             ∙ c.loop-q.invariant.rest;
       }
       | else-q-p w ↦ record {
         within = omega (arith, within);
-        ready = subst (λ (d : Driver g.row.N.Denot). IsReady g.N.Node.decls g.N.Node.number g.N.Node.among g.N.Node.peer many c.args.c d) (sym w.self-is) c.loop-q.invariant.ready;
-        stage = ap (λ (d : Driver g.row.N.Denot). stage_of d) w.self-is ∙ c.loop-q.invariant.stage;
-        rest = ap (λ (d : Driver g.row.N.Denot). each c.args.c (run_of g.N.Node.peer d) (takes_of c.args.i c.args.p (drop (c.loop-q.q + 1) (range_with_len 0 many)))) w.self-is
-            ∙ sym (take-own c.args.c many c.args.i c.args.p c.loop-q.q (run_of g.N.Node.peer c.loop-q.self) within (own-node c.loop-q.q c.args.p w.if-q-p.false))
+        ready = subst (λ (d : Driver g.row.N.Denot g.row.N-Read.Denot). IsReady g.N.Node.decls g.N.Node.number g.N.Node.among g.N.Node.peer g.N.Node.awaited many c.args.c d) (sym w.self-is) c.loop-q.invariant.ready;
+        stage = ap (λ (d : Driver g.row.N.Denot g.row.N-Read.Denot). stage_of d) w.self-is ∙ c.loop-q.invariant.stage;
+        rest = ap (λ (d : Driver g.row.N.Denot g.row.N-Read.Denot). each c.args.c (run_of g.N.Node.peer g.N.Node.awaited d) (takes_of c.args.i c.args.p (drop (c.loop-q.q + 1) (range_with_len 0 many)))) w.self-is
+            ∙ sym (take-own c.args.c many c.args.i c.args.p c.loop-q.q (run_of g.N.Node.peer g.N.Node.awaited c.loop-q.self) within (own-node c.loop-q.q c.args.p w.if-q-p.false))
             ∙ c.loop-q.invariant.rest;
       }
     ]
 
 pub returns-clause-done : goal.returns-clause-done
 returns-clause-done g c =
-    sym c.loop-q.invariant.rest ∙ take-end c.args.c (length c.args.self.now.nodes.items) c.args.i c.args.p c.loop-q.q (run_of g.N.Node.peer c.loop-q.self) (omega (arith, c.loop-q-test.false, c.len-q-end.ensures))
+    sym c.loop-q.invariant.rest ∙ take-end c.args.c (length c.args.self.now.nodes.items) c.args.i c.args.p c.loop-q.q (run_of g.N.Node.peer g.N.Node.awaited c.loop-q.self) (omega (arith, c.loop-q-test.false, c.len-q-end.ensures))
 
 pub overflow_add-i : goal.overflow_add-i
 overflow_add-i g c = omega (arith, c.loop-q-test.true, c.len-q-end.ensures, c.requires.messages, c.len.ensures.few, c.requires.ready.limit)

@@ -8,7 +8,7 @@ use Rattle.lasp_drive.proofs.driver.Driver.take_others.Given as goal
 abbrev pub invariant-loop-q : goal.invariant-loop-q
 invariant-loop-q g l = record {
   within : l.q ≤ length l.fn.self.nodes.items;
-  ready : IsReady g.N.Node.decls g.N.Node.number g.N.Node.among g.N.Node.peer (length l.fn.self.nodes.items) l.c l.self;
+  ready : IsReady g.N.Node.decls g.N.Node.number g.N.Node.among g.N.Node.peer g.N.Node.awaited (length l.fn.self.nodes.items) l.c l.self;
   stage : stage_of l.self ≡ stage_of l.fn.self;
-  rest : each l.c (run_of g.N.Node.peer l.self) (takes_of l.i l.p (drop l.q (range_with_len 0 (length l.fn.self.nodes.items)))) ≡ each l.c (run_of g.N.Node.peer l.fn.self) (takes (length l.fn.self.nodes.items) l.i l.p);
+  rest : each l.c (run_of g.N.Node.peer g.N.Node.awaited l.self) (takes_of l.i l.p (drop l.q (range_with_len 0 (length l.fn.self.nodes.items)))) ≡ each l.c (run_of g.N.Node.peer g.N.Node.awaited l.fn.self) (takes (length l.fn.self.nodes.items) l.i l.p);
 }

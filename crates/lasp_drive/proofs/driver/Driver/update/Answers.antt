@@ -46,7 +46,7 @@ update-requires-clause-room g c =
 pub returns-in-Ok-clause-done : goal.returns-in-Ok-clause-done
 returns-in-Ok-clause-done g c =
     let here = node-here g.N.Node.decls g.N.Node.number g.N.Node.among (arc_value c.args.self.now.graph) (length c.args.self.now.nodes.items) c.args.self.now.nodes.items c.args.p c.index_mut.result.now c.requires.ready.nodes c.requires.node c.index_mut.ensures.value in
-    update-done g.N.Node.number g.N.Node.peer (run_of g.N.Node.peer c.args.self.now) c.args.self.now.nodes.items c.args.c c.args.p c.args.x (op_of c.args.op.now) c.index_mut.result.now c.update.new.self
+    update-done g.N.Node.number g.N.Node.peer (run_of g.N.Node.peer g.N.Node.awaited c.args.self.now) c.args.self.now.nodes.items c.args.c c.args.p c.args.x (op_of c.args.op.now) c.index_mut.result.now c.update.new.self
     refl here.replica c.requires.node c.index_mut.ensures.value c.in-Ok.ensures.done.0 c.in-Ok.ensures.done.1
 
 pub returns-in-Ok-clause-ready : goal.returns-in-Ok-clause-ready
@@ -61,13 +61,13 @@ returns-in-Ok-clause-ready g c =
       size = length-set nodes c.args.p c.update.new.self;
       nodes = nodes-set g.N.Node.decls g.N.Node.number g.N.Node.among graph (length nodes) nodes c.args.p c.update.new.self c.requires.ready.nodes stays;
       limit = c.requires.ready.limit;
-      sound = sound-update (length nodes) c.args.c c.args.p c.args.x (stage_of c.args.self.now) (op_of c.args.op.now) (run_of g.N.Node.peer c.args.self.now) _ c.requires.ready.sound c.requires.number c.requires.node c.requires.var c.requires.op
-          (update-done g.N.Node.number g.N.Node.peer (run_of g.N.Node.peer c.args.self.now) nodes c.args.c c.args.p c.args.x (op_of c.args.op.now) c.index_mut.result.now c.update.new.self
+      sound = sound-update (length nodes) c.args.c c.args.p c.args.x (stage_of c.args.self.now) (op_of c.args.op.now) (run_of g.N.Node.peer g.N.Node.awaited c.args.self.now) _ c.requires.ready.sound c.requires.number c.requires.node c.requires.var c.requires.op
+          (update-done g.N.Node.number g.N.Node.peer (run_of g.N.Node.peer g.N.Node.awaited c.args.self.now) nodes c.args.c c.args.p c.args.x (op_of c.args.op.now) c.index_mut.result.now c.update.new.self
           refl here.replica c.requires.node c.index_mut.ensures.value c.in-Ok.ensures.done.0 c.in-Ok.ensures.done.1);
     }
 
 pub returns-in-Err-TooLarge-clause-done : goal.returns-in-Err-TooLarge-clause-done
 returns-in-Err-TooLarge-clause-done g c =
     let here = node-here g.N.Node.decls g.N.Node.number g.N.Node.among (arc_value c.args.self.now.graph) (length c.args.self.now.nodes.items) c.args.self.now.nodes.items c.args.p c.index_mut.result.now c.requires.ready.nodes c.requires.node c.index_mut.ensures.value in
-    update-stops g.N.Node.number g.N.Node.peer (run_of g.N.Node.peer c.args.self.now) c.args.self.now.nodes.items c.args.c c.args.p c.args.x (op_of c.args.op.now) c.index_mut.result.now here.replica c.requires.node c.index_mut.ensures.value
+    update-stops g.N.Node.number g.N.Node.peer (run_of g.N.Node.peer g.N.Node.awaited c.args.self.now) c.args.self.now.nodes.items c.args.c c.args.p c.args.x (op_of c.args.op.now) c.index_mut.result.now here.replica c.requires.node c.index_mut.ensures.value
     (stopped-large (updated (g.N.Node.number c.index_mut.result.now) c.args.x (op_of c.args.op.now) (g.N.Node.peer c.index_mut.result.now)) (g.N.Node.peer c.update.new.self) c.args.x c.in-Err-TooLarge.field-0 c.in-Err-TooLarge.field-0-0 c.in-Err-TooLarge.field-0-is c.in-Err-TooLarge.ensures.done)
