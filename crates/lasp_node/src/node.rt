@@ -1,0 +1,126 @@
+//! The node: a core, settled between the acts of a run.
+
+ghost use Rattle.std.specs.Prelude.{◌≡◌};
+ghost use Rattle.std.specs.Coded.{Coded-set, Π_prop, coded_ℕ};
+ghost use Rattle.model_journal.specs.Journal as journal;
+ghost use Rattle.model_replica.specs.Peer.{peer_of};
+ghost use Rattle.lasp_drive.specs.Node.{awaits};
+ghost use Rattle.lasp_core.specs.Entries.{read_of};
+ghost use Rattle.lasp_node.specs.Settling.{IsIdle};
+
+use super::settling::settle;
+use lasp_core::{Core, DeliverRefused, ReadNo, UpdateRefused};
+use lasp_drive::{Node, NodeStop};
+use lasp_fns::{Library, StepLib};
+use lasp_gossip::message_of;
+use lasp_graph::Graph;
+use lasp_state::{Op, State, Threshold};
+use lasp_wire::Message;
+use std::alloc::{AllocError, Global};
+use std::sync::Arc;
+
+/// A node that keeps a replica core and evaluates changed rows alone.
+#[derive(Drop)]
+pub struct CoreNode {
+    core: Core,
+    ghost idle: { IsIdle core.busy } by { Π_prop (λ y. Coded-set coded_ℕ _ _) },
+}
+
+impl Node for CoreNode {
+    type Read = ReadNo;
+
+    ghost decls = { λ n. journal.graph n.core.frame n.core.entries };
+
+    ghost number = { λ n. n.core.frame.replica };
+
+    ghost among = { λ n. n.core.frame.nodes };
+
+    ghost peer = { λ n. peer_of n.core.frame n.core.entries };
+
+    ghost shown = { λ n. journal.vals n.core.frame n.core.entries };
+
+    ghost awaited = { λ r. awaits (read_of r).var (read_of r).threshold };
+
+    fn new(
+        alloc: Global,
+        graph: &Arc<Graph>,
+        replica: u8,
+        nodes: u8,
+    ) -> Result<CoreNode, AllocError> {
+        let share = Arc::try_clone(graph)?;
+        Ok(CoreNode {
+            core: Core::new(alloc, share, replica, nodes)?,
+        })
+    }
+
+    fn update(&mut self, _alloc: Global, x: u8, op: &Op) -> Result<(), NodeStop> {
+        self.core.recall();
+        match self.core.update(0, x, op) {
+            Ok(_) => Ok(()),
+            Err(UpdateRefused::TooManyRows) => Err(NodeStop::TooLarge(x)),
+            Err(UpdateRefused::Memory) => Err(NodeStop::Memory),
+            Err(_) => unreachable!(),
+        }
+    }
+
+    fn source(&self, x: u8) -> &Arc<State> {
+        self.core.recall();
+        self.core.state(x)
+    }
+
+    fn message(&self, alloc: Global) -> Result<Message, AllocError> {
+        self.core.recall();
+        message_of(
+            alloc,
+            self.core.graph(),
+            self.core.states(),
+            self.core.counts().as_slice(),
+        )
+    }
+
+    fn deliver(&mut self, _alloc: Global, i: u32, m: &Arc<Message>) -> Result<(), NodeStop> {
+        self.core.recall();
+        match self.core.deliver(0, i, m) {
+            Ok(_) => Ok(()),
+            Err(DeliverRefused::TooManyRows(x)) => Err(NodeStop::TooLarge(x)),
+            Err(DeliverRefused::Memory) => Err(NodeStop::Memory),
+            Err(DeliverRefused::WrongGraph) => unreachable!(),
+        }
+    }
+
+    fn extend(&mut self, _alloc: Global, graph: &Arc<Graph>) -> Result<(), AllocError> {
+        self.core.recall();
+        self.core.extend(0, graph.at(graph.len() - 1))
+    }
+
+    fn settle(&mut self, alloc: Global, lib: &Library) -> Result<(), NodeStop> {
+        self.core.recall();
+        settle(alloc, &mut self.core, &mut StepLib::new(lib))
+    }
+
+    fn state(&self, x: u8) -> &State {
+        self.core.recall();
+        self.core.state(x)
+    }
+
+    fn open_read(
+        &mut self,
+        _alloc: Global,
+        x: u8,
+        threshold: Threshold,
+    ) -> Result<ReadNo, AllocError> {
+        self.core.open_read(x, threshold)
+    }
+
+    fn poll_read(&self, r: &ReadNo) -> Result<Option<Arc<State>>, AllocError> {
+        self.core.poll_read(r)
+    }
+
+    fn close_read(&mut self, r: &ReadNo) {
+        self.core.close_read(r);
+    }
+
+    fn counts(&self) -> &[u64] {
+        self.core.counts().as_slice()
+    }
+}
