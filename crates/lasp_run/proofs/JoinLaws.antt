@@ -103,12 +103,12 @@ pub file-given : {A : Type 0} (shown : A → Peer) (g : List Decl) (i : ℕ) (r 
 file-given shown g i r bytes m result e h = subst (λ (answer : Result Peer Refusal). Gives shown answer result) (sym (file-message g i r bytes m e)) h
 
 -- the file holds no message, or memory was wanting
-pub file-refused : {A : Type 0} (shown : A → Peer) (g : List Decl) (i : ℕ) (r : Option Peer) (bytes : List ℕ) (failure : Failure) → Gives (λ (m : Message). m) (refusing (state_refused i) (decoded bytes)) (Err failure)
+pub file-refused : {A M : Type 0} (shown : A → Peer) (told : M → Message) (g : List Decl) (i : ℕ) (r : Option Peer) (bytes : List ℕ) (failure : Failure) → Gives told (refusing (state_refused i) (decoded bytes)) (Err failure)
     → Gives shown (file_joined g i r bytes) (Err failure)
 unfolding file_joined
-file-refused shown g i r bytes (Refused e) h = chain-refused (refusing (state_refused i) (decoded bytes)) (λ m. message_joined g i (replica_before g r m) m) e h
-file-refused shown g i r bytes (ReadFault f) h = h
-file-refused shown g i r bytes Memory h = tt
+file-refused shown told g i r bytes (Refused e) h = chain-refused (refusing (state_refused i) (decoded bytes)) (λ m. message_joined g i (replica_before g r m) m) e h
+file-refused shown told g i r bytes (ReadFault f) h = h
+file-refused shown told g i r bytes Memory h = tt
 
 -- ---- the node
 

@@ -13,6 +13,7 @@ use Rattle.model_world.specs.World.{Peer, Run, Act, Point, act, each, mark_at}
 use Rattle.model_world.specs.declared.stop.Stop.{Stop}
 use Rattle.model_world.proofs.StopLaws.{point-same}
 use Rattle.model_held.proofs.SoundLaws.{sound-later}
+use Rattle.lasp_drive.specs.Node.{Awaited}
 use Rattle.lasp_drive.specs.Driver.{marked_of, run_of, stage_of, IsReady, Does}
 use Rattle.lasp_drive.specs.declared.driver.Mark.{Mark}
 use Rattle.lasp_drive.specs.declared.driver.Driver.{Driver}
@@ -23,25 +24,25 @@ use Rattle.lasp_script.specs.Command.{until_of}
 use Rattle.lasp_script.specs.declared.command.Until.{Until}
 use Rattle.lasp_script.specs.declared.command.Until.TheVariants as until
 
-module _ {N : Type 0} (decls : N → List Decl) (number among : N → ℕ) (peer : N → Peer) where
+module _ {N R : Type 0} (decls : N → List Decl) (number among : N → ℕ) (peer : N → Peer) (awaited : R → Awaited) where
   -- a driver before a command stands before a later one, too
-  pub ready-later : (many c : ℕ) (d : Driver N) → IsReady decls number among peer many c d → IsReady decls number among peer many (c + 1) d
+  pub ready-later : (many c : ℕ) (d : Driver N R) → IsReady decls number among peer awaited many c d → IsReady decls number among peer awaited many (c + 1) d
   ready-later many c d ready = record {
     some = ready.some;
     few = ready.few;
     size = ready.size;
     nodes = ready.nodes;
     limit = ready.limit;
-    sound = sound-later many c (stage_of d) (run_of peer d) ready.sound;
+    sound = sound-later many c (stage_of d) (run_of peer awaited d) ready.sound;
   }
 
-  pub ok-later : {A : Type 0} (result : Result A Halt) (many c : ℕ) (d : Driver N) → OnOk result (IsReady decls number among peer many c d) → OnOk result (IsReady decls number among peer many (c + 1) d)
+  pub ok-later : {A : Type 0} (result : Result A Halt) (many c : ℕ) (d : Driver N R) → OnOk result (IsReady decls number among peer awaited many c d) → OnOk result (IsReady decls number among peer awaited many (c + 1) d)
   ok-later (Ok done) many c d h = ready-later many c d h
   ok-later (Err why) many c d h = tt
 
   -- as many nodes as it has
-  pub ready-here : (many c : ℕ) (d : Driver N) → IsReady decls number among peer many c d → IsReady decls number among peer (length d.nodes.items) c d
-  ready-here many c d ready = subst (λ (k : ℕ). IsReady decls number among peer k c d) (sym ready.size) ready
+  pub ready-here : (many c : ℕ) (d : Driver N R) → IsReady decls number among peer awaited many c d → IsReady decls number among peer awaited (length d.nodes.items) c d
+  ready-here many c d ready = subst (λ (k : ℕ). IsReady decls number among peer awaited k c d) (sym ready.size) ready
 
 -- a command of one act
 pub does-one : {A : Type 0} (c : ℕ) (run : Run) (a : Act) (result : Result A Halt) (new : Run) → Does (act c run a) result new → Does (each c run (a ∷ [])) result new
@@ -78,24 +79,15 @@ until-within nodes x s (until.Removed vs) many same may = tt
 
 -- ---- two acts
 
-module _ {N : Type 0} (decls : N → List Decl) (number among : N → ℕ) (peer : N → Peer) where
-  pub ok-here : {A : Type 0} (result : Result A Halt) (many k c : ℕ) (d : Driver N) → k ≡ many → OnOk result (IsReady decls number among peer k c d) → OnOk result (IsReady decls number among peer many (c + 1) d)
-  ok-here result many k c d same h = ok-later decls number among peer result many c d (subst (λ (n : ℕ). OnOk result (IsReady decls number among peer n c d)) same h)
+module _ {N R : Type 0} (decls : N → List Decl) (number among : N → ℕ) (peer : N → Peer) (awaited : R → Awaited) where
+  pub ok-here : {A : Type 0} (result : Result A Halt) (many k c : ℕ) (d : Driver N R) → k ≡ many → OnOk result (IsReady decls number among peer awaited k c d) → OnOk result (IsReady decls number among peer awaited many (c + 1) d)
+  ok-here result many k c d same h = ok-later decls number among peer awaited result many c d (subst (λ (n : ℕ). OnOk result (IsReady decls number among peer awaited n c d)) same h)
 
 pub ok-stage : {A : Type 0} (result : Result A Halt) (new middle old : Stage) → middle ≡ old → OnOk result (new ≡ middle) → OnOk result (new ≡ old)
 ok-stage result new middle old same h = subst (λ (s : Stage). OnOk result (new ≡ s)) same h
 
 pub ok-declared : {A : Type 0} (result : Result A Halt) (many k : ℕ) (new middle old : Stage) (d : Decl) → middle ≡ old → OnOk result (new ≡ stage_after k middle (plain.Declare d)) → OnOk result (new ≡ stage_after many old (plain.Declare d))
 ok-declared result many k new middle old d same h = subst (λ (s : Stage). OnOk result (new ≡ stage_after many s (plain.Declare d))) same h
-
-pub stage-now : {A : Type 0} (result : Result A Halt) (new old : Stage) → new ≡ old → OnOk result (new ≡ old)
-stage-now (Ok done) new old h = h
-stage-now (Err why) new old h = tt
-
-module _ {N : Type 0} (decls : N → List Decl) (number among : N → ℕ) (peer : N → Peer) where
-  pub ready-now : {A : Type 0} (result : Result A Halt) (many c : ℕ) (d : Driver N) → IsReady decls number among peer many c d → OnOk result (IsReady decls number among peer many (c + 1) d)
-  ready-now (Ok done) many c d ready = ready-later decls number among peer many c d ready
-  ready-now (Err why) many c d ready = tt
 
 -- a point leaves the marks
 pub marks-stay : (c : ℕ) (run next : Run) → act c run Point ≡ Ok next → next.marks ≡ run.marks

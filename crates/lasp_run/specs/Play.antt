@@ -4,6 +4,7 @@ use Rattle.model_graph.specs.Graph.{Decl}
 use Rattle.model_world.specs.Command as plain
 use Rattle.model_world.specs.Lawful.{stage_after, MayBeDone}
 use Rattle.model_world.specs.World.{Peer, step}
+use Rattle.lasp_drive.specs.Node.{Awaited}
 use Rattle.lasp_drive.specs.Driver.{run_of, stage_of, IsReady, Does}
 use Rattle.lasp_drive.specs.declared.driver.Driver.{Driver}
 use Rattle.lasp_drive.specs.declared.halt.Halt.{Halt}
@@ -11,16 +12,16 @@ use Rattle.lasp_script.specs.declared.command.Until.{Until}
 use Rattle.lasp_script.specs.declared.command.Until.TheVariants.{AtLeast, Above, Count, Added, Removed}
 
 -- the driver stands before command number c, which may be done there
-pub record MayStep {N : Type 0} (decls : N → List Decl) (number among : N → ℕ) (peer : N → Peer) (c : ℕ) (d : Driver N) (k : plain.Command) : Type 0 where
-  pub ready : IsReady decls number among peer (length d.nodes.items) c d
+pub record MayStep {N R : Type 0} (decls : N → List Decl) (number among : N → ℕ) (peer : N → Peer) (awaited : R → Awaited) (c : ℕ) (d : Driver N R) (k : plain.Command) : Type 0 where
+  pub ready : IsReady decls number among peer awaited (length d.nodes.items) c d
   pub few : c ≤ 100000
   pub lawful : MayBeDone (length d.nodes.items) (stage_of d) k
 
 -- the command was done as the world does it, and the driver stands before the next one; or it stopped where the world stops; or memory was wanting
-pub record Steps {N A : Type 0} (decls : N → List Decl) (number among : N → ℕ) (peer : N → Peer) (c : ℕ) (old : Driver N) (k : plain.Command) (result : Result A Halt) (new : Driver N) : Type 0 where
-  pub ready : OnOk result (IsReady decls number among peer (length old.nodes.items) (c + 1) new)
+pub record Steps {N R A : Type 0} (decls : N → List Decl) (number among : N → ℕ) (peer : N → Peer) (awaited : R → Awaited) (c : ℕ) (old : Driver N R) (k : plain.Command) (result : Result A Halt) (new : Driver N R) : Type 0 where
+  pub ready : OnOk result (IsReady decls number among peer awaited (length old.nodes.items) (c + 1) new)
   pub stage : OnOk result (stage_of new ≡ stage_after (length old.nodes.items) (stage_of old) k)
-  pub done : Does (step c (run_of peer old) k) result (run_of peer new)
+  pub done : Does (step c (run_of peer awaited old) k) result (run_of peer awaited new)
 
 -- the mark of a threshold is one of so many
 abbrev pub IsUntilWithin : ℕ → Until → Type 0

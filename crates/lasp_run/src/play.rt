@@ -40,10 +40,10 @@ fn do_command<N: Node>(
     c: u32,
     command: &Command,
 ) -> Result<(), Halt>
-    requires may { MayStep N.decls N.number N.among N.peer c driver.old (command_of command.now) }
+    requires may { MayStep N.decls N.number N.among N.peer N.awaited c driver.old (command_of command.now) }
     requires graph { IsGraph (grown (arc_value driver.old.graph) (command_of command.now ∷ [])) }
     requires fits { FitsAll (library_of lib.now) (arc_value driver.old.graph) }
-    ensures steps { Steps N.decls N.number N.among N.peer c driver.old (command_of command.now) result driver.new }
+    ensures steps { Steps N.decls N.number N.among N.peer N.awaited c driver.old (command_of command.now) result driver.new }
 {
     match command {
         Command::Add(p, x, v) => add(driver, alloc, c, *p, *x, v),
@@ -71,16 +71,16 @@ fn play<N: Node>(
     lib: &Library,
     script: &Script,
 ) -> Result<(), Halt>
-    requires ready { IsReady N.decls N.number N.among N.peer (length driver.old.nodes.items) 1 driver.old }
+    requires ready { IsReady N.decls N.number N.among N.peer N.awaited (length driver.old.nodes.items) 1 driver.old }
     requires stage { stage_of driver.old ≡ opening_stage (arc_value driver.old.graph) }
     requires lawful { AreLawful (length driver.old.nodes.items) (opening_stage (arc_value driver.old.graph)) script.now.commands }
     requires few { length script.now.commands < 100000 }
     requires graph { IsGraph (grown (arc_value driver.old.graph) script.now.commands) }
     requires fits { FitsAll (library_of lib.now) (grown (arc_value driver.old.graph) script.now.commands) }
-    ensures ready { OnOk result ((c : ℕ) × (c ≤ 100000) × IsReady N.decls N.number N.among N.peer (length driver.new.nodes.items) c driver.new) }
+    ensures ready { OnOk result ((c : ℕ) × (c ≤ 100000) × IsReady N.decls N.number N.among N.peer N.awaited (length driver.new.nodes.items) c driver.new) }
     ensures size { OnOk result (length driver.new.nodes.items ≡ length driver.old.nodes.items) }
     ensures settled { OnOk result (AreSettled N.decls N.peer N.shown driver.new.nodes.items) }
-    ensures done { Does (play 1 (run_of N.peer driver.old) script.now.commands) result (run_of N.peer driver.new) }
+    ensures done { Does (play 1 (run_of N.peer N.awaited driver.old) script.now.commands) result (run_of N.peer N.awaited driver.new) }
 {
     let mut c: u32 = 1;
     for i in 0..script.len() {

@@ -27,12 +27,15 @@ fn place_of(number: u8) -> usize
 }
 
 /// The message that the bytes of a file are.
-fn read_message(alloc: Global, number: u8, bytes: &[u8]) -> Result<Message, Failure>
-    ensures exact { Gives (λ m. m) (refusing (state_refused number) (decoded bytes.now)) result }
-    ensures lawful { IfOk result (λ m. IsMessage m) }
+fn read_message(alloc: Global, number: u8, bytes: &[u8]) -> Result<Arc<Message>, Failure>
+    ensures exact { Gives (λ m. arc_value m) (refusing (state_refused number) (decoded bytes.now)) result }
+    ensures lawful { IfOk result (λ m. IsMessage (arc_value m)) }
 {
     match decode(alloc, bytes) {
-        Ok(message) => Ok(message),
+        Ok(message) => match Arc::new(alloc, message) {
+            Ok(shared) => Ok(shared),
+            Err(_) => Err(Failure::Memory),
+        },
         Err(WireRefused::At { place, why }) => Err(Failure::Refused(Refusal::State(
             place_of(number),
             place,
@@ -67,17 +70,17 @@ fn join<N: Node>(
     graph: &Graph,
     number: u8,
     mut node: N,
-    message: &Message,
+    message: &Arc<Message>,
 ) -> Result<N, Failure>
     requires node { IsReplica N.decls N.number N.among N.peer graph.now node }
-    requires message { IsMessage message.now }
-    ensures exact { Gives N.peer (message_joined graph.now number (N.peer node) message.now) result }
+    requires message { IsMessage (arc_value message.now) }
+    ensures exact { Gives N.peer (message_joined graph.now number (N.peer node) (arc_value message.now)) result }
     ensures node { IfOk result (IsReplica N.decls N.number N.among N.peer graph.now) }
 {
     if !may_take(graph, &node, message) {
         return Err(Failure::Refused(Refusal::State(place_of(number), 0, StateWhy::WrongGraph)));
     }
-    match node.deliver(alloc, message) {
+    match node.deliver(alloc, u32::from(number), message) {
         Ok(()) => Ok(node),
         Err(NodeStop::TooLarge(var)) => Err(too_large(graph, number, var)),
         Err(NodeStop::Memory) => Err(Failure::Memory),

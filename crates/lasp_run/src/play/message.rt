@@ -9,16 +9,16 @@ use std::alloc::Global;
 
 /// Marks what a source holds.
 pub fn mark<N: Node>(driver: &mut Driver<N>, c: u32, p: u8, x: u8) -> Result<(), Halt>
-    requires may { MayStep N.decls N.number N.among N.peer c driver.old (plain.Mark p x) }
-    ensures steps { Steps N.decls N.number N.among N.peer c driver.old (plain.Mark p x) result driver.new }
+    requires may { MayStep N.decls N.number N.among N.peer N.awaited c driver.old (plain.Mark p x) }
+    ensures steps { Steps N.decls N.number N.among N.peer N.awaited c driver.old (plain.Mark p x) result driver.new }
 {
     driver.keep(c, p, x)
 }
 
 /// A node sends.
 pub fn send<N: Node>(driver: &mut Driver<N>, alloc: Global, c: u32, p: u8) -> Result<(), Halt>
-    requires may { MayStep N.decls N.number N.among N.peer c driver.old (plain.Send p) }
-    ensures steps { Steps N.decls N.number N.among N.peer c driver.old (plain.Send p) result driver.new }
+    requires may { MayStep N.decls N.number N.among N.peer N.awaited c driver.old (plain.Send p) }
+    ensures steps { Steps N.decls N.number N.among N.peer N.awaited c driver.old (plain.Send p) result driver.new }
 {
     driver.post(alloc, c, p)
 }
@@ -31,16 +31,16 @@ pub fn deliver<N: Node>(
     p: u8,
     i: u32,
 ) -> Result<(), Halt>
-    requires may { MayStep N.decls N.number N.among N.peer c driver.old (plain.Deliver p i) }
-    ensures steps { Steps N.decls N.number N.among N.peer c driver.old (plain.Deliver p i) result driver.new }
+    requires may { MayStep N.decls N.number N.among N.peer N.awaited c driver.old (plain.Deliver p i) }
+    ensures steps { Steps N.decls N.number N.among N.peer N.awaited c driver.old (plain.Deliver p i) result driver.new }
 {
     driver.take(alloc, c, p, i)
 }
 
 /// Every node sends, and then each takes the messages of all others.
 pub fn sync<N: Node>(driver: &mut Driver<N>, alloc: Global, c: u32) -> Result<(), Halt>
-    requires may { MayStep N.decls N.number N.among N.peer c driver.old (plain.Sync) }
-    ensures steps { Steps N.decls N.number N.among N.peer c driver.old (plain.Sync) result driver.new }
+    requires may { MayStep N.decls N.number N.among N.peer N.awaited c driver.old (plain.Sync) }
+    ensures steps { Steps N.decls N.number N.among N.peer N.awaited c driver.old (plain.Sync) result driver.new }
 {
     driver.sync(alloc, c)
 }

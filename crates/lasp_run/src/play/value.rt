@@ -20,8 +20,8 @@ pub fn add<N: Node>(
     x: u8,
     value: &Value,
 ) -> Result<(), Halt>
-    requires may { MayStep N.decls N.number N.among N.peer c driver.old (plain.Add p x (val_of value.now)) }
-    ensures steps { Steps N.decls N.number N.among N.peer c driver.old (plain.Add p x (val_of value.now)) result driver.new }
+    requires may { MayStep N.decls N.number N.among N.peer N.awaited c driver.old (plain.Add p x (val_of value.now)) }
+    ensures steps { Steps N.decls N.number N.among N.peer N.awaited c driver.old (plain.Add p x (val_of value.now)) result driver.new }
 {
     recall_value(value);
     let op = Op::Add(value.try_clone(alloc)?);
@@ -37,8 +37,8 @@ pub fn remove<N: Node>(
     x: u8,
     value: &Value,
 ) -> Result<(), Halt>
-    requires may { MayStep N.decls N.number N.among N.peer c driver.old (plain.Remove p x (val_of value.now)) }
-    ensures steps { Steps N.decls N.number N.among N.peer c driver.old (plain.Remove p x (val_of value.now)) result driver.new }
+    requires may { MayStep N.decls N.number N.among N.peer N.awaited c driver.old (plain.Remove p x (val_of value.now)) }
+    ensures steps { Steps N.decls N.number N.among N.peer N.awaited c driver.old (plain.Remove p x (val_of value.now)) result driver.new }
 {
     recall_value(value);
     let op = Op::Remove(value.try_clone(alloc)?);
@@ -54,8 +54,8 @@ pub fn insert<N: Node>(
     x: u8,
     value: &Value,
 ) -> Result<(), Halt>
-    requires may { MayStep N.decls N.number N.among N.peer c driver.old (plain.Insert p x (val_of value.now)) }
-    ensures steps { Steps N.decls N.number N.among N.peer c driver.old (plain.Insert p x (val_of value.now)) result driver.new }
+    requires may { MayStep N.decls N.number N.among N.peer N.awaited c driver.old (plain.Insert p x (val_of value.now)) }
+    ensures steps { Steps N.decls N.number N.among N.peer N.awaited c driver.old (plain.Insert p x (val_of value.now)) result driver.new }
 {
     recall_value(value);
     let op = Op::Insert(value.try_clone(alloc)?);

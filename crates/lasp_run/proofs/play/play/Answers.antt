@@ -36,8 +36,8 @@ do_command-requires-clause-fits g c = fits-so-far (library_of c.args.lib.now) (a
 
 pub returns-in-Err-clause-done : goal.returns-in-Err-clause-done
 returns-in-Err-clause-done g c =
-    halts-as (play 1 (run_of g.N.Node.peer c.args.driver.now) c.args.script.now.commands) _ c.in-Err.halt (sym c.loop-i.invariant.rest)
-    (play-halts c.loop-i.c (run_of g.N.Node.peer c.loop-i.driver) c.args.script.now.commands c.loop-i.i (command_of c.at.result.now) c.in-Err.halt c.at.ensures c.in-Err.ensures.steps.done)
+    halts-as (play 1 (run_of g.N.Node.peer g.N.Node.awaited c.args.driver.now) c.args.script.now.commands) _ c.in-Err.halt (sym c.loop-i.invariant.rest)
+    (play-halts c.loop-i.c (run_of g.N.Node.peer g.N.Node.awaited c.loop-i.driver) c.args.script.now.commands c.loop-i.i (command_of c.at.result.now) c.in-Err.halt c.at.ensures c.in-Err.ensures.steps.done)
 
 pub loop-i-preserved : goal.loop-i-preserved
 loop-i-preserved g c =
@@ -54,12 +54,12 @@ loop-i-preserved g c =
       number = omega (arith, c.loop-i.invariant.number);
       within = omega (arith, c.loop-i-test.true, c.len-i-end.ensures);
       size = size ∙ c.loop-i.invariant.size;
-      ready = ready-here g.N.Node.decls g.N.Node.number g.N.Node.among g.N.Node.peer (length old.nodes.items) (c.loop-i.c + 1) new steps.ready;
+      ready = ready-here g.N.Node.decls g.N.Node.number g.N.Node.among g.N.Node.peer g.N.Node.awaited (length old.nodes.items) (c.loop-i.c + 1) new steps.ready;
       lawful = subst (λ (n : ℕ). AreLawful n (stage_of new) (drop (c.loop-i.i + 1) ks)) (sym size)
           (subst (λ (s : Stage). AreLawful (length old.nodes.items) s (drop (c.loop-i.i + 1) ks)) (sym steps.stage) lawful.1);
       graph = subst (λ (h : List Decl). IsGraph (grown h (drop (c.loop-i.i + 1) ks))) (sym graph) (subst (λ (rest : List plain.Command). IsGraph (grown (arc_value old.graph) rest)) at c.loop-i.invariant.graph);
       fits = subst (λ (h : List Decl). FitsAll (library_of c.args.lib.now) (grown h (drop (c.loop-i.i + 1) ks))) (sym graph) (subst (λ (rest : List plain.Command). FitsAll (library_of c.args.lib.now) (grown (arc_value old.graph) rest)) at c.loop-i.invariant.fits);
-      rest = sym (play-step c.loop-i.c (run_of g.N.Node.peer old) (run_of g.N.Node.peer new) ks c.loop-i.i k c.at.ensures steps.done) ∙ c.loop-i.invariant.rest;
+      rest = sym (play-step c.loop-i.c (run_of g.N.Node.peer g.N.Node.awaited old) (run_of g.N.Node.peer g.N.Node.awaited new) ks c.loop-i.i k c.at.ensures steps.done) ∙ c.loop-i.invariant.rest;
     }
 
 pub point-requires-clause-fits : goal.point-requires-clause-fits
@@ -67,5 +67,5 @@ point-requires-clause-fits g c = fits-so-far (library_of c.args.lib.now) (arc_va
 
 pub returns-clause-done : goal.returns-clause-done
 returns-clause-done g c =
-    does-as (play 1 (run_of g.N.Node.peer c.args.driver.now) c.args.script.now.commands) (act c.loop-i.c (run_of g.N.Node.peer c.loop-i.driver) Point) c.point.result (run_of g.N.Node.peer c.point.new.self)
-    (sym c.loop-i.invariant.rest ∙ play-end c.loop-i.c (run_of g.N.Node.peer c.loop-i.driver) c.args.script.now.commands c.loop-i.i (omega (arith, c.loop-i-test.false, c.len-i-end.ensures))) c.point.ensures.done
+    does-as (play 1 (run_of g.N.Node.peer g.N.Node.awaited c.args.driver.now) c.args.script.now.commands) (act c.loop-i.c (run_of g.N.Node.peer g.N.Node.awaited c.loop-i.driver) Point) c.point.result (run_of g.N.Node.peer g.N.Node.awaited c.point.new.self)
+    (sym c.loop-i.invariant.rest ∙ play-end c.loop-i.c (run_of g.N.Node.peer g.N.Node.awaited c.loop-i.driver) c.args.script.now.commands c.loop-i.i (omega (arith, c.loop-i-test.false, c.len-i-end.ensures))) c.point.ensures.done
