@@ -6,3 +6,4 @@ pub mod CountLaws
 pub mod ReadLaws
 pub mod SpanLaws
 pub mod ShownLaws
+pub mod HintLaws

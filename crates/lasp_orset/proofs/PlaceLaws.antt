@@ -124,7 +124,7 @@ mark-place k (q ∷ s) (suc i) d up h below above =
     row_mark-other k q.0 q.1 Greater (head-below k q s i (and-left (below_all key_cmp q.0 s) (is_sorted key_cmp s) up) (below (omega arith))) refl in
     omega (arith, first, mark-place k s i d (and-right (below_all key_cmp q.0 s) (is_sorted key_cmp s) up) (omega arith) (λ _. below (omega arith)) above)
 
-covered-by : (e dead asked : Bool) → (e && (dead || not asked)) ≡ nat_le (level asked) (if e then level dead else 0)
+pub covered-by : (e dead asked : Bool) → (e && (dead || not asked)) ≡ nat_le (level asked) (if e then level dead else 0)
 covered-by false dead true = refl
 covered-by false dead false = refl
 covered-by true true true = refl

@@ -9,7 +9,7 @@ use Rattle.model_values.specs.Value.{Val}
 use Rattle.model_values.specs.Size.{HasSmallInts}
 use Rattle.model_values.specs.Token.{Tok}
 use Rattle.model_values.specs.Row.{Key, Row, key_cmp, key_total, key_exact}
-use Rattle.model_sets.specs.Rows.{IsAscending, put, join, IsAtMost, HasRow, level, row_mark, mark}
+use Rattle.model_sets.specs.Rows.{IsAscending, put, join, IsAtMost, level, row_mark, mark}
 use Rattle.model_sets.proofs.RowLaws.{and-left, and-right, and-both, is-Equal, ascending-put, mark-put, mark-append, join-append, join-right, join-at_most-right}
 use Rattle.lasp_orset.specs.Pieces.{joined, AreFilled, HaveSmallInts, AreSound, is_covered}
 

@@ -4,11 +4,11 @@ ghost use Rattle.std.specs.Prelude.{◌≡◌, length};
 ghost use Rattle.model_sets.specs.Rows.{join};
 ghost use Rattle.model_sets.specs.Loops.{new_rows};
 
-use super::search::covers;
+use super::hint::{Hint, covers_near};
 use super::set::OrSet;
 
 impl OrSet {
-    /// The number of rows that the join with another set has, dead ones counted. It costs a search for each row of the smaller set, and takes no memory.
+    /// The number of rows that the join with another set has, dead ones counted. Each row of the smaller set costs a comparison where the larger one has it right behind the row before, else a search. It takes no memory.
     pub fn joined_rows(&self, other: &OrSet) -> u64
         ensures { result ≡ length (join self.now other.now) }
     {
@@ -28,9 +28,10 @@ fn count_new(set: &OrSet, other: &OrSet) -> u64
 {
     let mut count = 0u64;
     let pieces = set.pieces();
+    let mut hint = Hint::new();
     let mut rows = other.iter();
     while let Some(row) = rows.next() {
-        if !covers(pieces, row, false) {
+        if !covers_near(pieces, &mut hint, row, false) {
             count += 1;
         }
     }

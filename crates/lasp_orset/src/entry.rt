@@ -90,6 +90,13 @@ impl Entry {
         self.dead
     }
 
+    /// Whether the row is dead, where a dead one is asked for.
+    pub(crate) fn is_dead_if(&self, asked: bool) -> bool
+        ensures { result ≡ (self.now.1 || not asked) }
+    {
+        self.dead || !asked
+    }
+
     /// Makes the row dead where the other one of its key is.
     pub(crate) fn unite(&mut self, dead: bool)
         ensures { self.new ≡ (self.old.0, dead || self.old.1) }

@@ -5,6 +5,7 @@
 mod changes;
 mod counts;
 mod entry;
+mod hint;
 mod insertion;
 mod lattice;
 mod order;

@@ -6,12 +6,12 @@ ghost use Rattle.model_sets.specs.Rows.{IsAscending, IsAtMost};
 ghost use Rattle.lasp_orset.specs.Pieces.{AreFilled, joined, is_covered};
 
 use super::entry::Entry;
+use super::hint::{Hint, covers_near};
 use super::piece::Piece;
-use super::search::covers;
 use super::set::OrSet;
 
 impl OrSet {
-    /// The order: each row of this set is in the other one, and is dead there if it is dead here. It costs a search for each row, and nothing where this set has more rows.
+    /// The order: each row of this set is in the other one, and is dead there if it is dead here. Each row costs a comparison where the other set has it right behind the row before, else a search; it costs nothing where this set has more rows.
     pub fn le(&self, other: &OrSet) -> bool
         ensures { IsTrue result ↔ IsAtMost self.now other.now }
     {
@@ -35,21 +35,22 @@ fn covers_pieces(pieces: &[Piece], others: &[Piece]) -> bool
     requires filled { AreFilled pieces.now }
     ensures { result ≡ list_all (is_covered (joined pieces.now)) (joined others.now) }
 {
+    let mut hint = Hint::new();
     for other in others {
-        if !covers_rows(pieces, other.rows()) {
+        if !covers_rows(pieces, &mut hint, other.rows()) {
             return false;
         }
     }
     true
 }
 
-fn covers_rows(pieces: &[Piece], rows: &[Entry]) -> bool
+fn covers_rows(pieces: &[Piece], hint: &mut Hint, rows: &[Entry]) -> bool
     requires ascends { IsAscending (joined pieces.now) }
     requires filled { AreFilled pieces.now }
     ensures { result ≡ list_all (is_covered (joined pieces.now)) rows.now }
 {
     for row in rows {
-        if !covers(pieces, row, row.is_dead()) {
+        if !covers_near(pieces, hint, row, row.is_dead()) {
             return false;
         }
     }
