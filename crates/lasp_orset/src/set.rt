@@ -5,10 +5,10 @@ ghost use Rattle.model_sets.specs.Rows.{IsAscending, put, join};
 ghost use Rattle.lasp_orset.specs.Pieces.{AreFilled, HaveSmallInts, joined};
 
 use super::entry::Entry;
+use super::hint::{Hint, covers_near};
 use super::insertion::{push_entry, put_entry};
 use super::order::is_at_most;
 use super::piece::Piece;
-use super::search::covers;
 use std::alloc::{AllocError, Global};
 use std::marker::Model;
 
@@ -83,7 +83,7 @@ impl OrSet {
         let _count = self.count;
     }
 
-    /// Joins another set in, and tells whether this made a difference. It costs a search for each of the other set's rows; where they bring nothing new it takes no memory.
+    /// Joins another set in, and tells whether this made a difference. Each of the other set's rows costs a comparison where this one has it right behind the row before, else a search; where they bring nothing new it takes no memory.
     pub fn join_in(&mut self, other: &OrSet) -> Result<bool, AllocError>
         ensures ok { OnOk result (self.new ≡ join self.old other.now) }
         ensures grew { IfOk result (λ grew. IsTrue grew ↔ (self.new ≢ self.old)) }
@@ -158,7 +158,7 @@ impl OrSet {
     {
         if let [piece] = other.pieces() {
             if let [entry] = piece.rows() {
-                return self.add_one(entry);
+                return self.add_one(&mut Hint::new(), entry);
             }
         }
         let mut all = self.try_clone()?;
@@ -168,12 +168,12 @@ impl OrSet {
     }
 
     /// Where the row is known already nothing is copied.
-    fn add_one(&mut self, entry: &Entry) -> Result<(), AllocError>
+    fn add_one(&mut self, hint: &mut Hint, entry: &Entry) -> Result<(), AllocError>
         ensures ok { OnOk result (self.new ≡ join self.old (entry.now ∷ [])) }
         ensures err { OnErr result (self.new ≡ self.old) }
     {
         self.ascends();
-        if covers(self.pieces(), entry, entry.is_dead()) {
+        if covers_near(self.pieces(), hint, entry, entry.is_dead()) {
             return Ok(());
         }
         self.add(entry.try_clone()?)
@@ -183,18 +183,19 @@ impl OrSet {
         ensures { OnOk result (self.new ≡ join self.old (joined pieces.now)) }
     {
         self.ascends();
+        let mut hint = Hint::new();
         for piece in pieces {
-            self.add_rows(piece.rows())?;
+            self.add_rows(&mut hint, piece.rows())?;
         }
         Ok(())
     }
 
-    fn add_rows(&mut self, rows: &[Entry]) -> Result<(), AllocError>
+    fn add_rows(&mut self, hint: &mut Hint, rows: &[Entry]) -> Result<(), AllocError>
         ensures { OnOk result (self.new ≡ join self.old rows.now) }
     {
         self.ascends();
         for row in rows {
-            self.add_one(row)?;
+            self.add_one(hint, row)?;
         }
         Ok(())
     }

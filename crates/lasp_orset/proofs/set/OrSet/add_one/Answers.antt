@@ -6,9 +6,9 @@ use Rattle.lasp_orset.proofs.PieceLaws.{on_ok}
 use Rattle.lasp_orset.proofs.SetLaws.{join-covered}
 use Rattle.lasp_orset.proofs.set.OrSet.add_one.Goals as goal
 
-pub returns-then-covers-clause-ok : goal.returns-then-covers-clause-ok
-returns-then-covers-clause-ok c =
-    join-covered c.args.self.now c.args.entry.now (joined c.pieces.result.now) c.is_dead.result c.covers.result c.ascends.ensures c.is_dead.ensures c.covers.ensures c.pieces.ensures.rows c.if-covers.true
+pub returns-then-covers_near-clause-ok : goal.returns-then-covers_near-clause-ok
+returns-then-covers_near-clause-ok c =
+    join-covered c.args.self.now c.args.entry.now (joined c.pieces.result.now) c.is_dead.result c.covers_near.result c.ascends.ensures c.is_dead.ensures c.covers_near.ensures c.pieces.ensures.rows c.if-covers_near.true
 
 pub returns-clause-ok : goal.returns-clause-ok
 returns-clause-ok c =
