@@ -23,9 +23,9 @@ use crate::ending::end;
 use crate::form::read_form;
 use crate::merge::run_merge;
 use crate::run::{run_export, run_plain};
-use lasp_drive::PlainNode;
 use lasp_edge::{Files, Sink};
 use lasp_fns::Library;
+use lasp_node::CoreNode;
 use model_known::reports_can_be_told_from_what_is_known;
 use model_program::{Failure, Form, Refusal};
 use model_scripts::accepted_scripts_are_lawful;
@@ -44,10 +44,10 @@ fn answer<F: Files>(
     ensures follows { Follows (words_of words.now) (view (F.content files.old) (F.faults files.old) (F.faults files.new)) (plan (library_of lib.now) (words_of words.now)) (answered result) }
 {
     match read_form(words) {
-        Form::Plain => run_plain::<PlainNode, F>(alloc, words, files, lib),
+        Form::Plain => run_plain::<CoreNode, F>(alloc, words, files, lib),
         Form::Check => run_check(alloc, words, files, lib),
-        Form::Export(node) => run_export::<PlainNode, F>(alloc, words, node, files, lib),
-        Form::Merge => run_merge::<PlainNode, F>(alloc, words, files, lib),
+        Form::Export(node) => run_export::<CoreNode, F>(alloc, words, node, files, lib),
+        Form::Merge => run_merge::<CoreNode, F>(alloc, words, files, lib),
         Form::Wrong => Err(Failure::Refused(Refusal::Usage)),
     }
 }
