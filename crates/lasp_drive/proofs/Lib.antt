@@ -2,4 +2,3 @@ pub mod NodeLaws
 pub mod DriverLaws
 pub mod SyncLaws
 pub mod PointLaws
-pub mod PlainLaws

@@ -1,3 +1,2 @@
 pub mod Node
-pub mod Plain
 pub mod Driver

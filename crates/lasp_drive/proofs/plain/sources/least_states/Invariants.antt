@@ -1,6 +1,0 @@
-use Rattle.std.proofs.Common.{◌≡◌, map, take}
-use Rattle.lasp_drive.specs.Plain.{fresh_state}
-use Rattle.lasp_drive.proofs.plain.sources.least_states.Given as goal
-
-abbrev pub invariant-loop-x : goal.invariant-loop-x
-invariant-loop-x l = l.states ≡ map (fresh_state l.nodes) (take l.x l.graph)
