@@ -54,6 +54,7 @@ pub struct Driver<N: Node> {
 
 /// So many nodes to which nothing has happened.
 fn fresh_nodes<N: Node>(alloc: Global, graph: &Arc<Graph>, nodes: u8) -> Result<Vec<N>, AllocError>
+    requires { nodes ≤ 8 }
     ensures size { IfOk result (λ all. length all.items ≡ nodes) }
     ensures nodes { IfOk result (λ all. AreNodes N.decls N.number N.among (arc_value graph.now) nodes all.items) }
     ensures peers { IfOk result (λ all. map N.peer all.items ≡ replicate nodes (fresh_peer (arc_value graph.now) nodes)) }

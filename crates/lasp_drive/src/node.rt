@@ -1,6 +1,6 @@
 //! What the driver asks of one node, whatever engine keeps its states.
 
-ghost use Rattle.std.specs.Prelude.{◌≡◌, ◌<◌, ◌++◌, ◌∷◌, [], ℕ, List, IfOk, IfSome, OnOk, IsTrue, length};
+ghost use Rattle.std.specs.Prelude.{◌≡◌, ◌<◌, ◌≤◌, ◌++◌, ◌∷◌, [], ℕ, List, IfOk, IfSome, OnOk, IsTrue, length};
 ghost use Rattle.std.specs.Arc.{arc_value};
 ghost use Rattle.std.specs.Option.{is_some};
 ghost use Rattle.model_states.specs.Content.{Content};
@@ -73,9 +73,10 @@ pub trait Node: Drop + Sized {
     // what a read waits for
     ghost awaited: { Self.Read → Awaited };
 
-    /// A node to which nothing has happened.
+    /// A node to which nothing has happened, of 8 at most.
     fn new(alloc: Global, graph: &Arc<Graph>, replica: u8, nodes: u8) -> Result<Self, AllocError>
-        requires { replica < nodes }
+        requires member { replica < nodes }
+        requires few { nodes ≤ 8 }
         ensures node { IfOk result (IsNode decls number among (arc_value graph.now) nodes replica) }
         ensures peer { IfOk result (λ n. peer n ≡ fresh_peer (arc_value graph.now) nodes) };
 
