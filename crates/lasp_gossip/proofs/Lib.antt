@@ -1,3 +1,2 @@
 pub mod SpelledLaws
 pub mod ComposeLaws
-pub mod AbsorbLaws

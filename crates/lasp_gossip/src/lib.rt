@@ -4,17 +4,14 @@
 //! let message = message_of(alloc, &graph, &sources, &counts)?;
 //! let number = network.send(alloc, &message)?;
 //! let message = network.receive(alloc, number)?;
-//! join_message(alloc, &graph, &mut sources, &message)?;
 //! ```
 #![tactic(auto)]
 
-mod absorb;
 mod compose;
 mod letter;
 mod network;
 mod refused;
 
-pub use absorb::join_message;
 pub use compose::message_of;
 pub use network::Network;
 pub use refused::SendRefused;

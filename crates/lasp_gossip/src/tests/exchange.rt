@@ -1,15 +1,14 @@
-//! How a message carries what a replica knows, by one register.
+//! What a replica sends, by one register.
 
-ghost use Rattle.std.specs.Prelude.{◌≡◌, IsTrue, IfOk, Some, length};
+ghost use Rattle.std.specs.Prelude.{◌≡◌, IsTrue, Some, length};
 ghost use Rattle.model_graph.specs.Graph.{MaxReg, kind_at};
-ghost use Rattle.model_held.specs.Held.{IsSentTo};
 ghost use Rattle.model_readings.specs.Lawful.{IsGraph};
 ghost use Rattle.model_states.specs.Threshold.{register};
 ghost use Rattle.model_wire.specs.Lawful.{FitsTop, IsSource};
 ghost use Rattle.lasp_graph.specs.States.{held_at};
 ghost use Rattle.lasp_state.specs.State.{content_of, shape_of};
 
-use crate::{join_message, message_of};
+use crate::message_of;
 use lasp_graph::{Decl, Graph, Kind, States};
 use lasp_state::{Op, State, print_state};
 use lasp_value::{Name, Text};
@@ -76,59 +75,44 @@ fn are_one_register(sources: &States) -> bool
 }
 
 /// What a replica sends that knows one update of the first of two nodes.
-fn sent(alloc: Global, g: &Graph, sources: &States) -> Result<Message, Fail>
-    ensures { IfOk result (λ m. IsSentTo (length m.counts) g.now m) }
-{
+fn sent(alloc: Global, g: &Graph, sources: &States) -> Result<Message, Fail> {
     if !is_one_register(g) || !are_one_register(sources) {
         return Err("another source")?;
     }
     Ok(message_of(alloc, g, sources, &[1, 0])?)
 }
 
-/// The replica takes a message in.
-fn take(alloc: Global, g: &Graph, sources: &mut States, m: &Message) -> Result<(), Fail>
-    requires { IsSentTo (length m.now.counts) g.now m.now }
-{
-    if !is_one_register(g) || !are_one_register(sources) {
-        return Err("another source")?;
-    }
-    join_message(alloc, g, sources, m)?;
-    Ok(())
-}
-
-/// What the register shows.
-fn shown(alloc: Global, sources: &States) -> Result<Text, Fail> {
-    if sources.len() == 0 {
+/// What the first source of a message shows.
+fn shown(alloc: Global, m: &Message) -> Result<Text, Fail> {
+    if m.len() == 0 {
         return Err("no source")?;
     }
-    Ok(print_state(alloc, sources.at(0))?)
+    Ok(print_state(alloc, m.state_at(0))?)
+}
+
+fn spelled(alloc: Global, g: &Graph, number: i64) -> Result<Vec<u8>, Fail> {
+    Ok(encode(alloc, &sent(alloc, g, &raised(alloc, number)?)?)?)
 }
 
 #[test]
-fn a_replica_sends_on_what_it_took_in(rt: HostRuntime) -> Result<(), Fail> {
+fn a_replica_sends_its_counts_and_what_its_sources_hold(rt: HostRuntime) -> Result<(), Fail> {
     let alloc = rt.alloc();
     let g = graph(alloc)?;
-    let first = sent(alloc, &g, &raised(alloc, 7)?)?;
-    let mut second = raised(alloc, -3)?;
-    take(alloc, &g, &mut second, &first)?;
-    let mut third = raised(alloc, 0)?;
-    take(alloc, &g, &mut third, &sent(alloc, &g, &second)?)?;
-    assert!(rt; shown(alloc, &third)?.as_str() == "7");
-    let on = sent(alloc, &g, &second)?;
-    assert!(rt; encode(alloc, &on)?.as_slice() == encode(alloc, &first)?.as_slice());
+    let m = sent(alloc, &g, &raised(alloc, 7)?)?;
+    assert_eq!(rt; m.len(), 1);
+    assert!(rt; shown(alloc, &m)?.as_str() == "7");
+    assert!(rt; m.counts().as_slice() == &[1, 0]);
     Ok(())
 }
 
 #[test]
-fn a_repeated_delivery_changes_nothing(rt: HostRuntime) -> Result<(), Fail> {
+fn replicas_that_hold_the_same_send_the_same_bytes(rt: HostRuntime) -> Result<(), Fail> {
     let alloc = rt.alloc();
     let g = graph(alloc)?;
-    let early = sent(alloc, &g, &raised(alloc, 2)?)?;
-    let late = sent(alloc, &g, &raised(alloc, 5)?)?;
-    let mut replica = raised(alloc, 3)?;
-    take(alloc, &g, &mut replica, &late)?;
-    take(alloc, &g, &mut replica, &late)?;
-    take(alloc, &g, &mut replica, &early)?;
-    assert!(rt; shown(alloc, &replica)?.as_str() == "5");
+    let first = spelled(alloc, &g, 7)?;
+    let second = spelled(alloc, &g, 7)?;
+    let other = spelled(alloc, &g, -3)?;
+    assert!(rt; first.as_slice() == second.as_slice());
+    assert!(rt; first.as_slice() != other.as_slice());
     Ok(())
 }
