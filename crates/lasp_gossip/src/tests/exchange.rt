@@ -101,7 +101,7 @@ fn a_replica_sends_its_counts_and_what_its_sources_hold(rt: HostRuntime) -> Resu
     let m = sent(alloc, &g, &raised(alloc, 7)?)?;
     assert_eq!(rt; m.len(), 1);
     assert!(rt; shown(alloc, &m)?.as_str() == "7");
-    assert!(rt; m.counts().as_slice() == &[1, 0]);
+    assert!(rt; m.counts().as_slice() == [1, 0].as_slice());
     Ok(())
 }
 
