@@ -49,7 +49,7 @@ entered-core c e core legal held = record {
 
 -- ---- a core at its start, and each entry that code may make
 
-pub core-start : (X : Frame) (busy : List ℕ) (opened owed : ℕ) → readings.IsGraph X.opening → X.replica < X.nodes → X.nodes < 256 → IsCore (record { frame = X; entries = []; parked = []; busy = busy; opened = opened; owed = owed })
+pub core-start : (X : Frame) (busy : List ℕ) (opened owed : ℕ) → readings.IsGraph X.opening → X.replica < X.nodes → X.nodes ≤ 8 → IsCore (record { frame = X; entries = []; parked = []; busy = busy; opened = opened; owed = owed })
 core-start X busy opened owed ok member few = record { legal = legal-start X ok member; held = held-start X; few = few; parked = tt }
 
 pub core-update : (c : Core) → IsCore c → (e : Entry) (y : ℕ) (op : Op) → e.act ≡ Update y op → y < length (graph c.frame c.entries) → IsUpdate c.frame.nodes (graph c.frame c.entries) y op

@@ -1,5 +1,5 @@
 -- What the core of a replica holds: its journal, the reads that wait, the callers that are busy, and how many reads were opened and answers are owed.
-use Rattle.std.specs.Prelude.{ℕ, ◌<◌, Bool, not, IsTrue, IsFalse, List, [], ◌∷◌, ◌++◌, length, filter}
+use Rattle.std.specs.Prelude.{ℕ, ◌<◌, ◌≤◌, Bool, not, IsTrue, IsFalse, List, [], ◌∷◌, ◌++◌, length, filter}
 use Rattle.std.specs.List.{AllByRecursion}
 use Rattle.model_states.specs.Threshold.{Threshold, suits, meets}
 use Rattle.model_graph.specs.Graph.{kind_at}
@@ -54,5 +54,5 @@ pub record IsParked (X : Frame) (entries : List Entry) (r : Read) : Type 0 where
 pub record IsCore (c : Core) : Type 0 where
   pub legal : IsLegal c.frame c.entries
   pub held : IsHeld c.frame.nodes (graph c.frame c.entries) (peer_of c.frame c.entries)
-  pub few : c.frame.nodes < 256
+  pub few : c.frame.nodes ≤ 8
   pub parked : AllByRecursion (IsParked c.frame c.entries) c.parked

@@ -23,7 +23,7 @@ ghost use Rattle.model_replica.specs.Core.{Read, Core, is_met, entered, released
 #[tactic(auto, using(crate::proofs::CoreLaws::cores))]
 pub fn entries_keep_the_core()
     ensures entered { (c : Core) (e : Entry) → IsCore c → IsLegal c.frame (c.entries ++ e ∷ []) → IsHeld c.frame.nodes (graph c.frame (c.entries ++ e ∷ [])) (peer_of c.frame (c.entries ++ e ∷ [])) → IsCore (entered e c) }
-    ensures start { (X : Frame) (busy : List ℕ) (opened owed : ℕ) → readings.IsGraph X.opening → X.replica < X.nodes → X.nodes < 256 → IsCore (record { frame = X; entries = []; parked = []; busy = busy; opened = opened; owed = owed }) }
+    ensures start { (X : Frame) (busy : List ℕ) (opened owed : ℕ) → readings.IsGraph X.opening → X.replica < X.nodes → X.nodes ≤ 8 → IsCore (record { frame = X; entries = []; parked = []; busy = busy; opened = opened; owed = owed }) }
     ensures update { (c : Core) → IsCore c → (e : Entry) (y : ℕ) (op : Op) → e.act ≡ Update y op → y < length (graph c.frame c.entries) → IsUpdate c.frame.nodes (graph c.frame c.entries) y op
         → count_at (counts c.frame c.entries) c.frame.replica < 100000
         → size_of (join_contents (val c.frame c.entries y) (delta op (val c.frame c.entries y) c.frame.replica (count_at (counts c.frame c.entries) c.frame.replica + 1))) ≤ row_limit → IsCore (entered e c) }
