@@ -1,5 +1,5 @@
 -- What each call leaves of a core: its replica goes on, and its parked reads go on waiting or are released.
-use Rattle.std.proofs.Common.{◌≡◌, ℕ, ◌<◌, ◌≤◌, Bool, true, false, not, IsTrue, IsFalse, List, [], ◌∷◌, ◌++◌, length, map, filter, take, refl, sym, ap, subst, ◌∙◌, arith}
+use Rattle.std.proofs.Common.{◌≡◌, ℕ, ◌<◌, ◌≤◌, Bool, true, false, not, IsTrue, IsFalse, List, [], ◌∷◌, ◌++◌, length, map, filter, take, refl, sym, ap, subst, ◌∙◌, append-nil, arith}
 use Rattle.std.specs.Prelude.{slice_get, Some, Result, Ok, Err, OnOk, OnErr, IfOk, vec_len, ◌==◌}
 use Rattle.std.specs.List.{AllByRecursion}
 use Rattle.model_states.specs.Content.{Content, least}
@@ -33,6 +33,7 @@ use Rattle.lasp_graph.specs.Evaluated.{number_by}
 use Rattle.lasp_core.specs.Entries.{entry_of, read_of}
 use Rattle.lasp_core.specs.Replica.{frame_of, entries_of, parts_of, IsReplica, Grows, Stays}
 use Rattle.lasp_core.specs.Jobs.{HasBound}
+use Rattle.lasp_core.specs.Listed.{GoesOn}
 use Rattle.lasp_core.specs.Core.{core_of, IsSound, IsWatched, returned, IsStateOf}
 use Rattle.lasp_core.specs.declared.read.ReadNo.{ReadNo}
 use Rattle.lasp_core.specs.declared.replica.Replica.{Replica}
@@ -221,3 +222,8 @@ finished-met c new e y core (Ok reads) ok out =
     subst (λ (s : Core). AllByRecursion (λ r. IsTrue (is_met s.frame s.entries r)) reads) (sym ok)
     (subst (λ (rs : List Read). AllByRecursion (λ r. IsTrue (is_met c.frame (c.entries ++ e ∷ []) r)) rs) (sym out) (released-met c e core))
 finished-met c new e y core (Err why) ok out = tt
+
+-- a result that isn't taken in leaves the entries as they were
+pub refused-goes-on : {A E : Type 0} (c new : Core) → (result : Result A E) → OnErr result (new ≡ c) → OnErr result (GoesOn c.entries new.entries)
+refused-goes-on c new (Ok a) same = tt
+refused-goes-on c new (Err why) same = ([], ap (λ (s : Core). s.entries) same ∙ sym (append-nil c.entries))

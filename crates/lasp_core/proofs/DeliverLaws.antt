@@ -39,8 +39,8 @@ use Rattle.lasp_core.specs.declared.entry.Entry as written
 use Rattle.lasp_core.specs.declared.replica.Replica.{Replica}
 use Rattle.lasp_core.specs.declared.process.Process.{Process}
 use Rattle.lasp_core.specs.Entries.{entry_of}
-use Rattle.lasp_core.specs.Replica.{told, base_of, frame_of, entries_of, parts_of, jobs_of, IsReplica, Goes, IsBeginning}
-use Rattle.lasp_core.specs.Delivery.{no_kept, kept_at, grows_at, recorded, AreOfKind, AreSmall, IsReady, IsReadyFor, AreJoined, AreRecordable, AreRecordedTo}
+use Rattle.lasp_core.specs.Replica.{told, base_of, frame_of, entries_of, parts_of, jobs_of, IsReplica, Goes, IsBeginning, no_kept, kept_at}
+use Rattle.lasp_core.specs.Delivery.{grows_at, recorded, AreOfKind, AreSmall, IsReady, IsReadyFor, AreJoined, AreRecordable, AreRecordedTo}
 use Rattle.lasp_core.proofs.ReplicaLaws.{frame-same, replica-kept}
 
 -- ---- before a delivery

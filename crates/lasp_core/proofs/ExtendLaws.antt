@@ -10,7 +10,6 @@ use Rattle.model_readings.specs.Lawful.{IsNext}
 use Rattle.model_held.specs.Held.{IsHeld}
 use Rattle.model_journal.specs.Entry as model
 use Rattle.model_journal.specs.Entry.{Frame}
-use Rattle.model_journal.specs.Journal as journal
 use Rattle.model_journal.specs.Legal.{IsLegal}
 use Rattle.model_replica.specs.Peer.{peer_of}
 use Rattle.model_replica.proofs.LegalLaws.{legal-extend}
@@ -87,5 +86,5 @@ replica-grows old new e d is act next room h = record {
   opened : new.opening ≤ length (arc_value new.graph)
   opened = omega (arith, is.opened, h.opening, ap (λ (ds : List Decl). length ds) h.graph, length-push g d)
 
-  counted : length new.counts < 256
+  counted : length new.counts ≤ 8
   counted = omega (arith, is.few, ap (λ (ns : List ℕ). length ns) h.counts)

@@ -1,10 +1,10 @@
 -- What the result of a job does to a replica.
-use Rattle.std.proofs.Common.{◌≡◌, ℕ, zero, suc, ◌<◌, ◌≤◌, ◌↔◌, Bool, true, false, nat_lt, IsTrue, IsFalse, IsSome, is_some, List, [], ◌∷◌, ◌++◌, length, map, take, slice_set, slice_get, slice_index_or, Option, Some, None, refl, sym, ap, subst, ◌∙◌, arith}
+use Rattle.std.proofs.Common.{◌≡◌, ℕ, zero, suc, ◌<◌, ◌≤◌, ◌↔◌, Bool, true, false, nat_lt, IsTrue, IsFalse, IsSome, List, [], ◌∷◌, ◌++◌, length, map, take, slice_set, slice_get, slice_index_or, Option, Some, None, refl, sym, ap, subst, ◌∙◌, arith}
 use Rattle.std.proofs.lemmas.Bool.Decides.{nat_tests}
 use Rattle.std.proofs.lemmas.Option.{get_or_from_slice_get}
 use Rattle.std.specs.Arc.{arc_value}
 use Rattle.model_values.specs.Row.{Row}
-use Rattle.model_sets.specs.Rows.{mark, join, IsAscending, IsAtMost}
+use Rattle.model_sets.specs.Rows.{join, IsAscending, IsAtMost}
 use Rattle.model_sets.specs.Equations.{changed}
 use Rattle.model_sets.proofs.RowLaws.{ascending-of_rows}
 use Rattle.model_states.specs.Content.{Content, IsContentAtMost, at_row, of_set, size_of, row_limit}
@@ -24,32 +24,26 @@ use Rattle.model_replica.proofs.PeerLaws.{graph-bound}
 use Rattle.model_replica.proofs.BaseLaws.{vals-take, kind-take, derived-take}
 use Rattle.model_replica.proofs.LegalLaws.{legal-bind}
 use Rattle.model_replica.proofs.HeldLaws.{held-bind}
-use Rattle.lasp_history.specs.History.{History, IsHistory, AreBelow, grown, no_history}
-use Rattle.lasp_history.specs.Kept.{Kept}
+use Rattle.lasp_history.specs.History.{History, AreBelow, grown}
 use Rattle.lasp_state.specs.declared.state.State.{State}
 use Rattle.lasp_state.specs.State.{content_of, shape_of, number_of}
 use Rattle.lasp_graph.specs.States.{Held, held_of, held_at}
 use Rattle.lasp_graph.specs.Evaluated.{process, derived_shape, number_by, second_of}
 use Rattle.lasp_job.specs.declared.job.Job.{Job}
 use Rattle.lasp_job.specs.Asked.{IsAsked, IsGained}
-use Rattle.model_core.specs.Parts.{Base, Parts, IsBase, IsBaseAt, IsKept, base_at, history_at, news_of, first_input, second_input, has_two}
+use Rattle.model_core.specs.Parts.{Parts, IsBase, IsBaseAt, IsKept, history_at, news_of, first_input, second_input, has_two}
 use Rattle.model_core.proofs.KindLaws.{equation-process, shape-derived}
 use Rattle.model_core.proofs.PartLaws.{states-long, held-val}
 use Rattle.model_core.proofs.OneLaws.{kept-bound-late, kept-bound-still, kept-bound-grown}
 use Rattle.model_core.proofs.ReadLaws.{news-by-gain, news-none, process-set}
 use Rattle.lasp_core.specs.declared.process.Process.{Process}
 use Rattle.lasp_core.specs.declared.replica.Replica.{Replica}
-use Rattle.lasp_core.specs.Replica.{frame_of, entries_of, parts_of, told, seen_process, IsReplica}
-use Rattle.lasp_core.specs.Jobs.{IsJobOf, IsResultOf}
-use Rattle.lasp_core.specs.Finish.{HasRows, AreNewsOf, HasRoom, nothing, grown_at, base_on}
+use Rattle.lasp_core.specs.Replica.{frame_of, entries_of, parts_of, told, seen_process, IsReplica, no_kept, kept_at}
+use Rattle.lasp_core.specs.Jobs.{IsJobOf, IsOwn, IsResultOf}
+use Rattle.lasp_core.specs.Finish.{HasRows, AreNewsOf, HasRoom, grown_at, base_on}
 use Rattle.lasp_core.proofs.ReplicaLaws.{frame-same, replica-kept}
 
 -- ---- places
-
-pub same-default : {A : Type 0} (xs : List A) (i : ℕ) (d e : A) → i < length xs → slice_index_or xs i d ≡ slice_index_or xs i e
-same-default [] i d e low = absurd (omega (arith, low))
-same-default (x ∷ xs) zero d e low = refl
-same-default (x ∷ xs) (suc i) d e low = same-default xs i d e (omega (arith, low))
 
 pub at-set-here : {A : Type 0} (xs : List A) (i : ℕ) (x d : A) → i < length xs → slice_index_or (slice_set xs i x) i d ≡ x
 at-set-here [] i x d low = absurd (omega (arith, low))
@@ -78,10 +72,14 @@ history-there r is y d = omega (arith, d.declared, is.kept.histories_many, map-l
 pub process-there : (r : Replica) → IsReplica r → (y : ℕ) → IsDerived (arc_value r.graph) y → y < length r.processes.items
 process-there r is y d = omega (arith, d.declared, is.kept.bases_many, map-length seen_process r.processes.items)
 
--- the kind is the one that the job's graph has
-pub job-kind : (r : Replica) (job : Job) → IsReplica r → IsJobOf (frame_of r) (entries_of r) job → kind_at (arc_value job.graph) job.var ≡ kind_at (arc_value r.graph) job.var
-job-kind r job is of =
-    ap (λ (g : List Decl). kind_at g job.var) of.graph_is
+-- the kind is the one of the journal's graph
+kind-here : (r : Replica) (job : Job) → IsReplica r → kind_at (graph (frame_of r) (entries_of r)) job.var ≡ kind_at (arc_value r.graph) job.var
+kind-here r job is = ap (λ (g : List Decl). kind_at g job.var) (sym is.kept.graph)
+
+-- and that of the graph with which the job began
+own-kind : (r : Replica) (job : Job) → IsReplica r → IsJobOf (frame_of r) (entries_of r) job → IsOwn (frame_of r) (entries_of r) job → kind_at (arc_value job.graph) job.var ≡ kind_at (arc_value r.graph) job.var
+own-kind r job is of own =
+    ap (λ (g : List Decl). kind_at g job.var) own.graph_is
     ∙ sym (kind-take (frame_of r) (entries_of r) job.n job.var of.derived.declared)
     ∙ ap (λ (g : List Decl). kind_at g job.var) (sym is.kept.graph)
 
@@ -105,26 +103,26 @@ held-shape r is y d = is.kept.shapes y d.declared ∙ shape-derived (frame_of r)
 pub held-rows : (r : Replica) → IsReplica r → (y : ℕ) → IsDerived (arc_value r.graph) y → HasRows (held_at r.states y).shape
 held-rows r is y d = subst HasRows (sym (held-shape r is y d)) (derived-rows (kind_at (arc_value r.graph) y) d.process)
 
-pub result-shape : (r : Replica) (job : Job) (s : State) → IsReplica r → IsJobOf (frame_of r) (entries_of r) job → IsResultOf job s → shape_of s ≡ (held_at r.states job.var).shape
-result-shape r job s is of res = res.state_is.shape ∙ ap derived_shape (job-kind r job is of) ∙ sym (held-shape r is job.var (job-derived r job is of))
+pub result-shape : (r : Replica) (job : Job) (s : State) → IsReplica r → IsJobOf (frame_of r) (entries_of r) job → IsResultOf (frame_of r) (entries_of r) job s → shape_of s ≡ (held_at r.states job.var).shape
+result-shape r job s is of res = res.state_is.shape ∙ ap derived_shape (kind-here r job is) ∙ sym (held-shape r is job.var (job-derived r job is of))
 
-pub result-rows : (r : Replica) (job : Job) (s : State) → IsReplica r → IsJobOf (frame_of r) (entries_of r) job → IsResultOf job s → HasRows (shape_of s)
+pub result-rows : (r : Replica) (job : Job) (s : State) → IsReplica r → IsJobOf (frame_of r) (entries_of r) job → IsResultOf (frame_of r) (entries_of r) job s → HasRows (shape_of s)
 result-rows r job s is of res = subst HasRows (sym (result-shape r job s is of res)) (held-rows r is job.var (job-derived r job is of))
 
 -- ---- what the result is
 
-pub result-is : (r : Replica) (job : Job) (s : State) → IsReplica r → IsJobOf (frame_of r) (entries_of r) job → IsResultOf job s
+pub result-is : (r : Replica) (job : Job) (s : State) → IsReplica r → IsJobOf (frame_of r) (entries_of r) job → IsResultOf (frame_of r) (entries_of r) job s
     → content_of s ≡ equation (kind_at (arc_value r.graph) job.var) (vals (frame_of r) (take job.n (entries_of r)))
 result-is r job s is of res =
     res.state_is.content
-    ∙ ap (λ (k : Kind). process k (content_of (arc_value job.inputs.first)) (content_of (second_of job.inputs))) (job-kind r job is of)
+    ∙ ap (λ (k : Kind). process k (content_of (arc_value job.inputs.first)) (content_of (second_of job.inputs))) same
     ∙ (λ i. process k (first i) (second i))
     ∙ sym (equation-process k (vals (frame_of r) (take job.n (entries_of r)))) where
       k : Kind
       k = kind_at (arc_value r.graph) job.var
 
       same : kind_at (graph (frame_of r) (entries_of r)) job.var ≡ k
-      same = ap (λ (g : List Decl). kind_at g job.var) (sym is.kept.graph)
+      same = kind-here r job is
 
       first : content_of (arc_value job.inputs.first) ≡ content_at (vals (frame_of r) (take job.n (entries_of r))) (first_input k)
       first = of.inputs.first ∙ ap (λ (j : Kind). content_at (vals (frame_of r) (take job.n (entries_of r))) (first_input j)) same
@@ -132,7 +130,7 @@ result-is r job s is of res =
       second : content_of (second_of job.inputs) ≡ content_at (vals (frame_of r) (take job.n (entries_of r))) (second_input k)
       second = of.inputs.second ∙ ap (λ (j : Kind). content_at (vals (frame_of r) (take job.n (entries_of r))) (second_input j)) same
 
-pub result-small : (r : Replica) (job : Job) (s : State) → IsReplica r → IsJobOf (frame_of r) (entries_of r) job → IsResultOf job s
+pub result-small : (r : Replica) (job : Job) (s : State) → IsReplica r → IsJobOf (frame_of r) (entries_of r) job → IsResultOf (frame_of r) (entries_of r) job s
     → size_of (equation (kind_at (graph (frame_of r) (entries_of r)) job.var) (vals (frame_of r) (take job.n (entries_of r)))) ≤ row_limit
 result-small r job s is of res =
     subst (λ (c : Content). size_of c ≤ row_limit)
@@ -141,10 +139,10 @@ result-small r job s is of res =
 -- ---- the rows that it brings
 
 -- what is new of the rows that the job gained is what is new of the result
-pub gained-news : (r : Replica) (job : Job) (s : State) → IsReplica r → IsJobOf (frame_of r) (entries_of r) job → IsResultOf job s → (gain : List Row)
-    → IsGained (kind_at (arc_value job.graph) job.var) job.inputs (arc_value job.before) (Some gain) → IsAscending gain
+pub gained-news : (r : Replica) (job : Job) (s : State) → IsReplica r → IsJobOf (frame_of r) (entries_of r) job → IsResultOf (frame_of r) (entries_of r) job s → (gain : List Row)
+    → IsOwn (frame_of r) (entries_of r) job → IsGained (kind_at (arc_value job.graph) job.var) job.inputs (arc_value job.before) (Some gain) → IsAscending gain
     → changed (held_at r.states job.var).content.rows gain ≡ changed (held_at r.states job.var).content.rows (content_of s).rows
-gained-news r job s is of res gain gained ascends =
+gained-news r job s is of res gain own gained ascends =
     sym (news-by-gain old present gain low ascends (ascending-of_rows (old ++ gain))) ∙ ap (changed present) joins where
       old : List Row
       old = (content_of (arc_value job.before)).rows
@@ -153,13 +151,16 @@ gained-news r job s is of res gain gained ascends =
       present = (held_at r.states job.var).content.rows
 
       joins : join old gain ≡ (content_of s).rows
-      joins = gained ∙ ap (λ (c : Content). c.rows) (sym res.state_is.content)
+      joins =
+          gained
+          ∙ ap (λ (k : Kind). (process k (content_of (arc_value job.inputs.first)) (content_of (second_of job.inputs))).rows) (own-kind r job is of own ∙ sym (kind-here r job is))
+          ∙ ap (λ (c : Content). c.rows) (sym res.state_is.content)
 
       held : (held_at r.states job.var).content ≡ val (frame_of r) (entries_of r) job.var
       held = held-val (frame_of r) (entries_of r) (parts_of r) is.kept job.var
 
       below : IsContentAtMost (content_of (arc_value job.before)) (held_at r.states job.var).content
-      below = subst (λ (c : Content). IsContentAtMost c (held_at r.states job.var).content) (sym of.old)
+      below = subst (λ (c : Content). IsContentAtMost c (held_at r.states job.var).content) (sym own.before_is)
           (subst (λ (c : Content). IsContentAtMost (val (frame_of r) (take job.n (entries_of r)) job.var) c) (sym held) (vals-take (frame_of r) (entries_of r) job.n job.var))
 
       low : IsAtMost old present
@@ -183,7 +184,7 @@ none-counted [] n e = (λ _. refl, λ _. subst (λ (m : ℕ). IsFalse (nat_lt 0 
 none-counted (r ∷ rows) n e = (λ none. let more : IsTrue (nat_lt 0 n) = some-counted n (omega (arith, e)) in cc, λ none. cc)
 
 -- whether it grows is whether there are such rows
-grows-by : (r : Replica) (job : Job) (s : State) → IsReplica r → IsJobOf (frame_of r) (entries_of r) job → IsResultOf job s → (rows : List Row) (n : ℕ)
+grows-by : (r : Replica) (job : Job) (s : State) → IsReplica r → IsJobOf (frame_of r) (entries_of r) job → IsResultOf (frame_of r) (entries_of r) job s → (rows : List Row) (n : ℕ)
     → rows ≡ changed (held_at r.states job.var).content.rows (content_of s).rows → n ≡ length rows → IsFalse (nat_lt 0 n) ↔ IsContentAtMost (content_of s) (held_at r.states job.var).content
 grows-by r job s is of res rows n e many = (
   λ still. (news-none old (content_of s) flat).0 (sym e ∙ (none-counted rows n many).0 still),
@@ -195,17 +196,17 @@ grows-by r job s is of res rows n e many = (
   flat : content_of s ≡ of_set (content_of s).rows
   flat =
       res.state_is.content
-      ∙ process-set (kind_at (arc_value job.graph) job.var) (content_of (arc_value job.inputs.first)) (content_of (second_of job.inputs))
+      ∙ process-set (kind_at (graph (frame_of r) (entries_of r)) job.var) (content_of (arc_value job.inputs.first)) (content_of (second_of job.inputs))
       ∙ ap (λ (c : Content). of_set c.rows) (sym res.state_is.content)
 
-pub news-of-a-set : (r : Replica) (job : Job) (s : State) → IsReplica r → IsJobOf (frame_of r) (entries_of r) job → IsResultOf job s → (rows : List Row) (n : ℕ)
+pub news-of-a-set : (r : Replica) (job : Job) (s : State) → IsReplica r → IsJobOf (frame_of r) (entries_of r) job → IsResultOf (frame_of r) (entries_of r) job s → (rows : List Row) (n : ℕ)
     → rows ≡ changed (held_at r.states job.var).content.rows (content_of s).rows → n ≡ length rows → shape_of s ≡ set → AreNewsOf (held_at r.states job.var) s (nat_lt 0 n) rows
 news-of-a-set r job s is of res rows n e many shape = record {
   still = grows-by r job s is of res rows n e many;
   rows_are = e ∙ news-of-set (held_at r.states job.var).shape (held_at r.states job.var).content (content_of s) (sym (result-shape r job s is of res) ∙ shape);
 }
 
-pub news-of-a-fold : (r : Replica) (job : Job) (s : State) → IsReplica r → IsJobOf (frame_of r) (entries_of r) job → IsResultOf job s → (rows : List Row) (n : ℕ)
+pub news-of-a-fold : (r : Replica) (job : Job) (s : State) → IsReplica r → IsJobOf (frame_of r) (entries_of r) job → IsResultOf (frame_of r) (entries_of r) job s → (rows : List Row) (n : ℕ)
     → rows ≡ changed (held_at r.states job.var).content.rows (content_of s).rows → n ≡ length rows → (shape_of s ≡ set → ⊥) → (none : List Row) → none ≡ []
     → AreNewsOf (held_at r.states job.var) s (nat_lt 0 n) none
 news-of-a-fold r job s is of res rows n e many shape none empty = record {
@@ -265,7 +266,7 @@ bound-replica old new by job is of small same entries kept =
     (bound-legal old by job is of small)
     (subst (λ (g : List Decl). IsHeld (length old.counts) g (peer_of (frame_of old) (bound_entries by job old))) (sym same.graph) (bound-held old by job is of))
     (subst (λ (g : List Decl). new.opening ≤ length g) (sym same.graph) (subst (λ (n : ℕ). n ≤ length (arc_value old.graph)) (sym same.opening) is.opened))
-    (subst (λ (cs : List ℕ). length cs < 256) (sym same.counts) is.few)
+    (subst (λ (cs : List ℕ). length cs ≤ 8) (sym same.counts) is.few)
 
 -- ---- a late result
 
@@ -294,12 +295,12 @@ job-base r job is of asked = record {
   second = of.inputs.second ∙ ap (λ (k : Kind). content_at (vals (frame_of r) (take job.n (entries_of r))) (second_input k)) same;
   first_set = asked.first_input.shape;
   second_set = asked.second_input.shape;
-  two = asked.two ∙ ap has_two (job-kind r job is of);
+  two = of.inputs.two ∙ ap has_two same;
 } where
   same : kind_at (graph (frame_of r) (entries_of r)) job.var ≡ kind_at (arc_value r.graph) job.var
-  same = ap (λ (g : List Decl). kind_at g job.var) (sym is.kept.graph)
+  same = kind-here r job is
 
-pub bind-replica : (old new : Replica) (by : ℕ) (job : Job) (s : State) (grows : Bool) → IsReplica old → IsJobOf (frame_of old) (entries_of old) job → IsResultOf job s
+pub bind-replica : (old new : Replica) (by : ℕ) (job : Job) (s : State) (grows : Bool) → IsReplica old → IsJobOf (frame_of old) (entries_of old) job → IsResultOf (frame_of old) (entries_of old) job s
     → IsAsked (arc_value job.graph) job.var job.inputs job.base (arc_value job.before) job.first job.second
     → base (frame_of old) (entries_of old) job.var < job.n → HasRoom job.var s grows old → IsBound by job s grows old new → IsReplica new
 bind-replica old new by job s grows is of res asked later room bound =
@@ -326,13 +327,13 @@ bind-replica old new by job s grows is of res asked later room bound =
       early = omega (arith, later)
 
       number : number_of s ≡ number_by (kind_at p.graph y) (content_of s)
-      number = res.state_is.number ∙ ap (λ (k : Kind). number_by k (content_of s)) (job-kind old job is of)
+      number = res.state_is.number ∙ ap (λ (k : Kind). number_by k (content_of s)) (kind-here old job is)
 
       long : length h ≡ length old.journal.items
       long = map-length _ old.journal.items
 
       grown_is : grown_at old.histories.items y (length old.journal.items) ≡ grown (history_at p.histories y) (news_of (held_at p.states y).shape (held_at p.states y).content (content_of s)) (length h)
-      grown_is i = grown (sym (at-map told old.histories.items y nothing) i) (room.pending i) (sym long i)
+      grown_is i = grown (sym (at-map told old.histories.items y no_kept) i) (room.pending i) (sym long i)
 
       larger : IsTrue grows → IsKept X (h ++ e ∷ []) (parts_of new)
       larger more = subst (IsKept X (h ++ e ∷ []))
@@ -347,7 +348,7 @@ bind-replica old new by job s grows is of res asked later room bound =
           (base_on job.n job.inputs) refl (job-base old job is of asked) (room.still.0 none))
 
 -- the growths of a variable's history happened before the entry that comes next
-pub growths-below : (r : Replica) → IsReplica r → (y : ℕ) → IsDerived (arc_value r.graph) y → AreBelow (length r.journal.items) (slice_index_or r.histories.items y nothing).history.growths
+pub growths-below : (r : Replica) → IsReplica r → (y : ℕ) → IsDerived (arc_value r.graph) y → AreBelow (length r.journal.items) (kept_at r.histories.items y).history.growths
 growths-below r is y d =
-    subst (λ (n : ℕ). AreBelow n (slice_index_or r.histories.items y nothing).history.growths) (map-length _ r.journal.items)
-    (subst (λ (h : History). AreBelow (length (entries_of r)) h.growths) (at-map told r.histories.items y nothing) (is.kept.histories y d.declared).below)
+    subst (λ (n : ℕ). AreBelow n (kept_at r.histories.items y).history.growths) (map-length _ r.journal.items)
+    (subst (λ (h : History). AreBelow (length (entries_of r)) h.growths) (at-map told r.histories.items y no_kept) (is.kept.histories y d.declared).below)

@@ -63,7 +63,7 @@ fresh-frame g me nodes r h i = record { opening = opening i; replica = h.me_is i
   many : length r.counts ≡ nodes
   many = ap (λ (ns : List ℕ). length ns) h.counts ∙ length-zeros nodes
 
-pub fresh-replica : (g : List Decl) (me nodes : ℕ) (r : Replica) → readings.IsGraph g → me < nodes → nodes < 256 → IsFresh g me nodes r → IsReplica r
+pub fresh-replica : (g : List Decl) (me nodes : ℕ) (r : Replica) → readings.IsGraph g → me < nodes → nodes ≤ 8 → IsFresh g me nodes r → IsReplica r
 fresh-replica g me nodes r lawful member few h =
     replica-kept X [] r (fresh-frame g me nodes r h) h.entries kept (legal-start X lawful member) held opened counted where
       X : Frame
@@ -81,5 +81,5 @@ fresh-replica g me nodes r lawful member few h =
       opened : r.opening ≤ length (arc_value r.graph)
       opened = omega (arith, h.opening, ap (λ (ds : List Decl). length ds) h.graph)
 
-      counted : length r.counts < 256
+      counted : length r.counts ≤ 8
       counted = omega (arith, few, ap (λ (ns : List ℕ). length ns) h.counts, length-zeros nodes)

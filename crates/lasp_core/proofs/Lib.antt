@@ -13,3 +13,4 @@ pub mod DeliverLaws
 pub mod ParkedLaws
 pub mod CoresLaws
 pub mod NewsLaws
+pub mod LaterLaws

@@ -4,7 +4,8 @@ use Rattle.std.specs.Prelude.{slice_index_or}
 use Rattle.model_graph.proofs.PlaceLaws.{below-or-not, set-length}
 use Rattle.lasp_history.specs.History.{grown}
 use Rattle.lasp_history.specs.Kept.{Kept}
-use Rattle.lasp_core.specs.Delivery.{no_kept, kept_at, grows_at, recorded, AreRecordedTo}
+use Rattle.lasp_core.specs.Replica.{no_kept, kept_at}
+use Rattle.lasp_core.specs.Delivery.{grows_at, recorded, AreRecordedTo}
 
 -- what stands at a place that was set
 pub set-here : {A : Type 0} (xs : List A) (x : ℕ) (y d : A) → x < length xs → slice_index_or (slice_set xs x y) x d ≡ y

@@ -37,7 +37,7 @@ use Rattle.lasp_core.specs.declared.process.Process.{Process}
 use Rattle.lasp_core.specs.declared.replica.Replica.{Replica}
 use Rattle.lasp_core.specs.Entries.{entry_of}
 use Rattle.lasp_core.specs.Replica.{base_of, jobs_of, frame_of, entries_of, busy_of, told, parts_of, IsReplica}
-use Rattle.lasp_core.specs.Jobs.{counted_up, AreShared, IsJobNow, HasStarted, HasStopped}
+use Rattle.lasp_core.specs.Jobs.{counted_up, AreShared, IsOwn, IsJobNow, HasStarted, HasStopped}
 use Rattle.lasp_core.proofs.ReplicaLaws.{replica-kept}
 use Rattle.lasp_core.proofs.SettledLaws.{base-found, jobs-found, process-derived, history-found, AreInputs}
 
@@ -80,7 +80,7 @@ turned-sound y p q old new ok t =
     ok.legal
     (subst (λ (w : List Decl). IsHeld (length old.counts) w (peer_of (frame_of old) (entries_of old))) (sym g) ok.held)
     (subst (λ (n : ℕ). n ≤ length (arc_value new.graph)) (sym t.opening_same) (subst (λ (w : List Decl). old.opening ≤ length w) (sym g) ok.opened))
-    (subst (λ (w : List ℕ). length w < 256) (sym t.counts_same) ok.few)
+    (subst (λ (w : List ℕ). length w ≤ 8) (sym t.counts_same) ok.few)
 
 turned-busy : (y : ℕ) (p q : Process) (old new : Replica) → HasTurned y p q old new → busy_of new ≡ slice_set (busy_of old) y q.busy
 turned-busy y p q old new t = ap (map jobs_of) t.turned ∙ map-set jobs_of old.processes.items y (Some q)
@@ -290,19 +290,24 @@ taken r ok y p found x z i job g inputs base old first second copied m =
     let g_is : arc_value job.graph ≡ graph X h = c.graph_is ∙ ok.kept.graph in
     let kind : kind_at (arc_value r.graph) y ≡ kind_at (graph X h) job.var = ap (λ (l : List Decl). kind_at l y) ok.kept.graph ∙ ap (kind_at (graph X h)) (sym m.var) in
     let same : (w : ℕ) → (held_at r.states w).content ≡ content_at (vals X (take job.n h)) w = λ w. held-val X h (parts_of r) ok.kept w ∙ ap (λ (l : List model.Entry). content_at (vals X l) w) (sym whole) in
+    let own : IsOwn X h job = record {
+      graph_is = g_is ∙ ap (graph X) (sym whole);
+      before_is = ap (λ (w : Held). w.content) c.old_is ∙ same y ∙ ap (content_at (vals X (take job.n h))) (sym m.var);
+    } in
     record {
       var = m.var;
       now = m.now;
       is = record {
         within = omega (arith, m.now);
         derived = subst (λ (l : List model.Entry). IsDerived (graph X l) job.var) (sym whole) (subst (λ (w : ℕ). IsDerived (graph X h) w) (sym m.var) (subst (λ (l : List Decl). IsDerived l y) ok.kept.graph (process-derived r ok y p found)));
-        graph_is = g_is ∙ ap (graph X) (sym whole);
         inputs = record {
+          two = c.two ∙ ap has_two kind;
           first = ap (λ (w : Held). w.content) c.first_in ∙ same x ∙ ap (content_at (vals X (take job.n h))) (sym i.first_is ∙ ap first_input kind);
           second = ap (λ (w : Held). w.content) c.second_in ∙ same z ∙ ap (content_at (vals X (take job.n h))) (sym i.second_is ∙ ap second_input kind);
         };
-        old = ap (λ (w : Held). w.content) c.old_is ∙ same y ∙ ap (content_at (vals X (take job.n h))) (sym m.var);
+        gained = λ _. own;
       };
+      own = own;
       first = (first-changed r ok y p found x z i (arc_value job.graph) job.inputs job.base (arc_value job.before) job.first job.second c).rows_are;
       second = (second-changed r ok y p found x z i (arc_value job.graph) job.inputs job.base (arc_value job.before) job.first job.second c).rows_are;
     }

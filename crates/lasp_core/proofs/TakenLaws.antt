@@ -32,10 +32,10 @@ use Rattle.lasp_history.specs.Kept.{Kept}
 use Rattle.model_core.specs.Parts.{news_of}
 use Rattle.lasp_core.specs.declared.refused.DeliverRefused.{DeliverRefused}
 use Rattle.lasp_core.specs.declared.refused.DeliverRefused.TheVariants as refusal
-use Rattle.lasp_core.specs.Replica.{told}
+use Rattle.lasp_core.specs.Replica.{told, no_kept, kept_at}
 use Rattle.lasp_core.proofs.BeginLaws.{each-at}
 use Rattle.lasp_core.proofs.RecordLaws.{set-here, set-other}
-use Rattle.lasp_core.specs.Delivery.{no_kept, kept_at, grows_at, IsLike, AreOfKind, AreSmall, IsJoined, IsReady, IsTaken, IsReadyFor, IsRefusedAt, AreTaken, AreJoined, IsRefused}
+use Rattle.lasp_core.specs.Delivery.{grows_at, IsLike, AreOfKind, AreSmall, IsJoined, IsReady, IsTaken, IsReadyFor, IsRefusedAt, AreTaken, AreJoined, IsRefused}
 
 -- ---- states at places
 

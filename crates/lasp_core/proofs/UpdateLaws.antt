@@ -42,8 +42,8 @@ use Rattle.lasp_wire.specs.Sent as wire
 use Rattle.lasp_history.specs.History as history
 use Rattle.lasp_history.specs.History.{History}
 use Rattle.lasp_history.specs.Kept.{Kept, kept}
-use Rattle.lasp_core.specs.Replica.{frame_of, entries_of, parts_of, busy_of, told, seen_process as seen, base_of, jobs_of, IsReplica, IsSmall, Goes, Stays, shape_for, is_for, update_check, update_refusal, or_too_many}
-use Rattle.lasp_core.specs.Update.{IsInFormat, IsGain, IsPrepared, kept_at, recorded}
+use Rattle.lasp_core.specs.Replica.{frame_of, entries_of, parts_of, busy_of, told, seen_process as seen, base_of, jobs_of, IsReplica, IsSmall, Goes, Stays, shape_for, is_for, update_check, update_refusal, or_too_many, kept_at}
+use Rattle.lasp_core.specs.Update.{IsInFormat, IsGain, IsPrepared, recorded}
 use Rattle.lasp_core.specs.Entries.{entry_of}
 use Rattle.lasp_core.specs.declared.entry.Entry.{Entry}
 use Rattle.lasp_core.specs.declared.entry.Act.TheVariants as act

@@ -1,5 +1,5 @@
 -- A core as its replica with the reads that wait, and what its calls leave.
-use Rattle.std.specs.Prelude.{◌≡◌, ℕ, ◌+◌, ◌-◌, ◌==◌, ◌<◌, Bool, not, if◌then◌else◌, IsTrue, IsFalse, List, [], ◌∷◌, ◌++◌, length, map, filter, replicate, slice_set, slice_index_or, Option, is_some}
+use Rattle.std.specs.Prelude.{◌≡◌, ℕ, ◌+◌, ◌-◌, ◌==◌, ◌<◌, not, if◌then◌else◌, IsTrue, IsFalse, List, [], ◌∷◌, ◌++◌, length, map, filter, replicate, slice_set, slice_index_or, is_some}
 use Rattle.std.specs.List.{AllByRecursion}
 use Rattle.model_states.specs.Threshold.{Threshold, suits}
 use Rattle.model_graph.specs.Graph.{Decl, kind_at}
@@ -7,8 +7,7 @@ use Rattle.model_graph.specs.Lawful.{IsDerived}
 use Rattle.model_graph.specs.Lawful as lawful
 use Rattle.model_journal.specs.Entry.{Entry, Frame}
 use Rattle.model_journal.specs.Journal.{graph, val}
-use Rattle.model_journal.specs.Clean.{IsClean}
-use Rattle.model_replica.specs.Core.{Read, Core, IsParked, is_met, entered}
+use Rattle.model_replica.specs.Core.{Read, Core, IsParked, is_met}
 use Rattle.lasp_history.specs.History.{version_before}
 use Rattle.lasp_state.specs.declared.state.State.{State}
 use Rattle.lasp_state.specs.State.{content_of, shape_of, number_of}
@@ -16,6 +15,7 @@ use Rattle.lasp_graph.specs.States.{Held, held_at}
 use Rattle.lasp_graph.specs.Evaluated.{number_by}
 use Rattle.lasp_job.specs.declared.job.Job.{Job}
 use Rattle.lasp_core.specs.Entries.{read_of}
+use Rattle.lasp_core.specs.Listed.{AreClean}
 use Rattle.lasp_core.specs.Jobs.{counted_up}
 use Rattle.lasp_core.specs.Replica.{frame_of, entries_of, busy_of, growths_at, IsReplica}
 use Rattle.lasp_core.specs.declared.read.ReadNo.{ReadNo}
@@ -88,7 +88,7 @@ returned y c = record { frame = c.frame; entries = c.entries; parked = c.parked;
 
 -- every derived variable has taken in its inputs as they are
 abbrev pub IsSettled : Core → Type 0
-IsSettled c = (y : ℕ) → IsDerived (graph c.frame c.entries) y → IsClean c.frame c.entries y
+IsSettled c = AreClean c.frame c.entries
 
 -- ---- declarations
 

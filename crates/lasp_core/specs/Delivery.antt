@@ -1,5 +1,5 @@
 -- What a delivery makes of states and histories: first each source is joined and its growth made ready, then the growths are recorded.
-use Rattle.std.specs.Prelude.{◌≡◌, ◌≢◌, ℕ, ◌<◌, ◌≤◌, Bool, false, IsTrue, IsFalse, if◌then◌else◌, List, [], length, slice_get, slice_index_or, Option, Some, None, Result, Ok, Err}
+use Rattle.std.specs.Prelude.{◌≡◌, ◌≢◌, ℕ, ◌<◌, ◌≤◌, Bool, false, IsTrue, IsFalse, if◌then◌else◌, List, length, slice_get, slice_index_or, Option, Some, None, Result, Ok, Err}
 use Rattle.model_states.specs.Content.{Content, join_contents, size_of, row_limit, IsContentAtMost}
 use Rattle.model_graph.specs.Graph.{Decl, is_source, kind_at}
 use Rattle.model_graph.specs.Evaluation.{first_large}
@@ -7,17 +7,11 @@ use Rattle.model_graph.specs.Lawful.{shape_of}
 use Rattle.model_messages.specs.Message.{Message, Sent, source_number, brought, with_gain, gained}
 use Rattle.lasp_graph.specs.States.{Held, held_at, contents_of}
 use Rattle.lasp_history.specs.History.{History, grown, AreBelow}
-use Rattle.lasp_history.specs.Kept.{Kept, kept}
+use Rattle.lasp_history.specs.Kept.{Kept}
+use Rattle.lasp_core.specs.Replica.{kept_at}
 use Rattle.model_core.specs.Parts.{news_of}
 use Rattle.lasp_core.specs.declared.refused.DeliverRefused.{DeliverRefused}
 use Rattle.lasp_core.specs.declared.refused.DeliverRefused.TheVariants.{WrongGraph, TooManyRows, Memory}
-
--- a history to which nothing happened
-abbrev pub no_kept : Kept
-no_kept = kept [] [] [] false
-
-abbrev pub kept_at : List Kept → ℕ → Kept
-kept_at histories x = slice_index_or histories x no_kept
 
 -- whether variable x grows
 abbrev pub grows_at : List Bool → ℕ → Bool

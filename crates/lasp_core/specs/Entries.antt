@@ -1,5 +1,4 @@
 -- Entries and reads as plain data.
-use Rattle.std.specs.Prelude.{ℕ}
 use Rattle.std.specs.Arc.{arc_value}
 use Rattle.model_journal.specs.Entry as plain
 use Rattle.model_replica.specs.Core.{Read}

@@ -1,5 +1,5 @@
 -- What is made ready for the result of a job, before anything changes.
-use Rattle.std.specs.Prelude.{◌≡◌, ℕ, ◌<◌, ◌↔◌, Bool, false, IsTrue, IsFalse, List, [], map, slice_index_or, is_some, vec_len, vec_capacity}
+use Rattle.std.specs.Prelude.{◌≡◌, ℕ, ◌<◌, ◌↔◌, Bool, IsTrue, IsFalse, List, map, is_some, vec_len, vec_capacity}
 use Rattle.std.specs.Arc.{arc_value}
 use Rattle.model_values.specs.Row.{Row}
 use Rattle.model_states.specs.Content.{IsContentAtMost}
@@ -10,9 +10,9 @@ use Rattle.lasp_graph.specs.States.{Held, held_of, held_at}
 use Rattle.lasp_graph.specs.Evaluated.{second_of}
 use Rattle.lasp_graph.specs.declared.inputs.Inputs.{Inputs}
 use Rattle.lasp_history.specs.History.{History, grown}
-use Rattle.lasp_history.specs.Kept.{Kept, kept}
+use Rattle.lasp_history.specs.Kept.{Kept}
 use Rattle.model_core.specs.Parts.{Base, news_of}
-use Rattle.lasp_core.specs.Replica.{told}
+use Rattle.lasp_core.specs.Replica.{told, kept_at}
 use Rattle.lasp_core.specs.declared.replica.Replica.{Replica}
 
 -- a state of this shape has rows: it is a set, or a fold, which covers one
@@ -28,17 +28,9 @@ pub record AreNewsOf (old : Held) (s : State) (grows : Bool) (rows : List Row) :
   pub still : IsFalse grows ↔ IsContentAtMost (state.content_of s) old.content
   pub rows_are : rows ≡ news_of old.shape old.content (state.content_of s)
 
--- a history that has nothing made ready
-abbrev pub nothing : Kept
-nothing = kept [] [] [] false
-
--- a variable's history with what it has made ready
-abbrev pub kept_at : Replica → ℕ → Kept
-kept_at r y = slice_index_or r.histories.items y nothing
-
 -- a variable's history after the growth that it has made ready, at an entry
 abbrev pub grown_at : List Kept → ℕ → ℕ → History
-grown_at histories y entry = grown (slice_index_or histories y nothing).history (slice_index_or histories y nothing).pending entry
+grown_at histories y entry = grown (kept_at histories y).history (kept_at histories y).pending entry
 
 -- a process that read these inputs when so many entries stood
 abbrev pub base_on : ℕ → Inputs → Base
@@ -59,5 +51,5 @@ pub record IsAlike (old new : Replica) : Type 0 where
 pub record HasRoom (y : ℕ) (s : State) (grows : Bool) (r : Replica) : Type 0 where
   pub entry : vec_len r.journal < vec_capacity r.journal
   pub still : IsFalse grows ↔ IsContentAtMost (state.content_of s) (held_at r.states y).content
-  pub prepared : IsTrue (kept_at r y).prepared
-  pub pending : (kept_at r y).pending ≡ news_of (held_at r.states y).shape (held_at r.states y).content (state.content_of s)
+  pub prepared : IsTrue (kept_at r.histories.items y).prepared
+  pub pending : (kept_at r.histories.items y).pending ≡ news_of (held_at r.states y).shape (held_at r.states y).content (state.content_of s)

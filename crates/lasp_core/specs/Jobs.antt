@@ -1,9 +1,9 @@
 -- Jobs of a replica: which variable's is next, what a job has, and when a result is a job's.
-use Rattle.std.specs.Prelude.{◌≡◌, ◌≢◌, ℕ, ◌+◌, ◌-◌, ◌^◌, ◌<◌, ◌≤◌, min, ◌⊎◌, List, [], ◌∷◌, ◌++◌, length, map, take, slice_set, slice_index_or, is_some}
+use Rattle.std.specs.Prelude.{◌≡◌, ◌≢◌, ℕ, ◌+◌, ◌-◌, ◌^◌, ◌<◌, ◌≤◌, min, ◌⊎◌, List, [], ◌∷◌, ◌++◌, length, take, slice_set, slice_index_or, is_some, IsSome}
 use Rattle.std.specs.Arc.{arc_value}
 use Rattle.model_states.specs.Content.{Content, size_of, row_limit}
 use Rattle.model_sets.specs.Equations.{changed}
-use Rattle.model_graph.specs.Graph.{Decl, Kind, kind_at}
+use Rattle.model_graph.specs.Graph.{Kind, kind_at}
 use Rattle.model_graph.specs.Evaluation.{content_at}
 use Rattle.model_graph.specs.Lawful.{IsDerived}
 use Rattle.model_journal.specs.Entry as model
@@ -17,8 +17,8 @@ use Rattle.lasp_graph.specs.Evaluated.{second_of}
 use Rattle.lasp_graph.specs.Delta.{IsStateOf}
 use Rattle.lasp_graph.specs.declared.inputs.Inputs.{Inputs}
 use Rattle.lasp_job.specs.declared.job.Job.{Job}
-use Rattle.model_core.specs.Parts.{first_input, second_input}
-use Rattle.lasp_core.specs.Replica.{frame_of, entries_of, busy_of, IsReplica, Stays}
+use Rattle.model_core.specs.Parts.{first_input, second_input, has_two}
+use Rattle.lasp_core.specs.Replica.{frame_of, entries_of, busy_of, IsReplica}
 use Rattle.lasp_core.specs.declared.refused.NotYet.{NotYet}
 use Rattle.lasp_core.specs.declared.replica.Replica.{Replica}
 
@@ -76,6 +76,7 @@ IsLacking r y why = Lacks (frame_of r) (entries_of r) y why
 
 -- the inputs of a process of this kind, as the contents have them
 pub record AreInputsOf (k : Kind) (contents : List Content) (inputs : Inputs) : Type 0 where
+  pub two : is_some inputs.second ≡ has_two k
   pub first : state.content_of (arc_value inputs.first) ≡ content_at contents (first_input k)
   pub second : state.content_of (second_of inputs) ≡ content_at contents (second_input k)
 
@@ -85,28 +86,33 @@ pub record AreShared (inputs copy : Inputs) : Type 0 where
   pub second : held_of (second_of copy) ≡ held_of (second_of inputs)
   pub two : is_some copy.second ≡ is_some inputs.second
 
--- the job is one that stood after its first n entries: of a variable that was derived there, with its inputs and its state as they were
+-- the job began with the graph and with its variable's state as they were after its first n entries
+pub record IsOwn (X : Frame) (entries : List model.Entry) (job : Job) : Type 0 where
+  pub graph_is : arc_value job.graph ≡ graph X (take job.n entries)
+  pub before_is : state.content_of (arc_value job.before) ≡ val X (take job.n entries) job.var
+
+-- the job is of a variable that was derived after its first n entries, with its inputs as they were there; where it tells the rows that it gained, it began with what stood there
 pub record IsJobOf (X : Frame) (entries : List model.Entry) (job : Job) : Type 0 where
   pub within : job.n ≤ length entries
   pub derived : IsDerived (graph X (take job.n entries)) job.var
-  pub graph_is : arc_value job.graph ≡ graph X (take job.n entries)
   pub inputs : AreInputsOf (kind_at (graph X entries) job.var) (vals X (take job.n entries)) job.inputs
-  pub old : state.content_of (arc_value job.before) ≡ val X (take job.n entries) job.var
+  pub gained : IsSome job.gain → IsOwn X entries job
 
 -- the job is one of the variable as it is, and isn't evaluated yet; its rows are those that changed between its base and its inputs
 pub record IsJobNow (X : Frame) (entries : List model.Entry) (y : ℕ) (job : Job) : Type 0 where
   pub var : job.var ≡ y
   pub now : job.n ≡ length entries
   pub is : IsJobOf X entries job
+  pub own : IsOwn X entries job
   pub first : job.first ≡ changed (state.content_of (arc_value job.base.first)).rows (state.content_of (arc_value job.inputs.first)).rows
   pub second : job.second ≡ changed (state.content_of (second_of job.base)).rows (state.content_of (second_of job.inputs)).rows
 
 abbrev pub IsTaken : Replica → ℕ → Job → Type 0
 IsTaken r y job = IsJobNow (frame_of r) (entries_of r) y job
 
--- the state is what the job's process gives on its inputs, and isn't too large
-pub record IsResultOf (job : Job) (s : State) : Type 0 where
-  pub state_is : IsStateOf (kind_at (arc_value job.graph) job.var) (state.content_of (arc_value job.inputs.first)) (state.content_of (second_of job.inputs)) s
+-- the state is what the variable's process gives on the job's inputs, and isn't too large
+pub record IsResultOf (X : Frame) (entries : List model.Entry) (job : Job) (s : State) : Type 0 where
+  pub state_is : IsStateOf (kind_at (graph X entries) job.var) (state.content_of (arc_value job.inputs.first)) (state.content_of (second_of job.inputs)) s
   pub small : size_of (state.content_of s) ≤ row_limit
 
 -- ---- what a replica is after a job was handed out, or came back

@@ -1,10 +1,10 @@
 -- A replica as its journal and what it keeps beside it, and what its calls leave.
-use Rattle.std.specs.Prelude.{◌≡◌, ℕ, ◌+◌, ◌<◌, ◌≤◌, ◌↔◌, nat_lt, nat_le, Bool, true, false, not, IsTrue, IsFalse, if◌then◌else◌, List, [], ◌∷◌, ◌++◌, length, map, take, slice_set, Option, Some, None, is_some, Result, Ok, Err}
+use Rattle.std.specs.Prelude.{◌≡◌, ℕ, ◌+◌, ◌≤◌, nat_lt, nat_le, Bool, false, not, IsTrue, if◌then◌else◌, List, [], ◌∷◌, ◌++◌, length, map, take, slice_index_or, Option, Some, None, is_some, Result, Ok, Err}
 use Rattle.std.specs.Option.{option_map}
 use Rattle.std.specs.Arc.{arc_value}
 use Rattle.model_states.specs.Counts.{count_at}
-use Rattle.model_states.specs.Content.{Content, join_contents, size_of, row_limit, IsContentAtMost}
-use Rattle.model_states.specs.Threshold.{Shape, set, grow, counter, register, fold, is_shape}
+use Rattle.model_states.specs.Content.{Content, join_contents, size_of, row_limit}
+use Rattle.model_states.specs.Threshold.{Shape, set, grow, counter, register, is_shape}
 use Rattle.model_states.specs.Update as plain
 use Rattle.model_values.specs.Size.{IsOfWidth}
 use Rattle.model_values.specs.Row.{Row}
@@ -19,18 +19,16 @@ use Rattle.model_journal.specs.Entry.{Frame}
 use Rattle.model_journal.specs.Legal.{IsLegal}
 use Rattle.model_replica.specs.Peer.{peer_of}
 use Rattle.lasp_value.specs.Value.{val_of}
-use Rattle.lasp_state.specs.declared.state.State.{State}
 use Rattle.lasp_state.specs.declared.op.Op.{Op}
 use Rattle.lasp_state.specs.declared.op.Op.TheVariants as op
 use Rattle.lasp_state.specs.State as state
-use Rattle.lasp_graph.specs.States.{Held, held_of, held_at, grown}
+use Rattle.lasp_graph.specs.States.{held_of}
 use Rattle.lasp_graph.specs.Evaluated.{second_of}
-use Rattle.lasp_graph.specs.declared.inputs.Inputs.{Inputs}
 use Rattle.lasp_wire.specs.Sent.{kind_of}
 use Rattle.lasp_history.specs.History.{History, Growth}
 use Rattle.lasp_history.specs.Kept as kept
 use Rattle.lasp_core.specs.Entries.{entry_of}
-use Rattle.model_core.specs.Parts.{Base, Parts, IsKept, history_at, news_of}
+use Rattle.model_core.specs.Parts.{Base, Parts, IsKept, history_at}
 use Rattle.lasp_core.specs.declared.process.Process.{Process}
 use Rattle.lasp_core.specs.declared.replica.Replica.{Replica}
 use Rattle.lasp_core.specs.declared.refused.UpdateRefused.{UpdateRefused}
@@ -70,13 +68,21 @@ growths_at r x = (history_at (parts_of r).histories x).growths
 abbrev pub log_at : Replica → ℕ → List Row
 log_at r x = (history_at (parts_of r).histories x).log
 
+-- a history to which nothing happened
+abbrev pub no_kept : kept.Kept
+no_kept = kept.kept [] [] [] false
+
+-- the history of a variable with what it has made ready
+abbrev pub kept_at : List kept.Kept → ℕ → kept.Kept
+kept_at histories x = slice_index_or histories x no_kept
+
 -- what it keeps is what its journal says, which is legal, and its sources may stand in messages
 pub record IsReplica (r : Replica) : Type 0 where
   pub kept : IsKept (frame_of r) (entries_of r) (parts_of r)
   pub legal : IsLegal (frame_of r) (entries_of r)
   pub held : IsHeld (length r.counts) (arc_value r.graph) (peer_of (frame_of r) (entries_of r))
   pub opened : r.opening ≤ length (arc_value r.graph)
-  pub few : length r.counts < 256
+  pub few : length r.counts ≤ 8
 
 -- the replica after an entry
 pub record Goes (e : model.Entry) (old new : Replica) : Type 0 where
@@ -176,12 +182,3 @@ IsDelivered nodes g contents m (Err deliver.Memory) = Unit {0}
 -- processes as plain data
 abbrev pub seen_process : Option Process → Option Base
 seen_process process = option_map base_of process
-
--- ---- what a delivery makes ready
-
--- a source whose content is to be joined with another one, before the growth is recorded: where it grows, its new content is there and its rows are made ready, else nothing changed
-pub record IsJoined (shape : Shape) (old : List Held) (x : ℕ) (s : Held) (grows : Bool) (new : List Held) (history_old history_new : kept.Kept) : Type 0 where
-  pub states : new ≡ (if grows then slice_set old x (grown (held_at old x) s) else old)
-  pub grows_is : IsFalse grows ↔ IsContentAtMost s.content (held_at old x).content
-  pub history : history_new.history ≡ history_old.history
-  pub ready : IsTrue grows → IsTrue history_new.prepared × (history_new.pending ≡ news_of shape (held_at old x).content s.content)

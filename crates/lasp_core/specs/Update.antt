@@ -1,5 +1,5 @@
 -- An update in steps: what it brings, and the replica once this is joined in but not written down yet.
-use Rattle.std.specs.Prelude.{◌≡◌, ℕ, ◌+◌, ◌<◌, ◌≤◌, ◌↔◌, FitsSigned, Bool, false, IsTrue, IsFalse, if◌then◌else◌, List, [], length, map, slice_set, slice_index_or, vec_len, vec_capacity}
+use Rattle.std.specs.Prelude.{◌≡◌, ℕ, ◌+◌, ◌<◌, ◌≤◌, ◌↔◌, FitsSigned, Bool, IsTrue, IsFalse, if◌then◌else◌, List, length, map, slice_set, vec_len, vec_capacity}
 use Rattle.std.specs.Arc.{arc_value}
 use mir.Syntax.{w64}
 use Rattle.model_states.specs.Counts.{count_at}
@@ -15,9 +15,9 @@ use Rattle.lasp_state.specs.State.{content_of, op_of}
 use Rattle.lasp_graph.specs.States.{Held, held_of, held_at, grown, AreJoinable}
 use Rattle.lasp_history.specs.History as history
 use Rattle.lasp_history.specs.History.{History}
-use Rattle.lasp_history.specs.Kept.{Kept, kept}
+use Rattle.lasp_history.specs.Kept.{Kept}
 use Rattle.model_core.specs.Parts.{news_of}
-use Rattle.lasp_core.specs.Replica.{told, is_for}
+use Rattle.lasp_core.specs.Replica.{told, is_for, kept_at}
 use Rattle.lasp_core.specs.declared.replica.Replica.{Replica}
 
 -- what an operation brings has a spelling: its numbers have 64 bits, its texts are UTF-8
@@ -38,10 +38,6 @@ pub record IsGain (r : Replica) (x : ℕ) (o : Op) (d : State) : Type 0 where
   pub content : content_of d ≡ delta (op_of o) (held_at r.states x).content r.me (count_at r.counts r.me + 1)
   pub small : size_of (join_contents (held_at r.states x).content (content_of d)) ≤ row_limit
   pub joinable : AreJoinable (held_at r.states x) (held_of d)
-
--- the history of a variable with what it has made ready
-abbrev pub kept_at : List Kept → ℕ → Kept
-kept_at histories x = slice_index_or histories x (kept [] [] [] false)
 
 -- a state is joined into variable x, and memory is there to write it down
 pub record IsPrepared (x : ℕ) (d : Held) (grows : Bool) (old new : Replica) : Type 0 where

@@ -7,8 +7,8 @@ ghost use Rattle.model_journal.specs.Entry as model;
 ghost use Rattle.model_journal.specs.Journal.{graph};
 ghost use Rattle.model_journal.specs.Legal.{IsLegal};
 ghost use Rattle.model_replica.specs.Peer.{entry};
-ghost use Rattle.model_replica.specs.Core.{is_met};
-ghost use Rattle.lasp_core.specs.Jobs.{counted_up, IsUnclean, IsJobOf, IsJobNow, IsResultOf};
+ghost use Rattle.model_replica.specs.Core.{Core, is_met, released};
+ghost use Rattle.lasp_core.specs.Jobs.{counted_up, IsUnclean, IsNext, IsJobOf, IsJobNow, IsResultOf};
 ghost use Rattle.lasp_core.specs.Core.{rows_of};
 ghost use Rattle.lasp_core.specs.Listed.{GoesOn, EndsWith, AreClean, HasLooked};
 
@@ -18,9 +18,14 @@ use lasp_job::Job;
 use lasp_state::State;
 use std::alloc::AllocError;
 
-/// A replica that hands out jobs and takes in their results. It is seen by its frame, which no call changes, and by its list of entries, which only goes on.
+/// A replica that hands out jobs and takes in their results. It is seen by its place and its frame, which no call changes, and by its list of entries, which only goes on.
 pub trait Jobs {
-    // what never changes of it
+    // where it stands: what tells it from others of its type
+    ghost Place: { Type 0 };
+
+    ghost place: { Self → Place };
+
+    // what never changes of its replica
     ghost frame: { Self → model.Frame };
 
     // the entries that it has seen
@@ -38,39 +43,47 @@ pub trait Jobs {
     // how many entries it was told of, where others make some
     ghost told: { Self → Option ℕ };
 
+    // the whole core, where it is the caller's alone
+    ghost core: { Self → Option Core };
+
     /// Recalls, at no cost, that its list is legal.
     fn recall_legal(&self)
         ensures { IsLegal (frame self.now) (list self.now) };
 
-    /// A job of a derived variable that isn't clean; none where all are clean.
+    /// A job of a derived variable that isn't clean; none where all are clean. Where the whole core is told, the variable is the one that the core names.
     fn take(&mut self) -> Result<Option<Job>, AllocError>
+        ensures place { place self.new ≡ place self.old }
         ensures frame { frame self.new ≡ frame self.old }
         ensures list { GoesOn (list self.old) (list self.new) }
         ensures alone { looks self.old ≡ None → list self.new ≡ list self.old }
         ensures looked { OnOk result (HasLooked (looks self.old) (looks self.new) (told self.new) (length (list self.new))) }
         ensures none { IfOk result (λ found. IfNone found (AreClean (frame self.new) (list self.new))) }
         ensures unclean { IfOk result (λ found. IfSome found (λ job. IsUnclean (frame self.new) (list self.new) job.var)) }
+        ensures next { IfSome (core self.old) (λ c. IfOk result (λ found. IfSome found (λ job. IsNext c.frame c.entries c.busy job.var))) }
         ensures job { IfOk result (λ found. IfSome found (λ job. IsJobNow (frame self.new) (list self.new) job.var job)) }
         ensures owed { IfOk result (λ found. IfSome found (λ job. owed self.new ≡ counted_up (owed self.old) (rows_of job))) }
         ensures rest { IfOk result (λ found. IfNone found (owed self.new ≡ owed self.old)) }
         ensures err { OnErr result (owed self.new ≡ owed self.old) };
 
-    /// Takes in the result of a job.
+    /// Takes in the result of a job. Where the whole core is told, exactly the reads that the result brings to their thresholds are released; else it is known that those which are released are met.
     fn finish(&mut self, job: Job, state: State) -> Result<Released, (Job, AllocError)>
         requires job { IsJobOf (frame self.old) (list self.old) job }
-        requires result { IsResultOf job state }
+        requires result { IsResultOf (frame self.old) (list self.old) job state }
+        ensures place { place self.new ≡ place self.old }
         ensures frame { frame self.new ≡ frame self.old }
         ensures ok { OnOk result (EndsWith (entry (caller self.old) (model.Bind job.var job.n)) (list self.old) (list self.new)) }
         ensures err { OnErr result (GoesOn (list self.old) (list self.new)) }
         ensures alone { looks self.old ≡ None → OnOk result (list self.new ≡ list self.old ++ entry (caller self.old) (model.Bind job.var job.n) ∷ []) }
         ensures same { looks self.old ≡ None → OnErr result (list self.new ≡ list self.old) }
         ensures met { IfOk result (λ reads. AllByRecursion (λ r. IsTrue (is_met (frame self.new) (list self.new) r)) reads) }
+        ensures released { IfSome (core self.old) (λ c. IfOk result (λ reads. reads ≡ released (entry (caller self.old) (model.Bind job.var job.n)) c)) }
         ensures owed { owed self.new ≡ owed self.old }
         ensures back { IfErr result (λ e. e.0 ≡ job) };
 
     /// Takes a job back that wasn't done.
     fn give_back(&mut self, job: Job)
         requires { IsDerived (graph (frame self.old) (list self.old)) job.var }
+        ensures place { place self.new ≡ place self.old }
         ensures frame { frame self.new ≡ frame self.old }
         ensures list { GoesOn (list self.old) (list self.new) }
         ensures alone { looks self.old ≡ None → list self.new ≡ list self.old }
@@ -78,6 +91,13 @@ pub trait Jobs {
 }
 
 impl Jobs for Core {
+    ghost use Rattle.std.specs.Prelude.{Some, None};
+    ghost use Rattle.model_journal.specs.Entry.{Frame};
+
+    ghost Place = { Frame };
+
+    ghost place = { λ c. c.frame };
+
     ghost frame = { λ c. c.frame };
 
     ghost list = { λ c. c.entries };
@@ -89,6 +109,8 @@ impl Jobs for Core {
     ghost looks = { λ c. None };
 
     ghost told = { λ c. None };
+
+    ghost core = { λ c. Some c };
 
     fn recall_legal(&self) {
         self.recall();

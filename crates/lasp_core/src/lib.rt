@@ -14,6 +14,7 @@
 
 mod entry;
 mod jobs;
+mod laws;
 mod parked;
 mod process;
 mod read;
@@ -24,7 +25,8 @@ mod watched;
 
 pub use entry::{Act, Entry};
 pub use jobs::Jobs;
+pub use laws::jobs_stay;
 pub use read::{ReadNo, Released};
 pub use refused::{DeliverRefused, NotYet, UpdateRefused};
 pub use replica_core::Core;
-pub use watched::{Settle, Try};
+pub use watched::{Settle, Try, Watched};

@@ -1,6 +1,6 @@
 //! A replica: its journal, and beside it what follows from it: the states, their histories, and what each process last read.
 
-ghost use Rattle.std.specs.Prelude.{◌≡◌, ◌<◌, [], IfOk, length, replicate};
+ghost use Rattle.std.specs.Prelude.{◌≡◌, ◌<◌, ◌≤◌, [], IfOk, length, replicate};
 ghost use Rattle.std.specs.Arc.{arc_value};
 ghost use Rattle.lasp_core.specs.Replica.{frame_of, entries_of, busy_of, IsReplica};
 
@@ -49,7 +49,8 @@ impl Replica {
         me: u8,
         nodes: u8,
     ) -> Result<Replica, AllocError>
-        requires { me < nodes }
+        requires member { me < nodes }
+        requires few { nodes ≤ 8 }
         ensures sound { IfOk result IsReplica }
         ensures frame { IfOk result (λ r. frame_of r ≡ record { opening = arc_value graph; replica = me; nodes = nodes }) }
         ensures entries { IfOk result (λ r. entries_of r ≡ []) }

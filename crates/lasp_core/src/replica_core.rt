@@ -1,10 +1,13 @@
 //! The core of a replica, as callers see it.
 
-ghost use Rattle.std.specs.Prelude.{◌≡◌, ◌<◌, ◌≤◌, ◌↔◌, [], IfOk, IfErr, OnOk, OnErr, IfSome, IfNone, IsTrue, is_some, length, slice_get, Some, vec_capacity};
+ghost use Rattle.std.specs.Prelude.{◌≡◌, ◌<◌, ◌≤◌, ◌↔◌, [], IfOk, IfErr, OnOk, OnErr, IfSome, IfNone, IsTrue, is_some, length, take, slice_get, Some, vec_capacity, ℕ};
 ghost use Rattle.std.specs.Arc.{arc_value};
 ghost use Rattle.model_states.specs.Counts.{count_at};
+ghost use Rattle.model_states.specs.Content.{IsContentAtMost};
 ghost use Rattle.model_states.specs.Threshold.{suits, meets};
 ghost use Rattle.model_graph.specs.Graph.{kind_at};
+ghost use Rattle.model_graph.specs.Evaluation.{equation, eval};
+ghost use Rattle.model_graph.specs.Order.{ContentsAtMost};
 ghost use Rattle.model_graph.specs.Lawful.{IsDerived, shape_of, variable_limit};
 ghost use Rattle.model_readings.specs.Lawful.{IsNext as MayFollow};
 ghost use Rattle.model_journal.specs.Entry as model;
@@ -32,6 +35,10 @@ use lasp_graph::{Decl, Graph, States};
 use lasp_job::Job;
 use lasp_state::{Op, State, Threshold};
 use lasp_wire::{Counts, Message};
+use model_journal::{
+    clean_variables_equal_their_equations, derived_contents_stay_below_evaluation,
+};
+use model_replica::first_entries_stand_below;
 use std::alloc::{AllocError, Global};
 use std::marker::Model;
 use std::sync::Arc;
@@ -62,7 +69,8 @@ impl Model for Core {
 impl Core {
     /// The core of replica `me` of so many nodes, at most 8, to which nothing has happened.
     pub fn new(alloc: Global, graph: Arc<Graph>, me: u8, nodes: u8) -> Result<Core, AllocError>
-        requires { me < nodes }
+        requires member { me < nodes }
+        requires few { nodes ≤ 8 }
         ensures { IfOk result (λ c. c ≡ fresh_core (arc_value graph) me nodes) }
     {
         Ok(Core {
@@ -155,7 +163,7 @@ impl Core {
     /// Takes in the result of a job.
     pub fn finish(&mut self, by: u64, job: Job, state: State) -> Result<Released, (Job, AllocError)>
         requires job { IsJobOf self.old.frame self.old.entries job }
-        requires result { IsResultOf job state }
+        requires result { IsResultOf self.old.frame self.old.entries job state }
         ensures ok { OnOk result (self.new ≡ returned job.var (entered (entry by (model.Bind job.var job.n)) self.old)) }
         ensures released { IfOk result (λ reads. reads ≡ plain.released (entry by (model.Bind job.var job.n)) self.old) }
         ensures err { OnErr result (self.new ≡ self.old) }
@@ -192,10 +200,12 @@ impl Core {
     /// The length of the journal, where every derived variable has taken in its inputs as they are.
     pub fn check_settled(&self) -> Result<u64, NotYet>
         ensures settled { OnOk result (IsSettled self.now) }
+        ensures evaluated { OnOk result (journal.vals self.now.frame self.now.entries ≡ eval (journal.graph self.now.frame self.now.entries) (journal.sources self.now.frame self.now.entries)) }
         ensures length { IfOk result (λ n. n ≡ length self.now.entries) }
         ensures first { IfErr result (λ why. IsFirst (IsUnclean self.now.frame self.now.entries) why.var) }
         ensures lacks { IfErr result (λ why. Lacks self.now.frame self.now.entries why.var why) }
     {
+        self.recall_states();
         match self.replica.first_unclean() {
             None => Ok(self.journal_len()),
             Some(var) => Err(self.replica.lacking(var)),
@@ -292,6 +302,20 @@ impl Core {
         ensures { plain.IsCore self.now }
     {
         let _ = &self.replica;
+    }
+
+    /// Recalls, at no cost, what holds of the states whatever came, and in whatever order: each variable only grows; no derived one exceeds its process on the present inputs, nor plain evaluation of the sources; a clean one equals its process, and where all are clean, all are what plain evaluation gives.
+    pub fn recall_states(&self)
+        ensures grows { (n : ℕ) → ContentsAtMost (journal.vals self.now.frame (take n self.now.entries)) (journal.vals self.now.frame self.now.entries) }
+        ensures bounded { (y : ℕ) → IsDerived (journal.graph self.now.frame self.now.entries) y → IsContentAtMost (journal.val self.now.frame self.now.entries y) (equation (kind_at (journal.graph self.now.frame self.now.entries) y) (journal.vals self.now.frame self.now.entries)) }
+        ensures below { ContentsAtMost (journal.vals self.now.frame self.now.entries) (eval (journal.graph self.now.frame self.now.entries) (journal.sources self.now.frame self.now.entries)) }
+        ensures clean { (y : ℕ) → IsDerived (journal.graph self.now.frame self.now.entries) y → IsClean self.now.frame self.now.entries y → journal.val self.now.frame self.now.entries y ≡ equation (kind_at (journal.graph self.now.frame self.now.entries) y) (journal.vals self.now.frame self.now.entries) }
+        ensures settled { IsSettled self.now → journal.vals self.now.frame self.now.entries ≡ eval (journal.graph self.now.frame self.now.entries) (journal.sources self.now.frame self.now.entries) }
+    {
+        self.recall();
+        first_entries_stand_below();
+        derived_contents_stay_below_evaluation();
+        clean_variables_equal_their_equations();
     }
 
     /// The number of reads that are parked.

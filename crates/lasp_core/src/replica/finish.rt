@@ -13,15 +13,14 @@ ghost use Rattle.model_journal.specs.Clean.{base};
 ghost use Rattle.lasp_state.specs.State.{content_of, shape_of};
 ghost use Rattle.lasp_graph.specs.States.{held_at};
 ghost use Rattle.lasp_core.specs.Replica.{frame_of, entries_of, told, seen_process, jobs_of, IsReplica, Stays};
-ghost use Rattle.lasp_history.specs.History.{AreBelow};
 ghost use Rattle.lasp_core.specs.Jobs.{IsJobOf, IsResultOf, HasBound};
-ghost use Rattle.lasp_core.specs.Finish.{HasRows, AreNewsOf, IsAlike, HasRoom, nothing, grown_at, base_on};
+ghost use Rattle.lasp_core.specs.Finish.{HasRows, AreNewsOf, IsAlike, HasRoom, base_on};
 
 use super::Replica;
+use super::update::record_growth;
 use crate::entry::{Act, Entry};
 use crate::process::Process;
 use lasp_graph::Inputs;
-use lasp_history::History;
 use lasp_job::Job;
 use lasp_orset::{OrSet, changed};
 use lasp_state::State;
@@ -55,19 +54,6 @@ fn write_down(journal: &mut Vec<Entry>, entry: Entry)
     let _ = journal.push(entry);
 }
 
-/// Records the growth of a variable that is prepared, where it grows.
-fn record_growth(histories: &mut Vec<History>, var: u8, grows: bool, entry: u64)
-    requires within { var < length histories.old.items }
-    requires prepared { IsTrue (slice_index_or histories.old.items var nothing).prepared }
-    requires after { AreBelow entry (slice_index_or histories.old.items var nothing).history.growths }
-    ensures grown { IsTrue grows → map told histories.new.items ≡ slice_set (map told histories.old.items) var (grown_at histories.old.items var entry) }
-    ensures still { IsFalse grows → map told histories.new.items ≡ map told histories.old.items }
-{
-    if grows {
-        histories[var as usize].record(entry);
-    }
-}
-
 /// The process of a derived variable has read these inputs.
 fn rebase(processes: &mut Vec<Option<Process>>, var: u8, n: u64, inputs: Inputs)
     requires within { var < length processes.old.items }
@@ -86,7 +72,7 @@ impl Replica {
     fn gained(&self, job: &Job, state: &State) -> Result<OrSet, AllocError>
         requires replica { IsReplica self.now }
         requires job { IsJobOf (frame_of self.now) (entries_of self.now) job.now }
-        requires result { IsResultOf job.now state.now }
+        requires result { IsResultOf (frame_of self.now) (entries_of self.now) job.now state.now }
         ensures { IfOk result (λ rows. rows ≡ changed (held_at self.now.states job.now.var).content.rows (content_of state.now).rows) }
     {
         let present = rows_of(self.states.at(u64::from(job.var)));
@@ -103,7 +89,7 @@ impl Replica {
     fn news(&self, job: &Job, state: &State) -> Result<(bool, OrSet), AllocError>
         requires replica { IsReplica self.now }
         requires job { IsJobOf (frame_of self.now) (entries_of self.now) job.now }
-        requires result { IsResultOf job.now state.now }
+        requires result { IsResultOf (frame_of self.now) (entries_of self.now) job.now state.now }
         ensures { IfOk result (λ news. AreNewsOf (held_at self.now.states job.now.var) state.now news.0 news.1) }
     {
         let rows = self.gained(job, state)?;
@@ -135,7 +121,7 @@ impl Replica {
     ) -> Result<(), (Job, AllocError)>
         requires replica { IsReplica self.old }
         requires job { IsJobOf (frame_of self.old) (entries_of self.old) job }
-        requires result { IsResultOf job state }
+        requires result { IsResultOf (frame_of self.old) (entries_of self.old) job state }
         ensures ok { OnOk result (HasBound by job.var job.n self.old self.new) }
         ensures err { OnErr result (Stays self.old self.new) }
         ensures back { IfErr result (λ e. e.0 ≡ job) }
@@ -156,7 +142,7 @@ impl Replica {
     fn ready(&mut self, job: &Job, state: State) -> Result<(bool, Arc<State>), AllocError>
         requires replica { IsReplica self.old }
         requires job { IsJobOf (frame_of self.old) (entries_of self.old) job.now }
-        requires result { IsResultOf job.now state }
+        requires result { IsResultOf (frame_of self.old) (entries_of self.old) job.now state }
         ensures same { IsAlike self.old self.new }
         ensures room { IfOk result (λ made. HasRoom job.now.var state made.0 self.new) }
         ensures state { IfOk result (λ made. arc_value made.1 ≡ state) }
@@ -172,7 +158,7 @@ impl Replica {
     fn bind(&mut self, by: u64, job: Job, grows: bool, state: Arc<State>)
         requires replica { IsReplica self.old }
         requires job { IsJobOf (frame_of self.old) (entries_of self.old) job }
-        requires result { IsResultOf job (arc_value state) }
+        requires result { IsResultOf (frame_of self.old) (entries_of self.old) job (arc_value state) }
         requires later { base (frame_of self.old) (entries_of self.old) job.var < job.n }
         requires room { HasRoom job.var (arc_value state) grows self.old }
         ensures { HasBound by job.var job.n self.old self.new }

@@ -14,8 +14,8 @@ ghost use Rattle.lasp_state.specs.State.{op_of};
 ghost use Rattle.lasp_graph.specs.Kind.{kind_of};
 ghost use Rattle.lasp_graph.specs.States.{contents_of, held_of, held_at, AreJoinable};
 ghost use Rattle.lasp_history.specs.History.{AreBelow};
-ghost use Rattle.lasp_core.specs.Update.{IsInFormat, IsGain, IsPrepared, kept_at, recorded};
-ghost use Rattle.lasp_core.specs.Replica.{IsReplica, Goes, Stays, IsSmall, is_for, update_refusal, IsAnswered, update_check, refused, told};
+ghost use Rattle.lasp_core.specs.Update.{IsInFormat, IsGain, IsPrepared, recorded};
+ghost use Rattle.lasp_core.specs.Replica.{IsReplica, Goes, Stays, IsSmall, is_for, update_refusal, IsAnswered, update_check, refused, told, kept_at};
 
 use super::sizes::{joined_size, news};
 use super::{MOST_ROWS, MOST_UPDATES, Replica};
@@ -90,7 +90,7 @@ fn recall_number(n: i64)
 {}
 
 /// Records the growth that a variable has made ready, where it grows. It takes no memory.
-fn record_growth(histories: &mut Vec<History>, var: u8, grows: bool, entry: u64)
+pub(super) fn record_growth(histories: &mut Vec<History>, var: u8, grows: bool, entry: u64)
     requires within { var < length histories.old.items }
     requires ready { IsTrue (kept_at histories.old.items var).prepared }
     requires after { AreBelow entry (kept_at histories.old.items var).history.growths }

@@ -1,8 +1,11 @@
 use Rattle.model_journal.specs.Entry as model
 use Rattle.model_replica.specs.Peer.{entry}
-use Rattle.lasp_core.proofs.CoresLaws.{finished-met}
+use Rattle.lasp_core.proofs.CoresLaws.{finished-met, refused-goes-on}
 use Rattle.lasp_core.proofs.jobs.CoreJobs.finish.Goals as goal
 
 pub returns-clause-met : goal.returns-clause-met
 returns-clause-met c =
     finished-met c.args.self.now c.finish.new.self (entry 0 (model.Bind c.args.job.var c.args.job.n)) c.args.job.var c.recall.ensures c.finish.result c.finish.ensures.ok c.finish.ensures.released
+
+pub returns-clause-err : goal.returns-clause-err
+returns-clause-err c = refused-goes-on c.args.self.now c.finish.new.self c.finish.result c.finish.ensures.err

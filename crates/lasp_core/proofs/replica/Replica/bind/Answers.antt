@@ -1,4 +1,4 @@
-use Rattle.std.proofs.Common.{◌≡◌, ℕ, ◌<◌, IsSome, None, Some, List, [], ◌∷◌, ◌++◌, length, map, slice_set, slice_index_or, refl, sym, ap, subst, ◌∙◌, arith}
+use Rattle.std.proofs.Common.{ℕ, ◌<◌, IsSome, None, Some, [], ◌∷◌, ◌++◌, length, map, slice_set, slice_index_or, refl, sym, ap, subst, ◌∙◌}
 use Rattle.std.proofs.lemmas.List.{map-append}
 use Rattle.std.specs.Arc.{arc_value}
 use Rattle.model_graph.specs.Lawful.{IsDerived}
@@ -6,8 +6,9 @@ use Rattle.lasp_history.specs.History.{AreBelow}
 use Rattle.lasp_graph.specs.States.{held_of}
 use Rattle.lasp_core.specs.declared.replica.Replica.{Replica}
 use Rattle.lasp_core.specs.Entries.{entry_of}
-use Rattle.lasp_core.specs.Replica.{told, seen_process}
-use Rattle.lasp_core.specs.Finish.{nothing, grown_at, base_on}
+use Rattle.lasp_core.specs.Replica.{seen_process, kept_at}
+use Rattle.lasp_core.specs.Update.{recorded}
+use Rattle.lasp_core.specs.Finish.{base_on}
 use Rattle.lasp_core.proofs.FinishLaws.{IsBound, job-derived, state-there, process-some, growths-below, bind_entry, bind-replica}
 use Rattle.lasp_core.proofs.replica.Replica.bind.Goals as goal
 
@@ -20,8 +21,8 @@ pub record_growth-requires-clause-after : goal.record_growth-requires-clause-aft
 record_growth-requires-clause-after c =
     let r = c.args.self.now in
     let low = growths-below r c.requires.replica c.args.job.var (job-derived r c.args.job c.requires.replica c.requires.job) in
-    subst (λ (v : ℕ). AreBelow c.len-entry.result (slice_index_or r.histories.items v nothing).history.growths) (sym c.into_parts-parts.ensures.var.0)
-    (subst (λ (n : ℕ). AreBelow n (slice_index_or r.histories.items c.args.job.var nothing).history.growths) (sym (c.len-entry.ensures ∙ r.journal.ok.0)) low)
+    subst (λ (v : ℕ). AreBelow c.len-entry.result (kept_at r.histories.items v).history.growths) (sym c.into_parts-parts.ensures.var.0)
+    (subst (λ (n : ℕ). AreBelow n (kept_at r.histories.items c.args.job.var).history.growths) (sym (c.len-entry.ensures ∙ r.journal.ok.0)) low)
 
 pub rebase-requires-clause-derived : goal.rebase-requires-clause-derived
 rebase-requires-clause-derived c =
@@ -48,8 +49,8 @@ stop-requires-clause-replica c =
     let bound : IsBound c.args.by c.args.job (arc_value c.args.state) c.args.grows r new = record {
       same = record { graph = refl; opening = refl; me = refl; counts = refl };
       states = c.replace.ensures ∙ ap (λ (i : ℕ). slice_set r.states i (held_of (arc_value c.args.state))) (c.from.ensures ∙ v);
-      grew = λ more. c.record_growth.ensures.grown more ∙ (λ i. slice_set (map told r.histories.items) (v i) (grown_at r.histories.items (v i) ((c.len-entry.ensures ∙ r.journal.ok.0) i)));
-      stood = c.record_growth.ensures.still;
+      grew = λ more. c.record_growth.ensures ∙ (λ i. recorded (more i) (v i) ((c.len-entry.ensures ∙ r.journal.ok.0) i) r.histories.items);
+      stood = λ none. c.record_growth.ensures ∙ (λ i. recorded (none i) (v i) ((c.len-entry.ensures ∙ r.journal.ok.0) i) r.histories.items);
       bases = c.rebase.ensures.bases ∙ (λ i. slice_set (map seen_process r.processes.items) (v i) (Some (base_on (n i) (inputs i))));
       entries = ap (map entry_of) c.write_down.ensures ∙ map-append entry_of items _ ∙ (λ i. map entry_of items ++ bind_entry c.args.by (v i) (n i) ∷ []);
     } in

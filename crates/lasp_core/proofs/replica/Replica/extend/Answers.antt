@@ -1,4 +1,4 @@
-use Rattle.std.proofs.Common.{rules, refl, ap, ◌∙◌, arith, ◌≡◌, ◌<◌, ◌++◌, ◌∷◌, [], List, ℕ, length, map, vec_len, vec_capacity}
+use Rattle.std.proofs.Common.{rules, refl, ap, ◌∙◌, arith, ◌≡◌, ◌<◌, ◌++◌, ◌∷◌, [], List, ℕ, length, vec_len, vec_capacity}
 use Rattle.std.specs.Arc.{arc_value}
 use Rattle.model_graph.specs.Graph.{Decl, decl_at}
 use Rattle.model_journal.specs.Entry as model

@@ -1,4 +1,4 @@
-use Rattle.std.proofs.Common.{◌∙◌, ◌<◌, refl, List, length, map, ap, subst, arith}
+use Rattle.std.proofs.Common.{◌∙◌, refl, List, length, map, ap, subst}
 use Rattle.std.specs.Arc.{arc_value}
 use Rattle.model_graph.specs.Graph.{Decl}
 use Rattle.model_readings.specs.Lawful as readings
@@ -12,8 +12,7 @@ pub returns-clause-sound : goal.returns-clause-sound
 returns-clause-sound c =
     let g : List Decl = arc_value c.args.graph in
     let lawful : readings.IsGraph g = subst (λ (ds : List Decl). readings.IsGraph ds) c.deref.ensures c.recall.ensures in
-    let few : c.args.nodes < 256 = omega (arith, c.ranges.nodes.fits) in
-    fresh-replica g c.args.me c.args.nodes _ lawful c.requires few
+    fresh-replica g c.args.me c.args.nodes _ lawful c.requires.member c.requires.few
     (record {
       graph = refl;
       opening = c.len-opening.ensures.count ∙ ap (λ (ds : List Decl). length ds) c.deref-2.ensures;

@@ -1,7 +1,8 @@
 use Rattle.std.proofs.Common.{◌≡◌, ◌<◌, ◌+◌, List, length, slice_set, sym, ap, subst, ◌∙◌, arith}
 use Rattle.lasp_history.specs.History.{grown}
 use Rattle.lasp_history.specs.Kept.{Kept}
-use Rattle.lasp_core.specs.Delivery.{kept_at, AreRecordedTo}
+use Rattle.lasp_core.specs.Replica.{kept_at}
+use Rattle.lasp_core.specs.Delivery.{AreRecordedTo}
 use Rattle.lasp_core.proofs.RecordLaws.{kept-here, recorded-grown, recorded-still}
 use Rattle.lasp_core.proofs.replica.deliver.record_all.Goals as goal
 use Rattle.lasp_core.proofs.replica.deliver.record_all.Goals.{then-grow-x, else-grow-x}
