@@ -13,15 +13,18 @@ use Rattle.model_graph.proofs.PlaceLaws.{at-set, from-nothing, length-push}
 use Rattle.model_messages.specs.Message.{Message, Sent, sent_at, source_number, message_of, brought, with_gain, gained}
 use Rattle.model_messages.proofs.MessageLaws.{gained-length, gained-at}
 use Rattle.model_readings.specs.Lawful.{IsGraph, IsNext}
+use Rattle.model_wire.specs.Lawful.{IsMessage}
 use Rattle.model_world.specs.World.{updated, delivered, extended, message_at}
-use Rattle.model_held.specs.Held.{IsSentTo, IsUpdate}
+use Rattle.model_held.specs.Held.{AreBelow, IsSentTo, IsUpdate}
+use Rattle.model_held.proofs.HeldLaws.{held-message}
 use Rattle.model_held.proofs.SourceLaws.{update-source}
 use Rattle.model_journal.specs.Entry as model
 use Rattle.model_journal.specs.Entry.{Frame}
 use Rattle.model_journal.specs.Journal.{graph, vals, val, counts, sources}
 use Rattle.model_journal.specs.Legal.{IsLegal}
 use Rattle.model_journal.proofs.CleanLaws.{vals-length}
-use Rattle.model_replica.specs.Core.{Core, entered}
+use Rattle.model_journal.proofs.StandLaws.{journal-valid}
+use Rattle.model_replica.specs.Core.{Core, IsCore, entered}
 use Rattle.model_replica.specs.Peer.{entry, peer_of}
 use Rattle.model_replica.proofs.MessageLaws.{sent-first}
 use Rattle.model_replica.proofs.PeerLaws.{graph-extended, peer-updated, peer-delivered, peer-extended}
@@ -67,6 +70,16 @@ message-same X h g states cs decls contents known =
 pub states-long : (X : Frame) (h : List model.Entry) → IsLegal X h → (g : List Decl) (states : List Held) → g ≡ graph X h → contents_of states ≡ vals X h → length states ≡ length g
 states-long X h legal g states decls contents =
     sym (length-contents states) ∙ ap (λ (cs : List Content). length cs) contents ∙ vals-length X h legal ∙ sym (ap (λ (ds : List Decl). length ds) decls)
+
+-- the counts of a legal journal are within the format
+below-each : (cs : List ℕ) (most : ℕ) → ((q : ℕ) → count_at cs q < most) → AreBelow most cs
+below-each [] most low = tt
+below-each (n ∷ cs) most low = (low 0, below-each cs most (λ q. low (suc q)))
+
+pub message-lawful : (c : Core) → IsCore c → IsGraph (graph c.frame c.entries) → IsMessage (message_at (graph c.frame c.entries) (peer_of c.frame c.entries))
+message-lawful c core lawful =
+    held-message c.frame.nodes (graph c.frame c.entries) (peer_of c.frame c.entries) lawful (omega (arith, core.legal.member)) core.few core.held
+    (below-each (counts c.frame c.entries) 100001 (λ q. omega (arith, (journal-valid c.frame c.entries core.legal).counts q)))
 
 -- ---- declarations
 

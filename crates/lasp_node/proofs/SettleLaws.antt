@@ -87,7 +87,7 @@ module _ (X : Frame) (h : List Entry) (y : ℕ) (job : Job) (now : IsJobNow X h 
   all-entries = ap (λ (n : ℕ). take n h) now.now ∙ take-length h
 
   pub job-graph : arc_value job.graph ≡ graph X h
-  job-graph = now.is.graph_is ∙ ap (λ (k : List Entry). graph X k) all-entries
+  job-graph = now.own.graph_is ∙ ap (λ (k : List Entry). graph X k) all-entries
 
   pub job-derived : IsDerived (graph X h) job.var
   job-derived = derived-take X h job.n job.var now.is.derived

@@ -8,11 +8,11 @@ ghost use Rattle.lasp_drive.specs.Node.{awaits};
 ghost use Rattle.lasp_core.specs.Entries.{read_of};
 ghost use Rattle.lasp_node.specs.Settling.{IsIdle};
 
+use super::message::message_of;
 use super::settling::settle;
 use lasp_core::{Core, DeliverRefused, ReadNo, UpdateRefused};
 use lasp_drive::{Node, NodeStop};
 use lasp_fns::{Library, StepLib};
-use lasp_gossip::message_of;
 use lasp_graph::Graph;
 use lasp_state::{Op, State, Threshold};
 use lasp_wire::Message;
@@ -69,13 +69,7 @@ impl Node for CoreNode {
     }
 
     fn message(&self, alloc: Global) -> Result<Message, AllocError> {
-        self.core.recall();
-        message_of(
-            alloc,
-            self.core.graph(),
-            self.core.states(),
-            self.core.counts().as_slice(),
-        )
+        message_of(alloc, &self.core)
     }
 
     fn deliver(&mut self, _alloc: Global, i: u32, m: &Arc<Message>) -> Result<(), NodeStop> {
