@@ -199,12 +199,15 @@ closed-sound r number reads rest sound closes = record {
 
 -- ---- numbers of states
 
+pub held-number : (r : Replica) → IsReplica r → (x : ℕ) → IsDerived (graph (frame_of r) (entries_of r)) x
+    → (held_at r.states x).number ≡ number_by (kind_at (graph (frame_of r) (entries_of r)) x) (held_at r.states x).content
+held-number r is x derived =
+    subst (λ (g : List Decl). (held_at r.states x).number ≡ number_by (kind_at g x) (held_at r.states x).content) is.kept.graph
+    (is.kept.numbers x (subst (λ (g : List Decl). IsDerived g x) (sym is.kept.graph) derived))
+
 pub state-number : (r : Replica) → IsReplica r → (x : ℕ) → (s : State) → held_at r.states x ≡ held_of s → IsDerived (graph (frame_of r) (entries_of r)) x
     → (held_of s).number ≡ number_by (kind_at (graph (frame_of r) (entries_of r)) x) (held_of s).content
-state-number r is x s at derived =
-    subst (λ h. h.number ≡ number_by (kind_at (graph (frame_of r) (entries_of r)) x) h.content) at
-    (subst (λ (g : List Decl). (held_at r.states x).number ≡ number_by (kind_at g x) (held_at r.states x).content) is.kept.graph
-    (is.kept.numbers x (subst (λ (g : List Decl). IsDerived g x) (sym is.kept.graph) derived)))
+state-number r is x s at derived = subst (λ h. h.number ≡ number_by (kind_at (graph (frame_of r) (entries_of r)) x) h.content) at (held-number r is x derived)
 
 pub state-is : (r : Replica) → IsReplica r → (reads : List ReadNo) (opened owed : ℕ) (x : ℕ) → x < length (graph (frame_of r) (entries_of r)) → (s : State) → slice_get r.states x ≡ Some (held_of s) → IsStateOf (core_of r reads opened owed) x s
 state-is r is reads opened owed x low s at = record {

@@ -7,12 +7,15 @@ use Rattle.model_graph.specs.Lawful.{IsDerived}
 use Rattle.model_journal.specs.Entry.{Entry, Frame}
 use Rattle.model_journal.specs.Journal.{graph, vals, val}
 use Rattle.model_journal.proofs.PlaceLaws.{take-front}
-use Rattle.model_replica.proofs.BaseLaws.{kind-later, derived-take}
+use Rattle.model_replica.specs.Core.{Read}
+use Rattle.model_replica.proofs.BaseLaws.{kind-later, derived-take, graph-longer}
+use Rattle.model_replica.proofs.ReadLaws.{suits-stays}
 use Rattle.lasp_state.specs.declared.state.State.{State}
 use Rattle.lasp_state.specs.State.{content_of}
 use Rattle.lasp_graph.specs.Evaluated.{second_of}
 use Rattle.lasp_graph.specs.Delta.{IsStateOf}
 use Rattle.lasp_job.specs.declared.job.Job.{Job}
+use Rattle.lasp_core.specs.Core.{IsOpen}
 use Rattle.lasp_core.specs.Jobs.{AreInputsOf, IsJobOf, IsResultOf}
 
 module _ (X : Frame) (entries more : List Entry) (job : Job) where
@@ -39,3 +42,9 @@ module _ (X : Frame) (entries more : List Entry) (job : Job) where
     state_is = subst (λ (k : Kind). IsStateOf k (content_of (arc_value job.inputs.first)) (content_of (second_of job.inputs)) s) (kind-stays derived) res.state_is;
     small = res.small;
   }
+
+pub open-later : (X : Frame) (entries more : List Entry) (r : Read) → IsOpen X entries r → IsOpen X (entries ++ more) r
+open-later X entries more r open-now = record {
+  declared = omega (arith, open-now.declared, graph-longer X entries more);
+  suits_it = suits-stays X entries more r.var r.threshold open-now.declared open-now.suits_it;
+}

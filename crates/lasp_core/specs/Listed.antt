@@ -1,5 +1,5 @@
 -- Lists of entries that go on, as those see them who ask a replica for jobs.
-use Rattle.std.specs.Prelude.{◌≡◌, ℕ, ◌<◌, List, [], ◌∷◌, ◌++◌, Option, Some, None}
+use Rattle.std.specs.Prelude.{◌≡◌, ℕ, ◌<◌, ◌≤◌, List, [], ◌∷◌, ◌++◌, Option, Some, None}
 use Rattle.model_graph.specs.Lawful.{IsDerived}
 use Rattle.model_journal.specs.Entry.{Entry, Frame}
 use Rattle.model_journal.specs.Journal.{graph}
@@ -12,6 +12,11 @@ GoesOn old new = (more : List Entry) × (new ≡ old ++ more)
 -- the list goes on, and this entry is its last
 abbrev pub EndsWith : Entry → List Entry → List Entry → Type 0
 EndsWith e old new = (more : List Entry) × (new ≡ old ++ (more ++ e ∷ []))
+
+-- a count that is told stays told and doesn't fall
+abbrev pub IsLater : Option ℕ → Option ℕ → Type 0
+IsLater None new = new ≡ None
+IsLater (Some n) new = (m : ℕ) × (new ≡ Some m) × (n ≤ m)
 
 -- every derived variable has taken in its inputs as they are
 abbrev pub AreClean : Frame → List Entry → Type 0

@@ -2,15 +2,16 @@
 
 ghost use Rattle.std.specs.Prelude.{◌≡◌, ℕ, List, [], ◌∷◌, ◌++◌, Option, None, length, IfOk, IfErr, OnOk, OnErr, IfSome, IfNone, IsTrue};
 ghost use Rattle.std.specs.List.{AllByRecursion};
+ghost use Rattle.std.specs.Option.{option_map};
 ghost use Rattle.model_graph.specs.Lawful.{IsDerived};
 ghost use Rattle.model_journal.specs.Entry as model;
 ghost use Rattle.model_journal.specs.Journal.{graph};
 ghost use Rattle.model_journal.specs.Legal.{IsLegal};
 ghost use Rattle.model_replica.specs.Peer.{entry};
-ghost use Rattle.model_replica.specs.Core.{Core, is_met, released};
+ghost use Rattle.model_replica.specs.Core.{Core, is_met, entered, released};
 ghost use Rattle.lasp_core.specs.Jobs.{counted_up, IsUnclean, IsNext, IsJobOf, IsJobNow, IsResultOf};
-ghost use Rattle.lasp_core.specs.Core.{rows_of};
-ghost use Rattle.lasp_core.specs.Listed.{GoesOn, EndsWith, AreClean, HasLooked};
+ghost use Rattle.lasp_core.specs.Core.{rows_of, taken, returned};
+ghost use Rattle.lasp_core.specs.Listed.{IsLater, GoesOn, EndsWith, AreClean, HasLooked};
 
 use crate::read::Released;
 use crate::replica_core::Core;
@@ -35,7 +36,7 @@ pub trait Jobs {
     ghost caller: { Self → ℕ };
 
     // how many changed rows its jobs had
-    ghost owed: { Self → ℕ };
+    ghost rows_owed: { Self → ℕ };
 
     // how often it looked for entries of others, where it does
     ghost looks: { Self → Option ℕ };
@@ -46,9 +47,14 @@ pub trait Jobs {
     // the whole core, where it is the caller's alone
     ghost core: { Self → Option Core };
 
-    /// Recalls, at no cost, that its list is legal.
+    /// Recalls, at no cost, that its list is legal, and that a whole core that is told is this one.
     fn recall_legal(&self)
-        ensures { IsLegal (frame self.now) (list self.now) };
+        ensures legal { IsLegal (frame self.now) (list self.now) }
+        ensures whole { IfSome (core self.now) (λ c. (c.frame ≡ frame self.now) × (c.entries ≡ list self.now) × (looks self.now ≡ None)) };
+
+    /// How many changed rows the jobs had that were handed out, held at the greatest number of 64 bits.
+    fn owed(&self) -> u64
+        ensures { result ≡ rows_owed self.now };
 
     /// A job of a derived variable that isn't clean; none where all are clean. Where the whole core is told, the variable is the one that the core names.
     fn take(&mut self) -> Result<Option<Job>, AllocError>
@@ -59,11 +65,16 @@ pub trait Jobs {
         ensures looked { OnOk result (HasLooked (looks self.old) (looks self.new) (told self.new) (length (list self.new))) }
         ensures none { IfOk result (λ found. IfNone found (AreClean (frame self.new) (list self.new))) }
         ensures unclean { IfOk result (λ found. IfSome found (λ job. IsUnclean (frame self.new) (list self.new) job.var)) }
+        ensures caller { caller self.new ≡ caller self.old }
+        ensures later { IsLater (looks self.old) (looks self.new) }
+        ensures taken { IfOk result (λ found. IfSome found (λ job. core self.new ≡ option_map (taken job.var (rows_of job)) (core self.old))) }
+        ensures untaken { IfOk result (λ found. IfNone found (core self.new ≡ core self.old)) }
+        ensures kept { OnErr result (core self.new ≡ core self.old) }
         ensures next { IfSome (core self.old) (λ c. IfOk result (λ found. IfSome found (λ job. IsNext c.frame c.entries c.busy job.var))) }
         ensures job { IfOk result (λ found. IfSome found (λ job. IsJobNow (frame self.new) (list self.new) job.var job)) }
-        ensures owed { IfOk result (λ found. IfSome found (λ job. owed self.new ≡ counted_up (owed self.old) (rows_of job))) }
-        ensures rest { IfOk result (λ found. IfNone found (owed self.new ≡ owed self.old)) }
-        ensures err { OnErr result (owed self.new ≡ owed self.old) };
+        ensures owed { IfOk result (λ found. IfSome found (λ job. rows_owed self.new ≡ counted_up (rows_owed self.old) (rows_of job))) }
+        ensures rest { IfOk result (λ found. IfNone found (rows_owed self.new ≡ rows_owed self.old)) }
+        ensures err { OnErr result (rows_owed self.new ≡ rows_owed self.old) };
 
     /// Takes in the result of a job. Where the whole core is told, exactly the reads that the result brings to their thresholds are released; else it is known that those which are released are met.
     fn finish(&mut self, job: Job, state: State) -> Result<Released, (Job, AllocError)>
@@ -76,8 +87,12 @@ pub trait Jobs {
         ensures alone { looks self.old ≡ None → OnOk result (list self.new ≡ list self.old ++ entry (caller self.old) (model.Bind job.var job.n) ∷ []) }
         ensures same { looks self.old ≡ None → OnErr result (list self.new ≡ list self.old) }
         ensures met { IfOk result (λ reads. AllByRecursion (λ r. IsTrue (is_met (frame self.new) (list self.new) r)) reads) }
+        ensures caller { caller self.new ≡ caller self.old }
+        ensures later { IsLater (looks self.old) (looks self.new) }
+        ensures bound { OnOk result (core self.new ≡ option_map (λ c. returned job.var (entered (entry (caller self.old) (model.Bind job.var job.n)) c)) (core self.old)) }
+        ensures kept { OnErr result (core self.new ≡ core self.old) }
         ensures released { IfSome (core self.old) (λ c. IfOk result (λ reads. reads ≡ released (entry (caller self.old) (model.Bind job.var job.n)) c)) }
-        ensures owed { owed self.new ≡ owed self.old }
+        ensures owed { rows_owed self.new ≡ rows_owed self.old }
         ensures back { IfErr result (λ e. e.0 ≡ job) };
 
     /// Takes a job back that wasn't done.
@@ -87,7 +102,10 @@ pub trait Jobs {
         ensures frame { frame self.new ≡ frame self.old }
         ensures list { GoesOn (list self.old) (list self.new) }
         ensures alone { looks self.old ≡ None → list self.new ≡ list self.old }
-        ensures owed { owed self.new ≡ owed self.old };
+        ensures caller { caller self.new ≡ caller self.old }
+        ensures later { IsLater (looks self.old) (looks self.new) }
+        ensures returned { core self.new ≡ option_map (returned job.var) (core self.old) }
+        ensures owed { rows_owed self.new ≡ rows_owed self.old };
 }
 
 impl Jobs for Core {
@@ -104,7 +122,7 @@ impl Jobs for Core {
 
     ghost caller = { λ c. 0 };
 
-    ghost owed = { λ c. c.owed };
+    ghost rows_owed = { λ c. c.owed };
 
     ghost looks = { λ c. None };
 
@@ -114,6 +132,10 @@ impl Jobs for Core {
 
     fn recall_legal(&self) {
         self.recall();
+    }
+
+    fn owed(&self) -> u64 {
+        Core::owed(self)
     }
 
     fn take(&mut self) -> Result<Option<Job>, AllocError> {

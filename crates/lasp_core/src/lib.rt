@@ -25,7 +25,7 @@ mod watched;
 
 pub use entry::{Act, Entry};
 pub use jobs::Jobs;
-pub use laws::jobs_stay;
+pub use laws::{jobs_stay, reads_stay_open};
 pub use read::{ReadNo, Released};
 pub use refused::{DeliverRefused, NotYet, UpdateRefused};
 pub use replica_core::Core;

@@ -12,7 +12,7 @@ ghost use Rattle.model_graph.specs.Lawful.{IsDerived, shape_of, variable_limit};
 ghost use Rattle.model_readings.specs.Lawful.{IsNext as MayFollow};
 ghost use Rattle.model_journal.specs.Entry as model;
 ghost use Rattle.model_journal.specs.Journal as journal;
-ghost use Rattle.model_journal.specs.Clean.{IsClean};
+ghost use Rattle.model_journal.specs.Clean.{IsClean, base};
 ghost use Rattle.model_replica.specs.Peer.{entry};
 ghost use Rattle.model_replica.specs.Core as plain;
 ghost use Rattle.model_replica.specs.Core.{entered};
@@ -20,7 +20,8 @@ ghost use Rattle.lasp_state.specs.State as state;
 ghost use Rattle.lasp_state.specs.State.{op_of};
 ghost use Rattle.lasp_state.specs.Threshold.{threshold_of};
 ghost use Rattle.lasp_graph.specs.Decl.{decl_of};
-ghost use Rattle.lasp_graph.specs.States.{contents_of};
+ghost use Rattle.lasp_graph.specs.States.{contents_of, held_at};
+ghost use Rattle.lasp_graph.specs.Evaluated.{number_by};
 ghost use Rattle.lasp_core.specs.Entries.{entry_of, read_of};
 ghost use Rattle.lasp_core.specs.Replica.{IsSmall, update_refusal, IsAnswered, IsDelivered};
 ghost use Rattle.lasp_core.specs.Jobs.{IsUnclean, IsFirst, IsNext, Lacks, IsJobOf, IsJobNow, IsResultOf};
@@ -236,7 +237,7 @@ impl Core {
     pub fn poll_read(&self, read: &ReadNo) -> Result<Option<Arc<State>>, AllocError>
         requires { IsOpen self.now.frame self.now.entries (read_of read.now) }
         ensures met { IfOk result (λ found. is_some found ≡ plain.is_met self.now.frame self.now.entries (read_of read.now)) }
-        ensures state { IfOk result (λ found. IfSome found (λ s. state.content_of (arc_value s) ≡ journal.val self.now.frame self.now.entries (read_of read.now).var)) }
+        ensures state { IfOk result (λ found. IfSome found (λ s. IsStateOf self.now (read_of read.now).var (arc_value s))) }
     {
         if read.threshold.meets(self.state(read.var)) {
             Ok(Some(Arc::try_clone(self.state(read.var))?))
@@ -264,6 +265,7 @@ impl Core {
     pub fn states(&self) -> &States
         ensures contents { contents_of result.now ≡ journal.vals self.now.frame self.now.entries }
         ensures kinds { AreOfKind self.now.frame.nodes (journal.graph self.now.frame self.now.entries) result.now }
+        ensures numbers { (y : ℕ) → IsDerived (journal.graph self.now.frame self.now.entries) y → (held_at result.now y).number ≡ number_by (kind_at (journal.graph self.now.frame self.now.entries) y) (held_at result.now y).content }
     {
         &self.replica.states
     }
@@ -304,9 +306,10 @@ impl Core {
         let _ = &self.replica;
     }
 
-    /// Recalls, at no cost, what holds of the states whatever came, and in whatever order: each variable only grows; no derived one exceeds its process on the present inputs, nor plain evaluation of the sources; a clean one equals its process, and where all are clean, all are what plain evaluation gives.
+    /// Recalls, at no cost, what holds of the states whatever came, and in whatever order: each variable only grows; a derived one is its process on the inputs that were last bound, and no derived one exceeds its process on the present inputs, nor plain evaluation of the sources; a clean one equals its process, and where all are clean, all are what plain evaluation gives.
     pub fn recall_states(&self)
         ensures grows { (n : ℕ) → ContentsAtMost (journal.vals self.now.frame (take n self.now.entries)) (journal.vals self.now.frame self.now.entries) }
+        ensures based { (y : ℕ) → IsDerived (journal.graph self.now.frame self.now.entries) y → journal.val self.now.frame self.now.entries y ≡ equation (kind_at (journal.graph self.now.frame self.now.entries) y) (journal.vals self.now.frame (take (base self.now.frame self.now.entries y) self.now.entries)) }
         ensures bounded { (y : ℕ) → IsDerived (journal.graph self.now.frame self.now.entries) y → IsContentAtMost (journal.val self.now.frame self.now.entries y) (equation (kind_at (journal.graph self.now.frame self.now.entries) y) (journal.vals self.now.frame self.now.entries)) }
         ensures below { ContentsAtMost (journal.vals self.now.frame self.now.entries) (eval (journal.graph self.now.frame self.now.entries) (journal.sources self.now.frame self.now.entries)) }
         ensures clean { (y : ℕ) → IsDerived (journal.graph self.now.frame self.now.entries) y → IsClean self.now.frame self.now.entries y → journal.val self.now.frame self.now.entries y ≡ equation (kind_at (journal.graph self.now.frame self.now.entries) y) (journal.vals self.now.frame self.now.entries) }
