@@ -7,6 +7,7 @@ mod counts;
 mod entry;
 mod hint;
 mod insertion;
+mod key;
 mod lattice;
 mod order;
 mod piece;
