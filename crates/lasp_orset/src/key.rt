@@ -2,6 +2,7 @@
 
 ghost use Rattle.std.specs.Prelude.{◌≡◌, IsTrue};
 ghost use Rattle.model_values.specs.Value.{val_cmp};
+ghost use Rattle.model_values.specs.Token.{tok_cmp};
 ghost use Rattle.model_values.specs.Row.{key_cmp};
 ghost use Rattle.lasp_value.specs.Value.{val_of};
 ghost use Rattle.lasp_value.specs.Token.{tok_of};
@@ -76,16 +77,29 @@ impl Key {
     pub(crate) fn compare(&self, other: &Key) -> Ordering
         ensures { result ≡ key_cmp self.now other.now }
     {
-        match self.value.cmp(&other.value) {
-            Ordering::Equal => self.token.cmp(&other.token),
+        match self.compare_value(&other.value) {
+            Ordering::Equal => self.compare_token(&other.token),
             unequal => unequal,
         }
     }
 
-    /// By value alone.
+    /// By value alone. Numbers are compared here, since the order of all values is a recursion, which is called at a cost.
     pub(crate) fn compare_value(&self, value: &Value) -> Ordering
         ensures { result ≡ val_cmp self.now.0 (val_of value.now) }
     {
-        self.value.cmp(value)
+        match (&self.value, value) {
+            (Value::Int(m), Value::Int(n)) => m.cmp(n),
+            (mine, other) => mine.cmp(other),
+        }
+    }
+
+    /// By token alone, base tokens here for the same reason.
+    fn compare_token(&self, token: &Token) -> Ordering
+        ensures { result ≡ tok_cmp self.now.1 (tok_of token.now) }
+    {
+        match (&self.token, token) {
+            (Token::Base(p, k), Token::Base(q, l)) => p.cmp(q).then(k.cmp(l)),
+            (mine, other) => mine.cmp(other),
+        }
     }
 }

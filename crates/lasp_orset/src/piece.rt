@@ -17,6 +17,9 @@ use std::sync::Arc;
 /// The greatest number of rows in a piece.
 pub(crate) const FULL: usize = 128;
 
+/// For how many rows more a full piece's memory grows. Doubling would leave a third of all memory unused.
+const STEP: usize = 16;
+
 #[derive(Drop)]
 pub(crate) struct Piece {
     rows: Arc<Vec<Entry>>,
@@ -39,7 +42,7 @@ impl Piece {
     pub(crate) fn of(alloc: Global, entry: Entry) -> Result<Piece, AllocError>
         ensures { IfOk result (λ c. c ≡ entry ∷ []) }
     {
-        let mut rows = Vec::new(alloc);
+        let mut rows = Vec::with_capacity(alloc, 1)?;
         rows.push(entry)?;
         Ok(Piece {
             rows: Arc::new(alloc, rows)?,
@@ -134,6 +137,7 @@ fn place_shared(
     ensures err { OnErr result ((arc_value shared.new).items ≡ (arc_value shared.old).items) }
 {
     if let Some(rows) = Arc::get_mut(shared) {
+        make_room(alloc, rows)?;
         return place(rows, entry);
     }
     let mut copy = copied(alloc, shared.as_slice())?;
@@ -148,6 +152,7 @@ fn push_shared(alloc: Global, shared: &mut Arc<Vec<Entry>>, entry: Entry) -> Res
     ensures err { OnErr result ((arc_value shared.new).items ≡ (arc_value shared.old).items) }
 {
     if let Some(rows) = Arc::get_mut(shared) {
+        make_room(alloc, rows)?;
         rows.push(entry)?;
         return Ok(());
     }
@@ -157,11 +162,24 @@ fn push_shared(alloc: Global, shared: &mut Arc<Vec<Entry>>, entry: Entry) -> Res
     Ok(())
 }
 
-/// The same rows in a vector of their own; they share their values and tokens.
+/// Makes room for a row where there is none.
+fn make_room(alloc: Global, rows: &mut Vec<Entry>) -> Result<(), AllocError>
+    ensures { rows.new.items ≡ rows.old.items }
+{
+    if rows.len() < rows.capacity() {
+        return Ok(());
+    }
+    let mut roomy = Vec::with_capacity(alloc, rows.len().saturating_add(STEP))?;
+    roomy.append(rows)?;
+    *rows = roomy;
+    Ok(())
+}
+
+/// The same rows in a vector of their own, which has room for one more.
 fn copied(alloc: Global, rows: &[Entry]) -> Result<Vec<Entry>, AllocError>
     ensures { IfOk result (λ copy. copy.items ≡ rows.now) }
 {
-    let mut copy = Vec::with_capacity(alloc, rows.len())?;
+    let mut copy = Vec::with_capacity(alloc, rows.len().saturating_add(1))?;
     for row in rows {
         copy.push(row.try_clone()?)?;
     }
