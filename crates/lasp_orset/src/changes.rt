@@ -8,7 +8,7 @@ use super::set::OrSet;
 use std::alloc::{AllocError, Global};
 
 /// The rows of the second set that the first one lacks, or that are dead in the second alone. Where the first one is at most the second, these joined into the first give the second.
-/// Each row of the second set costs a comparison where the first one has it right behind the row before, else a search; the rows are shared.
+/// Each row of the second set costs a comparison where the first one has it right behind the row before, else a search; texts, pairs and their tokens are shared.
 pub fn changed(alloc: Global, before: &OrSet, after: &OrSet) -> Result<OrSet, AllocError>
     ensures { IfOk result (λ s. s ≡ changed before.now after.now) }
 {

@@ -17,7 +17,7 @@ use std::sync::Arc;
 /// The greatest number of rows in a piece.
 pub(crate) const FULL: usize = 128;
 
-/// For how many rows more a full piece's memory grows. Doubling would leave a third of all memory unused.
+/// For how many rows more the memory grows of a piece that rows are put into. Doubling would leave a third of it unused.
 const STEP: usize = 16;
 
 #[derive(Drop)]
@@ -152,7 +152,6 @@ fn push_shared(alloc: Global, shared: &mut Arc<Vec<Entry>>, entry: Entry) -> Res
     ensures err { OnErr result ((arc_value shared.new).items ≡ (arc_value shared.old).items) }
 {
     if let Some(rows) = Arc::get_mut(shared) {
-        make_room(alloc, rows)?;
         rows.push(entry)?;
         return Ok(());
     }

@@ -83,7 +83,7 @@ impl OrSet {
         let _count = self.count;
     }
 
-    /// Joins another set in, and tells whether this made a difference. Each of the other set's rows costs a comparison where this one has it right behind the row before, else a search; where they bring nothing new it takes no memory.
+    /// Joins another set in, and tells whether this made a difference. Each of the other set's rows costs a comparison where this one has it right behind the row before, else a search; where they bring nothing new it takes no memory. Where the other set has all of this one's rows, it shares the other one's.
     pub fn join_in(&mut self, other: &OrSet) -> Result<bool, AllocError>
         ensures ok { OnOk result (self.new ≡ join self.old other.now) }
         ensures grew { IfOk result (λ grew. IsTrue grew ↔ (self.new ≢ self.old)) }
@@ -151,7 +151,7 @@ impl OrSet {
         Ok(())
     }
 
-    /// One row goes in in place; more go into a list of shares, so that a failure leaves this set as it was.
+    /// One row goes in in place; more go into a list of shares, so that a failure leaves this set as it was. A set that has all of this one's rows is the join itself.
     fn join_rows(&mut self, other: &OrSet) -> Result<(), AllocError>
         ensures ok { OnOk result (self.new ≡ join self.old other.now) }
         ensures err { OnErr result (self.new ≡ self.old) }
@@ -160,6 +160,11 @@ impl OrSet {
             if let [entry] = piece.rows() {
                 return self.add_one(&mut Hint::new(), entry);
             }
+        }
+        if is_at_most(self, other) {
+            other.ascends();
+            *self = other.try_clone()?;
+            return Ok(());
         }
         let mut all = self.try_clone()?;
         all.add_pieces(other.pieces())?;
