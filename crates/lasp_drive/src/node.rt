@@ -153,7 +153,9 @@ pub trait Node: Drop + Sized {
         requires var { (awaited r.now).var < length (decls self.now) }
         requires suits { IsTrue (suits (awaited r.now).threshold (shape_of (among self.now) (kind_at (decls self.now) (awaited r.now).var))) }
         ensures met { IfOk result (λ o. is_some o ≡ meets (awaited r.now).threshold (content_at (shown self.now) (awaited r.now).var)) }
-        ensures state { IfOk result (λ o. IfSome o (λ s. state.content_of (arc_value s) ≡ content_at (shown self.now) (awaited r.now).var)) };
+        ensures state { IfOk result (λ o. IfSome o (λ s. state.content_of (arc_value s) ≡ content_at (shown self.now) (awaited r.now).var)) }
+        ensures shape { IfOk result (λ o. IfSome o (λ s. state.shape_of (arc_value s) ≡ shape_of (among self.now) (kind_at (decls self.now) (awaited r.now).var))) }
+        ensures text { IfOk result (λ o. IfSome o (λ s. shown_state (arc_value s) ≡ shown_content (kind_at (decls self.now) (awaited r.now).var) (content_at (shown self.now) (awaited r.now).var))) };
 
     /// Closes a read: nobody waits for it any more.
     fn close_read(&mut self, r: &Self::Read)

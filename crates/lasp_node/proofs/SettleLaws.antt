@@ -1,8 +1,9 @@
 -- Which job is next in an idle core, what it stands for, and what its result leaves clean.
-use Rattle.std.proofs.Common.{zero, suc, ℕ, ◌≡◌, ◌+◌, ◌-◌, ◌≤◌, ◌<◌, ◌⊎◌, inl, inr, Bool, true, false, nat_lt, refl, sym, ap, subst, ◌∙◌, arith}
+use Rattle.std.proofs.Common.{zero, suc, ℕ, ◌≡◌, ◌+◌, ◌-◌, ◌≤◌, ◌<◌, ◌⊎◌, inl, inr, Bool, true, false, not, cond, IsTrue, nat_lt, filter, refl, sym, ap, subst, ◌∙◌, append-nil, append_assoc, arith}
 use Rattle.std.specs.Prelude.{List, [], ◌∷◌, ◌++◌, length, take, slice_set, slice_index_or, Some, None}
 use Rattle.std.specs.Arc.{arc_value}
 use Rattle.std.proofs.Math.Seq.{take-length}
+use Rattle.std.specs.List.{AllByRecursion}
 use Rattle.std.proofs.lemmas.Bool.Decides.{nat_tests}
 use Rattle.model_states.specs.Content.{Content, size_of, row_limit}
 use Rattle.model_graph.specs.Graph.{Decl, kind_at}
@@ -13,12 +14,13 @@ use Rattle.model_journal.specs.Journal.{graph, vals, sources}
 use Rattle.model_journal.specs.Clean.{IsClean, applied, version}
 use Rattle.model_journal.specs.Legal.{IsLegal}
 use Rattle.model_world.specs.World.{Peer}
-use Rattle.model_replica.specs.Core.{Core, entered}
+use Rattle.model_replica.specs.Core.{Core, IsCore, IsParked, Read, is_met, entered}
 use Rattle.model_replica.specs.Peer.{entry}
 use Rattle.model_replica.proofs.BaseLaws.{derived-take}
 use Rattle.model_replica.proofs.CleanLaws.{clean-before, clean-after-bind, large-first, settled-all, settled-small}
 use Rattle.model_replica.proofs.LegalLaws.{legal-bind-now}
 use Rattle.model_replica.proofs.PeerLaws.{graph-bound, peer-bound}
+use Rattle.model_replica.proofs.ReadLaws.{all-kept, met-stays}
 use Rattle.model_core.proofs.KindLaws.{equation-process}
 use Rattle.model_core.proofs.OneLaws.{same-or-apart}
 use Rattle.lasp_state.specs.State.{content_of}
@@ -26,7 +28,7 @@ use Rattle.lasp_graph.specs.Evaluated.{process, second_of}
 use Rattle.lasp_job.specs.declared.job.Job.{Job}
 use Rattle.lasp_core.specs.Jobs.{IsUnclean, IsFirst, IsNext, IsJobNow, counted_up}
 use Rattle.lasp_core.specs.Core.{taken, returned, IsSettled}
-use Rattle.lasp_node.specs.Settling.{IsIdle, IsIdleBut, AreCleanBelow, HasBound}
+use Rattle.lasp_node.specs.Settling.{IsIdle, IsIdleBut, AreCleanBelow, IsOwnBind, HasBound}
 
 -- ---- which job is next
 
@@ -115,22 +117,89 @@ module _ (X : Frame) (h : List Entry) (y : ℕ) (job : Job) (now : IsJobNow X h 
 
 -- ---- what a core is after a job
 
-pub bound-start : (c : Core) → IsIdle c.busy → HasBound c c
-bound-start c idle = record { frame = refl; graph_is = refl; peer = refl; idle = idle }
+-- of a list of those that pass, the same pass a narrower test as of the whole list
+narrower : {A : Type 0} (p q : A → Bool) → ((x : A) → q x ≡ true → p x ≡ true) → (xs : List A) → filter q (filter p xs) ≡ filter q xs
+narrower p q pass [] = refl
+narrower {A} p q pass (x ∷ xs) = with-rest (narrower p q pass xs) where
+  fails : (b : Bool) → q x ≡ b → p x ≡ false → q x ≡ false
+  fails true passes off = absurd (let both : true ≡ false = sym (pass x passes) ∙ off in cc)
+  fails false is off = is
+
+  with-rest : filter q (filter p xs) ≡ filter q xs → filter q (filter p (x ∷ xs)) ≡ filter q (x ∷ xs)
+  with-rest rest = choose (p x) refl where
+    choose : (b : Bool) → p x ≡ b → filter q (cond b (x ∷ filter p xs) (filter p xs)) ≡ filter q (x ∷ xs)
+    choose true on = ap (λ (ys : List A). cond (q x) (x ∷ ys) ys) rest
+    choose false off = rest ∙ sym (ap (λ (b : Bool). cond b (x ∷ filter q xs) (filter q xs)) (fails (q x) refl off))
+
+-- the reads of a core that wait aren't met
+all-wait : (X : Frame) (h : List Entry) (reads : List Read) → AllByRecursion (IsParked X h) reads → AllByRecursion (λ r. IsTrue (not (is_met X h r))) reads
+all-wait X h [] parked = tt
+all-wait X h (r ∷ reads) parked = (ap not parked.0.unmet, all-wait X h reads parked.1)
+
+-- a read that isn't met wasn't met before
+unmet-before : (X : Frame) (h more : List Entry) → IsLegal X (h ++ more) → (r : Read) → not (is_met X (h ++ more) r) ≡ true → not (is_met X h r) ≡ true
+unmet-before X h more legal r unmet = choose (is_met X h r) refl where
+  choose : (b : Bool) → is_met X h r ≡ b → not b ≡ true
+  choose true met = ap not (sym (met-stays X h more legal r met)) ∙ unmet
+  choose false met = refl
+
+all-both : (es fs : List Entry) → AllByRecursion IsOwnBind es → AllByRecursion IsOwnBind fs → AllByRecursion IsOwnBind (es ++ fs)
+all-both [] fs own more = more
+all-both (e ∷ es) fs own more = (own.0, all-both es fs own.1 more)
+
+-- a core in which nothing was taken in, with a job that comes back
+pub bound-back : (c new : Core) (y : ℕ) → IsCore c → new ≡ returned y c → IsIdleBut y c.busy → HasBound c new
+bound-back c new y core is idle = subst (λ (d : Core). HasBound c d) (sym is) (record {
+  frame = refl;
+  graph_is = refl;
+  peer = refl;
+  binds = ([], sym (append-nil c.entries), tt);
+  parked = sym (all-kept (λ r. not (is_met c.frame c.entries r)) c.parked (all-wait c.frame c.entries c.parked core.parked));
+  opened = refl;
+  idle = idle;
+})
+
+pub bound-start : (c : Core) → IsCore c → IsIdle c.busy → HasBound c c
+bound-start c core idle = record {
+  frame = refl;
+  graph_is = refl;
+  peer = refl;
+  binds = ([], sym (append-nil c.entries), tt);
+  parked = sym (all-kept (λ r. not (is_met c.frame c.entries r)) c.parked (all-wait c.frame c.entries c.parked core.parked));
+  opened = refl;
+  idle = idle;
+}
 
 -- binds before a job was taken, and those after it
-pub bound-more : (a b out c : Core) (y rows : ℕ) → out ≡ taken y rows b → HasBound a b → HasBound out c → HasBound a c
-bound-more a b out c y rows is one two = there (subst (λ (d : Core). HasBound d c) is two) where
+pub bound-more : (a b out c : Core) (y rows : ℕ) → IsLegal c.frame c.entries → out ≡ taken y rows b → HasBound a b → HasBound out c → HasBound a c
+bound-more a b out c y rows legal is one two = there (subst (λ (d : Core). HasBound d c) is two) where
   there : HasBound (taken y rows b) c → HasBound a c
-  there next = record { frame = next.frame ∙ one.frame; graph_is = next.graph_is ∙ one.graph_is; peer = next.peer ∙ one.peer; idle = next.idle }
+  there next = record {
+    frame = next.frame ∙ one.frame;
+    graph_is = next.graph_is ∙ one.graph_is;
+    peer = next.peer ∙ one.peer;
+    binds = (one.binds.0 ++ next.binds.0, next.binds.1 ∙ ap (λ (h : List Entry). h ++ next.binds.0) one.binds.1 ∙ append_assoc a.entries one.binds.0 next.binds.0, all-both one.binds.0 next.binds.0 one.binds.2 next.binds.2);
+    parked = next.parked ∙ ap (filter unmet) one.parked ∙ narrower (λ r. not (is_met b.frame b.entries r)) unmet before a.parked;
+    opened = next.opened ∙ one.opened;
+    idle = next.idle;
+  } where
+    unmet : Read → Bool
+    unmet r = not (is_met c.frame c.entries r)
 
-module _ (c new : Core) (by y n : ℕ) (is : new ≡ returned y (entered (entry by (Bind y n)) c)) where
+    before : (r : Read) → unmet r ≡ true → not (is_met b.frame b.entries r) ≡ true
+    before r off = unmet-before b.frame b.entries next.binds.0 (subst (λ (h : List Entry). IsLegal b.frame h) next.binds.1 (subst (λ (X : Frame). IsLegal X c.entries) next.frame legal)) r
+        ((λ i. not (is_met (sym next.frame i) (sym next.binds.1 i) r)) ∙ off)
+
+module _ (c new : Core) (by y n : ℕ) (mine : by ≡ 0) (is : new ≡ returned y (entered (entry by (Bind y n)) c)) where
   -- the result was taken in
   pub bound-done : IsLegal c.frame c.entries → IsDerived (graph c.frame c.entries) y → IsIdleBut y c.busy → HasBound c new
   bound-done legal derived idle = subst (λ (d : Core). HasBound c d) (sym is) (record {
     frame = refl;
     graph_is = graph-bound c.frame c.entries (entry by (Bind y n)) y n refl;
     peer = peer-bound c.frame c.entries legal (entry by (Bind y n)) y n refl derived;
+    binds = (entry by (Bind y n) ∷ [], refl, ((mine, y, n, refl), tt));
+    parked = refl;
+    opened = refl;
     idle = idle;
   })
 

@@ -1,10 +1,12 @@
 -- What settling a core does, turn by turn.
-use Rattle.std.specs.Prelude.{◌≡◌, ℕ, ◌<◌, ◌-◌, List, slice_index_or, slice_set, Option, Some, Result, Ok, Err}
+use Rattle.std.specs.Prelude.{◌≡◌, ℕ, ◌<◌, ◌-◌, not, List, ◌++◌, filter, slice_index_or, slice_set, Option, Some, Result, Ok, Err}
+use Rattle.std.specs.List.{AllByRecursion}
 use Rattle.model_graph.specs.Lawful.{IsDerived}
+use Rattle.model_journal.specs.Entry.{Bind, Entry}
 use Rattle.model_journal.specs.Journal.{graph}
 use Rattle.model_journal.specs.Clean.{IsClean}
 use Rattle.model_replica.specs.Peer.{peer_of}
-use Rattle.model_replica.specs.Core.{Core}
+use Rattle.model_replica.specs.Core.{Core, is_met}
 use Rattle.lasp_drive.specs.declared.node.NodeStop.{NodeStop}
 use Rattle.lasp_drive.specs.declared.node.NodeStop.TheVariants as node
 
@@ -20,11 +22,22 @@ IsIdleBut y busy = IsIdle (slice_set busy y (slice_index_or busy y 0 - 1))
 abbrev pub AreCleanBelow : ℕ → Core → Type 0
 AreCleanBelow many c = (y : ℕ) → y < many → IsDerived (graph c.frame c.entries) y → IsClean c.frame c.entries y
 
--- the core after binds: of the same replica with the same graph, sources and counts, and with no job out
+-- a result that caller 0 handed in
+abbrev pub IsOwnBind : Entry → Type 0
+IsOwnBind e = (e.by ≡ 0) × (y : ℕ) × (n : ℕ) × (e.act ≡ Bind y n)
+
+-- some entries, and then only results that caller 0 handed in
+abbrev pub GoesOnByBinds : List Entry → List Entry → Type 0
+GoesOnByBinds entries longer = (more : List Entry) × (longer ≡ entries ++ more) × AllByRecursion IsOwnBind more
+
+-- the core after binds: of the same replica with the same graph, sources and counts; of the reads that waited those wait still that aren't met, no read was opened, and no job is out
 pub record HasBound (old new : Core) : Type 0 where
   pub frame : new.frame ≡ old.frame
   pub graph_is : graph new.frame new.entries ≡ graph old.frame old.entries
   pub peer : peer_of new.frame new.entries ≡ peer_of old.frame old.entries
+  pub binds : GoesOnByBinds old.entries new.entries
+  pub parked : new.parked ≡ filter (λ r. not (is_met new.frame new.entries r)) old.parked
+  pub opened : new.opened ≡ old.opened
   pub idle : IsIdle new.busy
 
 -- a variable that is told to be too large is the first that is

@@ -60,11 +60,15 @@ pub fn settle(alloc: Global, core: &mut Core, lib: &mut StepLib) -> Result<(), N
     ensures done { Settles (first_large 0 (eval (journal.graph core.old.frame core.old.entries) (journal.sources core.old.frame core.old.entries))) result }
     ensures library { counted.library_of lib.new ≡ counted.library_of lib.old }
 {
+    core.recall();
     for turn in 0..=core.graph().len() {
-        core.recall();
         match core.take()? {
             None => return Ok(()),
-            Some(job) => do_job(alloc, core, job, lib)?,
+            Some(job) => {
+                let done = do_job(alloc, core, job, lib);
+                core.recall();
+                done?;
+            }
         }
     }
     unreachable!()
