@@ -10,7 +10,7 @@ use lasp_fns::StoredPred;
 use lasp_orset::OrSet;
 use std::alloc::AllocError;
 
-/// The rows whose value passes, live and dead ones. It costs a call for each row; the rows are shared.
+/// The rows whose value passes, live and dead ones. It costs a call for each row; rows of texts, pairs and their tokens are shared.
 pub fn filter_set(p: &StoredPred, x: &OrSet) -> Result<OrSet, AllocError>
     requires width { IsSetOfWidth 16 x.now }
     ensures { IfOk result (λ s. s ≡ filter_set (passes (conditions_of p.now)) x.now) }
