@@ -3,14 +3,14 @@ use Rattle.std.proofs.Common.{◌≡◌, ℕ, ◌<◌, ◌≤◌, Bool, true, fa
 use Rattle.std.specs.Prelude.{slice_get, Some, Result, Ok, Err, OnOk, OnErr, IfOk, vec_len, ◌==◌}
 use Rattle.std.specs.List.{AllByRecursion}
 use Rattle.model_states.specs.Content.{Content, least}
-use Rattle.model_states.specs.Threshold.{suits, meets}
+use Rattle.model_states.specs.Threshold.{Threshold, suits, meets}
 use Rattle.model_graph.specs.Graph.{Decl, kind_at}
 use Rattle.model_graph.specs.Evaluation.{content_at, least_of}
 use Rattle.model_graph.specs.Lawful as lawful
 use Rattle.model_graph.specs.Lawful.{IsDerived}
 use Rattle.model_graph.proofs.PlaceLaws.{at-append, map-length}
 use Rattle.model_held.specs.Held.{IsHeld}
-use Rattle.model_held.proofs.EachLaws.{each-weaker}
+use Rattle.model_held.proofs.EachLaws.{each-append, each-weaker}
 use Rattle.model_journal.specs.Entry as model
 use Rattle.model_journal.specs.Entry.{Entry, Frame}
 use Rattle.model_journal.specs.Journal.{graph, val, vals}
@@ -32,11 +32,12 @@ use Rattle.lasp_graph.specs.States.{held_of, held_at}
 use Rattle.lasp_graph.specs.Evaluated.{number_by}
 use Rattle.lasp_core.specs.Entries.{entry_of, read_of}
 use Rattle.lasp_core.specs.Replica.{frame_of, entries_of, parts_of, IsReplica, Grows, Stays}
-use Rattle.lasp_core.specs.Jobs.{HasBound}
+use Rattle.lasp_core.specs.Jobs.{HasBound, counted_up}
 use Rattle.lasp_core.specs.Listed.{GoesOn}
-use Rattle.lasp_core.specs.Core.{core_of, IsSound, IsWatched, returned, IsStateOf}
+use Rattle.lasp_core.specs.Core.{core_of, IsSound, AreInOrder, IsOpen, IsWatched, opened_read, returned, IsStateOf}
 use Rattle.lasp_core.specs.declared.read.ReadNo.{ReadNo}
 use Rattle.lasp_core.specs.declared.replica.Replica.{Replica}
+use Rattle.lasp_core.proofs.OrderLaws.{order-kept, order-opened, order-pushed}
 use Rattle.lasp_core.proofs.ParkedLaws.{graph-length, state-shape, state-content, held-found}
 
 -- ---- facts of a frame and entries, along equations of them
@@ -61,7 +62,7 @@ entries-many r = r.journal.ok.0 ∙ sym (map-length entry_of r.journal.items)
 pub held-here : (r : Replica) → IsReplica r → IsHeld (frame_of r).nodes (graph (frame_of r) (entries_of r)) (peer_of (frame_of r) (entries_of r))
 held-here r is = subst (λ (g : List Decl). IsHeld (frame_of r).nodes g (peer_of (frame_of r) (entries_of r))) is.kept.graph is.held
 
-pub sound-core : (r : Replica) (reads : List ReadNo) (opened owed : ℕ) → IsSound r reads → IsCore (core_of r reads opened owed)
+pub sound-core : (r : Replica) (reads : List ReadNo) (opened owed : ℕ) → IsSound r reads opened → IsCore (core_of r reads opened owed)
 sound-core r reads opened owed is = record { legal = is.replica.legal; held = held-here r is.replica; few = is.replica.few; parked = is.parked }
 
 -- ---- parked reads are watched
@@ -107,9 +108,9 @@ watched new X h more is frames entries r p = record {
   after = λ i. version (frames i) (entries i) r.var
 
 -- the reads that were parked before an entry are watched after it
-pub all-watched : (old new : Replica) (reads : List ReadNo) (more : List Entry) (n : ℕ) → IsSound old reads → IsReplica new → frame_of new ≡ frame_of old → entries_of new ≡ entries_of old ++ more → n ≡ length (entries_of old)
+pub all-watched : (old new : Replica) (reads : List ReadNo) (opened : ℕ) (more : List Entry) (n : ℕ) → IsSound old reads opened → IsReplica new → frame_of new ≡ frame_of old → entries_of new ≡ entries_of old ++ more → n ≡ length (entries_of old)
     → AllByRecursion (IsWatched new n) (map read_of reads)
-all-watched old new reads more n sound is frames entries many =
+all-watched old new reads opened more n sound is frames entries many =
     subst (λ (m : ℕ). AllByRecursion (IsWatched new m) (map read_of reads)) (sym many)
     (each-weaker (IsParked (frame_of old) (entries_of old)) (IsWatched new (length (entries_of old))) (λ r p. watched new (frame_of old) (entries_of old) more is frames entries r p) (map read_of reads) sound.parked)
 
@@ -137,32 +138,34 @@ pub released-is : (old new : Replica) (e : Entry) (reads out : List ReadNo) (ope
     → map read_of out ≡ filter (λ r. is_met (frame_of new) (entries_of new) r) (map read_of reads) → map read_of out ≡ released e (core_of old reads opened owed)
 released-is old new e reads out opened owed frames entries met = met ∙ (λ i. filter (λ r. is_met (frames i) (entries i) r) (map read_of reads))
 
-pub entered-sound : (old new : Replica) (e : Entry) (reads rest : List ReadNo) → IsSound old reads → IsReplica new → frame_of new ≡ frame_of old → entries_of new ≡ entries_of old ++ e ∷ [] → Remain new reads rest → IsSound new rest
-entered-sound old new e reads rest sound is frames entries left = record {
+pub entered-sound : (old new : Replica) (e : Entry) (reads rest : List ReadNo) (opened : ℕ) → IsSound old reads opened → IsReplica new → frame_of new ≡ frame_of old → entries_of new ≡ entries_of old ++ e ∷ [] → Remain new reads rest → IsSound new rest opened
+entered-sound old new e reads rest opened sound is frames entries left = record {
   replica = is;
   parked = subst (λ (rs : List Read). AllByRecursion (IsParked (frame_of new) (entries_of new)) rs) (sym (remain-is old new e reads rest frames entries left))
       (along (λ (Z : Frame) (k : List Entry). AllByRecursion (IsParked Z k) c.parked) (frame_of old) (frame_of new) h (entries_of new) frames entries
-      (entered-core (core_of old reads 0 0) e (sound-core old reads 0 0 sound)
+      (entered-core (core_of old reads opened 0) e (sound-core old reads opened 0 sound)
       (back (λ (Z : Frame) (k : List Entry). IsLegal Z k) (frame_of old) (frame_of new) h (entries_of new) frames entries is.legal)
       (back (λ (Z : Frame) (k : List Entry). IsHeld Z.nodes (graph Z k) (peer_of Z k)) (frame_of old) (frame_of new) h (entries_of new) frames entries (held-here new is))).parked);
+  order = subst (AreInOrder opened) (sym left) (order-kept opened (λ r. not (is_met (frame_of new) (entries_of new) r)) (map read_of reads) sound.order);
 } where
   h : List Entry
   h = entries_of old ++ e ∷ []
 
   c : Core
-  c = entered e (core_of old reads 0 0)
+  c = entered e (core_of old reads opened 0)
 
 -- ---- the core after what is no entry
 
 -- a replica with the frame and the entries of another one may have its reads
-pub same-sound : (old new : Replica) (reads : List ReadNo) → IsSound old reads → IsReplica new → frame_of new ≡ frame_of old → entries_of new ≡ entries_of old → IsSound new reads
-same-sound old new reads sound is frames entries = record {
+pub same-sound : (old new : Replica) (reads : List ReadNo) (opened : ℕ) → IsSound old reads opened → IsReplica new → frame_of new ≡ frame_of old → entries_of new ≡ entries_of old → IsSound new reads opened
+same-sound old new reads opened sound is frames entries = record {
   replica = is;
   parked = along (λ (Z : Frame) (k : List Entry). AllByRecursion (IsParked Z k) (map read_of reads)) (frame_of old) (frame_of new) (entries_of old) (entries_of new) frames entries sound.parked;
+  order = sound.order;
 }
 
-pub stays-sound : (old new : Replica) (reads : List ReadNo) → IsSound old reads → Stays old new → IsSound new reads
-stays-sound old new reads sound stays = same-sound old new reads sound stays.sound stays.frame stays.entries
+pub stays-sound : (old new : Replica) (reads : List ReadNo) (opened : ℕ) → IsSound old reads opened → Stays old new → IsSound new reads opened
+stays-sound old new reads opened sound stays = same-sound old new reads opened sound stays.sound stays.frame stays.entries
 
 -- ---- declarations
 
@@ -177,12 +180,41 @@ parked-extended X h legal e d act r p = record {
   unmet = ap (λ (s : Content). meets r.threshold s) (extend-keeps X h legal e d act r.var p.declared) ∙ p.unmet;
 }
 
-pub declared-sound : (old new : Replica) (e : Entry) (d : Decl) (reads : List ReadNo) → e.act ≡ model.Extend d → IsSound old reads → Grows e old new → IsSound new reads
-declared-sound old new e d reads act sound grows = record {
+pub declared-sound : (old new : Replica) (e : Entry) (d : Decl) (reads : List ReadNo) (opened : ℕ) → e.act ≡ model.Extend d → IsSound old reads opened → Grows e old new → IsSound new reads opened
+declared-sound old new e d reads opened act sound grows = record {
   replica = grows.sound;
   parked = along (λ (Z : Frame) (k : List Entry). AllByRecursion (IsParked Z k) (map read_of reads)) (frame_of old) (frame_of new) (entries_of old ++ e ∷ []) (entries_of new) grows.frame grows.entries
       (each-weaker (IsParked (frame_of old) (entries_of old)) (IsParked (frame_of old) (entries_of old ++ e ∷ []))
       (λ r p. parked-extended (frame_of old) (entries_of old) sound.replica.legal e d act r p) (map read_of reads) sound.parked);
+  order = sound.order;
+}
+
+-- ---- opened reads
+
+pushed-reads : (reads : List ReadNo) (read : ReadNo) → map read_of (reads ++ read ∷ []) ≡ map read_of reads ++ read_of read ∷ []
+pushed-reads [] read = refl
+pushed-reads (r ∷ reads) read = ap (λ rest. read_of r ∷ rest) (pushed-reads reads read)
+
+-- a read was opened that isn't met, and is parked behind the others
+pub parked-sound : (r : Replica) (reads rest : List ReadNo) (opened owed next : ℕ) (c : Core) (read : ReadNo) (x : ℕ) (t : Threshold) → core_of r reads opened owed ≡ c → IsSound r reads opened → next ≡ counted_up opened 1
+    → IsOpen c.frame c.entries (opened_read c x t) → IsFalse (is_met c.frame c.entries (opened_read c x t)) → read_of read ≡ opened_read c x t → rest ≡ reads ++ read ∷ [] → IsSound r rest next
+parked-sound r reads rest opened owed next c read x t view sound counted may unmet is grown = record {
+  replica = sound.replica;
+  parked = subst (λ (rs : List Read). AllByRecursion (IsParked (frame_of r) (entries_of r)) rs) (sym list) (each-append (IsParked (frame_of r) (entries_of r)) (map read_of reads) (opened_read c x t ∷ []) sound.parked (waits, tt));
+  order = subst (AreInOrder next) (sym list) (subst (λ (n : ℕ). AreInOrder n (map read_of reads ++ opened_read c x t ∷ [])) (sym counted) (order-pushed opened (map read_of reads) (opened_read c x t) (ap (λ (s : Core). s.opened) (sym view)) sound.order));
+} where
+  list : map read_of rest ≡ map read_of reads ++ opened_read c x t ∷ []
+  list = ap (λ (rs : List ReadNo). map read_of rs) grown ∙ pushed-reads reads read ∙ ap (λ (p : Read). map read_of reads ++ p ∷ []) is
+
+  waits : IsParked (frame_of r) (entries_of r) (opened_read c x t)
+  waits = subst (λ (s : Core). IsParked s.frame s.entries (opened_read c x t)) (sym view) (record { declared = may.declared; suits_it = may.suits_it; unmet = unmet })
+
+-- one was opened that is met, and isn't parked
+pub counted-sound : (r : Replica) (reads : List ReadNo) (opened next : ℕ) → IsSound r reads opened → next ≡ counted_up opened 1 → IsSound r reads next
+counted-sound r reads opened next sound counted = record {
+  replica = sound.replica;
+  parked = sound.parked;
+  order = subst (λ (n : ℕ). AreInOrder n (map read_of reads)) (sym counted) (order-opened opened (map read_of reads) sound.order);
 }
 
 -- ---- closed reads
@@ -190,11 +222,12 @@ declared-sound old new e d reads act sound grows = record {
 abbrev pub Closed : ℕ → List ReadNo → List ReadNo → Type 0
 Closed number reads rest = map read_of rest ≡ filter (λ r. not (r.number == number)) (map read_of reads)
 
-pub closed-sound : (r : Replica) (number : ℕ) (reads rest : List ReadNo) → IsSound r reads → Closed number reads rest → IsSound r rest
-closed-sound r number reads rest sound closes = record {
+pub closed-sound : (r : Replica) (number : ℕ) (reads rest : List ReadNo) (opened : ℕ) → IsSound r reads opened → Closed number reads rest → IsSound r rest opened
+closed-sound r number reads rest opened sound closes = record {
   replica = sound.replica;
   parked = subst (λ (rs : List Read). AllByRecursion (IsParked (frame_of r) (entries_of r)) rs) (sym closes)
       (each-kept (IsParked (frame_of r) (entries_of r)) (IsParked (frame_of r) (entries_of r)) (λ x. not (x.number == number)) (λ x e p. p) (map read_of reads) sound.parked);
+  order = subst (AreInOrder opened) (sym closes) (order-kept opened (λ x. not (x.number == number)) (map read_of reads) sound.order);
 }
 
 -- ---- numbers of states

@@ -10,7 +10,9 @@ pub mod RaiseLaws
 pub mod TakenLaws
 pub mod RecordLaws
 pub mod DeliverLaws
+pub mod OrderLaws
 pub mod ParkedLaws
 pub mod CoresLaws
 pub mod NewsLaws
 pub mod LaterLaws
+pub mod JobLaws

@@ -1,5 +1,5 @@
 -- What a job of a variable has, and what a replica is once one is out or back.
-use Rattle.std.proofs.Common.{ℕ, pos, ◌≡◌, ◌<◌, ◌≤◌, ◌-◌, Bool, true, false, IsTrue, IsFalse, IfOk, Result, Ok, Err, List, length, map, take, get_or, Some, is_some, refl, sym, ap, subst, ◌∙◌, arith, slice_set, vec_len}
+use Rattle.std.proofs.Common.{ℕ, pos, ◌≡◌, ◌<◌, ◌≤◌, ◌-◌, Bool, true, false, IsTrue, IsFalse, IfOk, Result, Ok, Err, List, length, map, take, get_or, Option, Some, is_some, refl, sym, ap, subst, ◌∙◌, arith, slice_set, vec_len}
 use Rattle.std.specs.Option.{option_map}
 use Rattle.std.specs.Vec.{with_item}
 use Rattle.std.specs.Prelude.{slice_get}
@@ -18,6 +18,7 @@ use Rattle.model_replica.specs.Peer.{peer_of}
 use Rattle.model_journal.specs.Entry as model
 use Rattle.model_journal.specs.Entry.{Frame}
 use Rattle.model_journal.specs.Journal.{graph, vals}
+use Rattle.model_journal.specs.Clean.{base}
 use Rattle.lasp_state.specs.declared.state.State.{State}
 use Rattle.lasp_state.specs.declared.state.State.TheVariants as state
 use Rattle.lasp_state.specs.State.{content_of, shape_of}
@@ -29,7 +30,7 @@ use Rattle.lasp_history.specs.History.{rows_before}
 use Rattle.lasp_history.specs.Kept.{Kept}
 use Rattle.lasp_job.specs.Asked.{IsReadable, IsAsked}
 use Rattle.lasp_job.specs.declared.job.Job.{Job}
-use Rattle.model_core.specs.Parts.{Base, Parts, IsKept, has_two, first_input, second_input, history_at}
+use Rattle.model_core.specs.Parts.{Base, Parts, IsKept, IsBaseAt, has_two, first_input, second_input, history_at}
 use Rattle.model_core.specs.Reading.{IsSmallSet, HasChanged, IsOfItsKind, rows_since}
 use Rattle.model_core.proofs.PartLaws.{held-val, states-long}
 use Rattle.model_core.proofs.ReadLaws.{kept-all, kept-width, kept-read, kept-old, kept-change-first, kept-change-second}
@@ -37,7 +38,7 @@ use Rattle.lasp_core.specs.declared.process.Process.{Process}
 use Rattle.lasp_core.specs.declared.replica.Replica.{Replica}
 use Rattle.lasp_core.specs.Entries.{entry_of}
 use Rattle.lasp_core.specs.Replica.{base_of, jobs_of, frame_of, entries_of, busy_of, told, parts_of, IsReplica}
-use Rattle.lasp_core.specs.Jobs.{counted_up, AreShared, IsOwn, IsJobNow, HasStarted, HasStopped}
+use Rattle.lasp_core.specs.Jobs.{counted_up, AreShared, AreInputsOf, IsOwn, IsJobNow, HasStarted, HasStopped}
 use Rattle.lasp_core.proofs.ReplicaLaws.{replica-kept}
 use Rattle.lasp_core.proofs.SettledLaws.{base-found, jobs-found, process-derived, history-found, AreInputs}
 
@@ -280,6 +281,19 @@ made-copied r y p x z job n g inputs base old first second m c =
     (subst (λ (w : List Row). IsCopied r y p x z g inputs base old w job.second) (sym m.first_is)
     (subst (λ (w : List Row). IsCopied r y p x z g inputs base old first w) (sym m.second_is) c)))))
 
+-- what the process last read are its inputs as they were there
+base-inputs : (r : Replica) → IsReplica r → (y : ℕ) (p : Process) → slice_get r.processes.items y ≡ Some (Some p) → (copy : Inputs) → AreShared p.base copy
+    → AreInputsOf (kind_at (graph (frame_of r) (entries_of r)) y) (vals (frame_of r) (take (base (frame_of r) (entries_of r) y) (entries_of r))) copy
+base-inputs r ok y p found copy same =
+    let X = frame_of r in
+    let h = entries_of r in
+    let read : IsBaseAt X h (kind_at (arc_value r.graph) y) y (Some (base_of p)) = subst (λ (o : Option Base). IsBaseAt X h (kind_at (arc_value r.graph) y) y o) (base-found r y (Some p) found) (ok.kept.bases y (process-derived r ok y p found).declared) in
+    record {
+      two = same.two ∙ read.2.two ∙ ap (λ (l : List Decl). has_two (kind_at l y)) ok.kept.graph;
+      first = ap (λ (w : Held). w.content) same.first ∙ read.2.first ∙ (λ i. content_at (vals X (take (read.1 i) h)) (first_input (kind_at (ok.kept.graph i) y)));
+      second = ap (λ (w : Held). w.content) same.second ∙ read.2.second ∙ (λ i. content_at (vals X (take (read.1 i) h)) (second_input (kind_at (ok.kept.graph i) y)));
+    }
+
 pub taken : (r : Replica) → IsReplica r → (y : ℕ) (p : Process) → slice_get r.processes.items y ≡ Some (Some p) → (x z : ℕ) → AreInputs r y x z → (job : Job) (g : List Decl) (inputs base : Inputs) (old : State) (first second : List Row)
     → IsCopied r y p x z g inputs base old first second → IsMade job y (length (entries_of r)) g inputs base old first second → IsJobNow (frame_of r) (entries_of r) y job
 taken r ok y p found x z i job g inputs base old first second copied m =
@@ -308,6 +322,7 @@ taken r ok y p found x z i job g inputs base old first second copied m =
         gained = λ _. own;
       };
       own = own;
+      earlier = base-inputs r ok y p found job.base c.base_is;
       first = (first-changed r ok y p found x z i (arc_value job.graph) job.inputs job.base (arc_value job.before) job.first job.second c).rows_are;
       second = (second-changed r ok y p found x z i (arc_value job.graph) job.inputs job.base (arc_value job.before) job.first job.second c).rows_are;
     }

@@ -1,5 +1,5 @@
 -- A core as its replica with the reads that wait, and what its calls leave.
-use Rattle.std.specs.Prelude.{◌≡◌, ℕ, ◌+◌, ◌-◌, ◌==◌, ◌<◌, not, if◌then◌else◌, IsTrue, IsFalse, List, [], ◌∷◌, ◌++◌, length, map, filter, replicate, slice_set, slice_index_or, is_some}
+use Rattle.std.specs.Prelude.{◌≡◌, ℕ, ◌+◌, ◌-◌, ◌==◌, ◌<◌, ◌≤◌, ◌⊎◌, not, if◌then◌else◌, IsTrue, IsFalse, List, [], ◌∷◌, ◌++◌, length, map, filter, replicate, slice_set, slice_index_or, is_some}
 use Rattle.std.specs.List.{AllByRecursion}
 use Rattle.model_states.specs.Threshold.{Threshold, suits}
 use Rattle.model_graph.specs.Graph.{Decl, kind_at}
@@ -16,7 +16,7 @@ use Rattle.lasp_graph.specs.Evaluated.{number_by}
 use Rattle.lasp_job.specs.declared.job.Job.{Job}
 use Rattle.lasp_core.specs.Entries.{read_of}
 use Rattle.lasp_core.specs.Listed.{AreClean}
-use Rattle.lasp_core.specs.Jobs.{counted_up}
+use Rattle.lasp_core.specs.Jobs.{greatest_count, counted_up}
 use Rattle.lasp_core.specs.Replica.{frame_of, entries_of, busy_of, growths_at, IsReplica}
 use Rattle.lasp_core.specs.declared.read.ReadNo.{ReadNo}
 use Rattle.lasp_core.specs.declared.replica.Replica.{Replica}
@@ -24,10 +24,28 @@ use Rattle.lasp_core.specs.declared.replica.Replica.{Replica}
 abbrev pub core_of : Replica → List ReadNo → ℕ → ℕ → Core
 core_of r parked opened owed = record { frame = frame_of r; entries = entries_of r; parked = map read_of parked; busy = busy_of r; opened = opened; owed = owed }
 
--- the replica is what its journal says, and no parked read's variable has come to its threshold
-pub record IsSound (r : Replica) (reads : List ReadNo) : Type 0 where
+-- ---- the order of reads
+
+-- a number that was given out before another one: it is less, or both are the greatest, at which the count of opened reads stands still
+abbrev pub IsBefore : ℕ → ℕ → Type 0
+IsBefore m n = (m < n) ⊎ ((m ≡ greatest_count) × (n ≡ greatest_count))
+
+-- reads in the order in which they were opened: each has its number from before those behind it
+abbrev pub AreAscending : List Read → Type 0
+AreAscending [] = Unit {0}
+AreAscending (r ∷ reads) = AllByRecursion (λ s. IsBefore r.number s.number) reads × AreAscending reads
+
+-- the same of a core that opened so many reads: each of these has its number from before the next one
+pub record AreInOrder (opened : ℕ) (reads : List Read) : Type 0 where
+  pub ascend : AreAscending reads
+  pub before : AllByRecursion (λ r. IsBefore r.number opened) reads
+  pub counted : opened ≤ greatest_count
+
+-- the replica is what its journal says, no parked read's variable has come to its threshold, and the parked reads are in the order in which they were opened
+pub record IsSound (r : Replica) (reads : List ReadNo) (opened : ℕ) : Type 0 where
   pub replica : IsReplica r
   pub parked : AllByRecursion (IsParked (frame_of r) (entries_of r)) (map read_of reads)
+  pub order : AreInOrder opened (map read_of reads)
 
 -- a core to which nothing has happened
 abbrev pub fresh_core : List Decl → ℕ → ℕ → Core
@@ -103,6 +121,14 @@ pub record IsStateOf (c : Core) (x : ℕ) (s : State) : Type 0 where
   pub content : content_of s ≡ val c.frame c.entries x
   pub shape : shape_of s ≡ lawful.shape_of c.frame.nodes (kind_at (graph c.frame c.entries) x)
   pub number : IsDerived (graph c.frame c.entries) x → number_of s ≡ number_by (kind_at (graph c.frame c.entries) x) (content_of s)
+
+-- a variable's state after the entries, as plain data
+abbrev pub state_after : Frame → List Entry → ℕ → Held
+state_after X entries x = record {
+  shape = lawful.shape_of X.nodes (kind_at (graph X entries) x);
+  content = val X entries x;
+  number = number_by (kind_at (graph X entries) x) (val X entries x);
+}
 
 -- each state is one of its variable's kind, among so many nodes
 abbrev pub AreOfKind : ℕ → List Decl → List Held → Type 0

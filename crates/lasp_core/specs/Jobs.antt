@@ -1,6 +1,7 @@
 -- Jobs of a replica: which variable's is next, what a job has, and when a result is a job's.
-use Rattle.std.specs.Prelude.{◌≡◌, ◌≢◌, ℕ, ◌+◌, ◌-◌, ◌^◌, ◌<◌, ◌≤◌, min, ◌⊎◌, List, [], ◌∷◌, ◌++◌, length, take, slice_set, slice_index_or, is_some, IsSome}
+use Rattle.std.specs.Prelude.{◌≡◌, ◌≢◌, ℕ, ◌+◌, ◌-◌, ◌^◌, ◌<◌, ◌≤◌, min, ◌⊎◌, if◌then◌else◌, List, [], ◌∷◌, ◌++◌, length, take, slice_set, slice_index_or, is_some, IsSome}
 use Rattle.std.specs.Arc.{arc_value}
+use Rattle.model_values.specs.Row.{Row}
 use Rattle.model_states.specs.Content.{Content, size_of, row_limit}
 use Rattle.model_sets.specs.Equations.{changed}
 use Rattle.model_graph.specs.Graph.{Kind, kind_at}
@@ -9,7 +10,7 @@ use Rattle.model_graph.specs.Lawful.{IsDerived}
 use Rattle.model_journal.specs.Entry as model
 use Rattle.model_journal.specs.Entry.{Frame}
 use Rattle.model_journal.specs.Journal.{graph, vals, val}
-use Rattle.model_journal.specs.Clean.{IsClean, applied, version}
+use Rattle.model_journal.specs.Clean.{IsClean, applied, version, base}
 use Rattle.lasp_state.specs.declared.state.State.{State}
 use Rattle.lasp_state.specs.State as state
 use Rattle.lasp_graph.specs.States.{held_of}
@@ -22,9 +23,13 @@ use Rattle.lasp_core.specs.Replica.{frame_of, entries_of, busy_of, IsReplica}
 use Rattle.lasp_core.specs.declared.refused.NotYet.{NotYet}
 use Rattle.lasp_core.specs.declared.replica.Replica.{Replica}
 
+-- the greatest number of 64 bits
+abbrev pub greatest_count : ℕ
+greatest_count = 2 ^ 64 - 1
+
 -- a count that stands still at the greatest number of 64 bits
 abbrev pub counted_up : ℕ → ℕ → ℕ
-counted_up count more = min (count + more) (2 ^ 64 - 1)
+counted_up count more = min (count + more) greatest_count
 
 -- ---- which variable is next
 
@@ -80,6 +85,16 @@ pub record AreInputsOf (k : Kind) (contents : List Content) (inputs : Inputs) : 
   pub first : state.content_of (arc_value inputs.first) ≡ content_at contents (first_input k)
   pub second : state.content_of (second_of inputs) ≡ content_at contents (second_input k)
 
+-- the rows by which variable x changed since variable y last read its inputs
+abbrev pub unread : Frame → List model.Entry → ℕ → ℕ → List Row
+unread X entries y x = changed (val X (take (base X entries y) entries) x).rows (val X entries x).rows
+
+-- how many rows changed in the inputs of variable y since it last read them, in both where it has two
+abbrev pub unread_rows : Frame → List model.Entry → ℕ → ℕ
+unread_rows X entries y =
+    length (unread X entries y (first_input (kind_at (graph X entries) y)))
+    + (if has_two (kind_at (graph X entries) y) then length (unread X entries y (second_input (kind_at (graph X entries) y))) else 0)
+
 -- the same states
 pub record AreShared (inputs copy : Inputs) : Type 0 where
   pub first : held_of (arc_value copy.first) ≡ held_of (arc_value inputs.first)
@@ -98,12 +113,13 @@ pub record IsJobOf (X : Frame) (entries : List model.Entry) (job : Job) : Type 0
   pub inputs : AreInputsOf (kind_at (graph X entries) job.var) (vals X (take job.n entries)) job.inputs
   pub gained : IsSome job.gain → IsOwn X entries job
 
--- the job is one of the variable as it is, and isn't evaluated yet; its rows are those that changed between its base and its inputs
+-- the job is one of the variable as it is, and isn't evaluated yet; its base is the variable's inputs as it last read them, and its rows are those that changed between the two
 pub record IsJobNow (X : Frame) (entries : List model.Entry) (y : ℕ) (job : Job) : Type 0 where
   pub var : job.var ≡ y
   pub now : job.n ≡ length entries
   pub is : IsJobOf X entries job
   pub own : IsOwn X entries job
+  pub earlier : AreInputsOf (kind_at (graph X entries) y) (vals X (take (base X entries y) entries)) job.base
   pub first : job.first ≡ changed (state.content_of (arc_value job.base.first)).rows (state.content_of (arc_value job.inputs.first)).rows
   pub second : job.second ≡ changed (state.content_of (second_of job.base)).rows (state.content_of (second_of job.inputs)).rows
 

@@ -10,7 +10,7 @@ ghost use Rattle.model_journal.specs.Legal.{IsLegal};
 ghost use Rattle.model_replica.specs.Peer.{entry};
 ghost use Rattle.model_replica.specs.Core.{Core, is_met, entered, released};
 ghost use Rattle.lasp_core.specs.Jobs.{counted_up, IsUnclean, IsNext, IsJobOf, IsJobNow, IsResultOf};
-ghost use Rattle.lasp_core.specs.Core.{rows_of, taken, returned};
+ghost use Rattle.lasp_core.specs.Core.{rows_of, taken, returned, AreAscending};
 ghost use Rattle.lasp_core.specs.Listed.{IsLater, GoesOn, EndsWith, AreClean, HasLooked};
 
 use crate::read::Released;
@@ -92,6 +92,7 @@ pub trait Jobs {
         ensures bound { OnOk result (core self.new ≡ option_map (λ c. returned job.var (entered (entry (caller self.old) (model.Bind job.var job.n)) c)) (core self.old)) }
         ensures kept { OnErr result (core self.new ≡ core self.old) }
         ensures released { IfSome (core self.old) (λ c. IfOk result (λ reads. reads ≡ released (entry (caller self.old) (model.Bind job.var job.n)) c)) }
+        ensures ascending { IfOk result AreAscending }
         ensures owed { rows_owed self.new ≡ rows_owed self.old }
         ensures back { IfErr result (λ e. e.0 ≡ job) };
 

@@ -1,14 +1,15 @@
-//! What callers need of jobs and reads that others outrun. There is nothing to run here: each contract is a group of laws.
+//! What callers need of jobs and reads that others outrun, and what the entries tell of jobs and states. There is nothing to run here: each contract is a group of laws.
 
-ghost use Rattle.std.specs.Prelude.{List, ◌++◌, take};
+ghost use Rattle.std.specs.Prelude.{◌≡◌, ℕ, ◌<◌, List, length, ◌++◌, take};
 ghost use Rattle.model_graph.specs.Lawful.{IsDerived};
 ghost use Rattle.model_journal.specs.Entry.{Entry, Frame};
 ghost use Rattle.model_journal.specs.Journal.{graph};
 ghost use Rattle.lasp_state.specs.declared.state.State.{State};
 ghost use Rattle.lasp_job.specs.declared.job.Job.{Job};
-ghost use Rattle.model_replica.specs.Core.{Read};
-ghost use Rattle.lasp_core.specs.Core.{IsOpen};
-ghost use Rattle.lasp_core.specs.Jobs.{IsJobOf, IsResultOf};
+ghost use Rattle.model_replica.specs.Core.{Read, Core};
+ghost use Rattle.lasp_graph.specs.States.{held_of};
+ghost use Rattle.lasp_core.specs.Core.{IsOpen, rows_of, IsStateOf, state_after};
+ghost use Rattle.lasp_core.specs.Jobs.{IsJobOf, IsJobNow, IsResultOf, unread_rows};
 
 /// A job stays a job where the entries go on, and its results stay its results: who takes a job may let others add entries before its result is handed in.
 pub fn jobs_stay()
@@ -19,4 +20,14 @@ pub fn jobs_stay()
 /// A read that may be asked may be asked where the entries go on.
 pub fn reads_stay_open()
     ensures { (X : Frame) (entries more : List Entry) (r : Read) → IsOpen X entries r → IsOpen X (entries ++ more) r }
+{}
+
+/// The entries tell how many changed rows a job has: so many changed in its variable's inputs since the variable last read them.
+pub fn jobs_have_the_unread_rows()
+    ensures { (X : Frame) (entries : List Entry) (y : ℕ) (job : Job) → IsJobNow X entries y job → rows_of job ≡ unread_rows X entries y }
+{}
+
+/// The entries tell the state of a variable, with its shape and a fold's number: a state that is the variable's is this one.
+pub fn states_are_those_after_the_entries()
+    ensures { (c : Core) (x : ℕ) (s : State) → x < length (graph c.frame c.entries) → IsStateOf c x s → held_of s ≡ state_after c.frame c.entries x }
 {}

@@ -25,7 +25,9 @@ mod watched;
 
 pub use entry::{Act, Entry};
 pub use jobs::Jobs;
-pub use laws::{jobs_stay, reads_stay_open};
+pub use laws::{
+    jobs_have_the_unread_rows, jobs_stay, reads_stay_open, states_are_those_after_the_entries,
+};
 pub use read::{ReadNo, Released};
 pub use refused::{DeliverRefused, NotYet, UpdateRefused};
 pub use replica_core::Core;

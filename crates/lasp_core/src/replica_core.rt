@@ -25,7 +25,7 @@ ghost use Rattle.lasp_graph.specs.Evaluated.{number_by};
 ghost use Rattle.lasp_core.specs.Entries.{entry_of, read_of};
 ghost use Rattle.lasp_core.specs.Replica.{IsSmall, update_refusal, IsAnswered, IsDelivered};
 ghost use Rattle.lasp_core.specs.Jobs.{IsUnclean, IsFirst, IsNext, Lacks, IsJobOf, IsJobNow, IsResultOf};
-ghost use Rattle.lasp_core.specs.Core.{fresh_core, IsOpen, opened_read, opened, closed, rows_of, taken, returned, IsSettled, declared, IsStateOf, AreOfKind};
+ghost use Rattle.lasp_core.specs.Core.{fresh_core, IsOpen, opened_read, opened, closed, rows_of, taken, returned, IsSettled, declared, IsStateOf, AreOfKind, AreAscending, AreInOrder};
 
 use crate::entry::Entry;
 use crate::parked::{remove_read, split_met};
@@ -64,7 +64,7 @@ impl Model for Core {
 
     ghost view = { λ a. core_of a.replica a.parked.items a.opened a.owed };
 
-    ghost invariant = { λ a. IsSound a.replica a.parked.items };
+    ghost invariant = { λ a. IsSound a.replica a.parked.items a.opened };
 }
 
 impl Core {
@@ -95,6 +95,7 @@ impl Core {
         requires small { IsSmall self.old.frame.nodes op.now }
         ensures ok { OnOk result (self.new ≡ entered (entry by (model.Update var (op_of op.now))) self.old) }
         ensures released { IfOk result (λ reads. reads ≡ plain.released (entry by (model.Update var (op_of op.now))) self.old) }
+        ensures ascending { IfOk result AreAscending }
         ensures err { OnErr result (self.new ≡ self.old) }
         ensures answer { IsAnswered (update_refusal self.old.frame.nodes self.old.frame.replica (journal.graph self.old.frame self.old.entries) (journal.vals self.old.frame self.old.entries) (journal.counts self.old.frame self.old.entries) var op.now) result }
     {
@@ -114,6 +115,7 @@ impl Core {
     ) -> Result<Released, DeliverRefused>
         ensures ok { OnOk result (self.new ≡ entered (entry by (model.Deliver number (arc_value message.now))) self.old) }
         ensures released { IfOk result (λ reads. reads ≡ plain.released (entry by (model.Deliver number (arc_value message.now))) self.old) }
+        ensures ascending { IfOk result AreAscending }
         ensures err { OnErr result (self.new ≡ self.old) }
         ensures answer { IsDelivered self.old.frame.nodes (journal.graph self.old.frame self.old.entries) (journal.vals self.old.frame self.old.entries) (arc_value message.now) result }
     {
@@ -167,6 +169,7 @@ impl Core {
         requires result { IsResultOf self.old.frame self.old.entries job state }
         ensures ok { OnOk result (self.new ≡ returned job.var (entered (entry by (model.Bind job.var job.n)) self.old)) }
         ensures released { IfOk result (λ reads. reads ≡ plain.released (entry by (model.Bind job.var job.n)) self.old) }
+        ensures ascending { IfOk result AreAscending }
         ensures err { OnErr result (self.new ≡ self.old) }
         ensures back { IfErr result (λ e. e.0 ≡ job) }
     {
@@ -299,9 +302,11 @@ impl Core {
         &self.replica.graph
     }
 
-    /// Recalls, at no cost, what holds of every core: its journal is legal, its sources may stand in messages, and no parked read's variable has come to the threshold.
+    /// Recalls, at no cost, what holds of every core: its journal is legal, its sources may stand in messages, no parked read's variable has come to the threshold, the parked reads stand in the order in which they were opened, and there is a count of jobs that are out for each variable.
     pub fn recall(&self)
-        ensures { plain.IsCore self.now }
+        ensures core { plain.IsCore self.now }
+        ensures order { AreInOrder self.now.opened self.now.parked }
+        ensures busy { length self.now.busy ≡ length (journal.graph self.now.frame self.now.entries) }
     {
         let _ = &self.replica;
     }

@@ -2,10 +2,9 @@
 
 ghost use Rattle.std.specs.Prelude.{◌≡◌, ◌<◌, ◌≤◌, ◌↔◌, ℕ, IfOk, IfSome, OnOk, is_some};
 ghost use Rattle.std.specs.Arc.{arc_value};
-ghost use Rattle.model_states.specs.Content.{Content};
 ghost use Rattle.model_states.specs.Threshold.{meets};
 ghost use Rattle.model_replica.specs.Core.{Read};
-ghost use Rattle.lasp_state.specs.State.{content_of};
+ghost use Rattle.lasp_graph.specs.States.{Held, held_of};
 ghost use Rattle.lasp_core.specs.Entries.{read_of};
 ghost use Rattle.lasp_core.specs.Watched.{IsBusy};
 
@@ -45,8 +44,8 @@ pub trait Watched {
     // how often it looked at its replica
     ghost looks: { Self → ℕ };
 
-    // the content of a variable, as it knows it
-    ghost now: { Self → ℕ → Content };
+    // the state of a variable as it knows it: its shape, its content, a fold's number
+    ghost now: { Self → ℕ → Held };
 
     // it knows all that there was when it looked last
     ghost IsFresh: { Self → Type 0 };
@@ -64,6 +63,6 @@ pub trait Watched {
         ensures busy { IsBusy result ↔ (misses self.old < misses self.new) }
         ensures looked { OnOk result (looks self.old < looks self.new) }
         ensures fresh { OnOk result (IsFresh self.new) }
-        ensures met { IfOk result (λ found. is_some found ≡ meets (read_of r.now).threshold (now self.new (read_of r.now).var)) }
-        ensures state { IfOk result (λ found. IfSome found (λ s. content_of (arc_value s) ≡ now self.new (read_of r.now).var)) };
+        ensures met { IfOk result (λ found. is_some found ≡ meets (read_of r.now).threshold (now self.new (read_of r.now).var).content) }
+        ensures state { IfOk result (λ found. IfSome found (λ s. held_of (arc_value s) ≡ now self.new (read_of r.now).var)) };
 }

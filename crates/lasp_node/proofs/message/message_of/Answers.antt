@@ -12,12 +12,12 @@ message_of-requires-clause-lawful c =
     let core = c.args.core.now in
     subst (λ (m : Message). IsMessage m)
     (sym (message-same core.frame core.entries c.deref-2.result.now c.states.result.now c.as_slice.result.now (c.deref-2.ensures ∙ c.graph-graph.ensures) c.states.ensures.contents (c.as_slice.ensures ∙ c.counts.ensures)))
-    (message-lawful core c.recall.ensures (subst (λ (g : List Decl). IsGraph g) (c.deref.ensures ∙ c.graph-graph.ensures) c.recall-2.ensures))
+    (message-lawful core c.recall.ensures.core (subst (λ (g : List Decl). IsGraph g) (c.deref.ensures ∙ c.graph-graph.ensures) c.recall-2.ensures))
 
 pub message_of-requires-clause-long : goal.message_of-requires-clause-long
 message_of-requires-clause-long c =
     let core = c.args.core.now in
-    states-long core.frame core.entries c.recall.ensures.legal c.deref-2.result.now c.states.result.now (c.deref-2.ensures ∙ c.graph-graph.ensures) c.states.ensures.contents
+    states-long core.frame core.entries c.recall.ensures.core.legal c.deref-2.result.now c.states.result.now (c.deref-2.ensures ∙ c.graph-graph.ensures) c.states.ensures.contents
 
 pub returns : goal.returns
 returns c =

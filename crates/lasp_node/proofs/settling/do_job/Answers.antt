@@ -25,7 +25,7 @@ pub returns-in-Ok-finish-clause-bound : goal.returns-in-Ok-finish-clause-bound
 returns-in-Ok-finish-clause-bound g c =
     let is : c.finish.new.self ≡ returned c.args.job.var (entered (entry 0 (Bind c.args.job.var c.args.job.n)) c.args.core.now) =
     c.in-Ok-finish.ensures.ok ∙ (λ i. returned (c.in-Ok.ensures.var.0 i) (entered (entry 0 (Bind (c.in-Ok.ensures.var.0 i) (c.in-Ok.ensures.var.1 i))) c.args.core.now)) in
-    bound-done c.args.core.now c.finish.new.self 0 c.args.job.var c.args.job.n refl is c.recall.ensures.legal
+    bound-done c.args.core.now c.finish.new.self 0 c.args.job.var c.args.job.n refl is c.recall.ensures.core.legal
     (job-derived c.args.core.now.frame c.args.core.now.entries c.args.job.var c.args.job c.requires.job) c.requires.out
 
 pub returns-in-Ok-finish-clause-clean : goal.returns-in-Ok-finish-clause-clean
@@ -33,12 +33,12 @@ returns-in-Ok-finish-clause-clean g c =
     let is : c.finish.new.self ≡ returned c.args.job.var (entered (entry 0 (Bind c.args.job.var c.args.job.n)) c.args.core.now) =
     c.in-Ok-finish.ensures.ok ∙ (λ i. returned (c.in-Ok.ensures.var.0 i) (entered (entry 0 (Bind (c.in-Ok.ensures.var.0 i) (c.in-Ok.ensures.var.1 i))) c.args.core.now)) in
     clean-done c.args.core.now c.finish.new.self 0 c.args.job.var c.args.job.n refl is
-    (job-legal c.args.core.now.frame c.args.core.now.entries c.args.job.var c.args.job c.requires.job c.recall.ensures.legal 0 (content_of c.in-Ok.state) c.in-Ok.ensures.content.0 c.in-Ok.ensures.content.1)
+    (job-legal c.args.core.now.frame c.args.core.now.entries c.args.job.var c.args.job c.requires.job c.recall.ensures.core.legal 0 (content_of c.in-Ok.state) c.in-Ok.ensures.content.0 c.in-Ok.ensures.content.1)
     c.requires.job.now c.requires.below
 
 pub returns-in-Err-TooManyRows-clause-large : goal.returns-in-Err-TooManyRows-clause-large
 returns-in-Err-TooManyRows-clause-large g c =
-    job-large c.args.core.now.frame c.args.core.now.entries c.args.job.var c.args.job c.requires.job c.recall.ensures.legal c.requires.below
+    job-large c.args.core.now.frame c.args.core.now.entries c.args.job.var c.args.job c.requires.job c.recall.ensures.core.legal c.requires.below
     (subst (λ (e : EvalRefused). Becomes (Err e) (process (kind_at (arc_value c.args.job.graph) c.args.job.var) (content_of (arc_value c.args.job.inputs.first)) (content_of (second_of c.args.job.inputs))))
     c.in-Err-TooManyRows.field-0-is c.in-Err-TooManyRows.ensures.content)
     ∙ ap (λ (x : ℕ). Some x) (sym c.in-Err-TooManyRows.ensures.var.0)
@@ -46,14 +46,14 @@ returns-in-Err-TooManyRows-clause-large g c =
 pub returns-in-Ok-clause-bound : goal.returns-in-Ok-clause-bound
 returns-in-Ok-clause-bound g c =
     let var : c.in-Err.job.var ≡ c.args.job.var = ap (λ (j : Job). j.var) c.in-Err.ensures.back ∙ c.in-Ok.ensures.var.0 in
-    bound-back c.args.core.now c.give_back.new.self c.args.job.var c.recall.ensures (c.give_back.ensures ∙ (λ i. returned (var i) (c.in-Err.ensures.err i))) c.requires.out
+    bound-back c.args.core.now c.give_back.new.self c.args.job.var c.recall.ensures.core (c.give_back.ensures ∙ (λ i. returned (var i) (c.in-Err.ensures.err i))) c.requires.out
 
 pub returns-in-Err-TooManyRows-clause-bound : goal.returns-in-Err-TooManyRows-clause-bound
 returns-in-Err-TooManyRows-clause-bound g c =
-    bound-back c.args.core.now c.give_back-in-Err-TooManyRows.new.self c.args.job.var c.recall.ensures
+    bound-back c.args.core.now c.give_back-in-Err-TooManyRows.new.self c.args.job.var c.recall.ensures.core
     (c.give_back-in-Err-TooManyRows.ensures ∙ (λ i. returned (c.in-Err-TooManyRows.ensures.var.0 i) c.args.core.now)) c.requires.out
 
 pub returns-clause-bound : goal.returns-clause-bound
 returns-clause-bound g c =
-    bound-back c.args.core.now c.give_back-in-Err-Memory.new.self c.args.job.var c.recall.ensures
+    bound-back c.args.core.now c.give_back-in-Err-Memory.new.self c.args.job.var c.recall.ensures.core
     (c.give_back-in-Err-Memory.ensures ∙ (λ i. returned (c.in-Err-Memory.ensures.var.0 i) c.args.core.now)) c.requires.out

@@ -42,14 +42,14 @@ returns-in-None-clause-shown g c =
     (subst (λ (o : Option Job). IfNone o (IsSettled c.loop-turn.core)) c.in-None.is c.in_ok-take.ensures.none)
 
 pub loop-turn-init : goal.loop-turn-init
-loop-turn-init g c = record { within = omega arith; core = c.recall.ensures; bound = bound-start c.args.core.now c.recall.ensures c.requires.idle; clean = λ y low. absurd (omega (arith, low)); library = refl }
+loop-turn-init g c = record { within = omega arith; core = c.recall.ensures.core; bound = bound-start c.args.core.now c.recall.ensures.core c.requires.idle; clean = λ y low. absurd (omega (arith, low)); library = refl }
 
 pub returns-in_err-done-in-Some-clause-bound : goal.returns-in_err-done-in-Some-clause-bound
 returns-in_err-done-in-Some-clause-bound g c =
     let core = c.loop-turn.core in
     let job = c.in-Some.job in
     let is : c.take.new.self ≡ taken job.var (rows_of job) core = subst (λ (o : Option Job). IfSome o (λ j. c.take.new.self ≡ taken j.var (rows_of j) core)) c.in-Some.is c.in_ok-take.ensures.taken in
-    bound-more c.args.core.now core c.take.new.self c.do_job-done.new.core job.var (rows_of job) c.recall-in-Some.ensures.legal is c.loop-turn.invariant.bound c.do_job-done.ensures.bound
+    bound-more c.args.core.now core c.take.new.self c.do_job-done.new.core job.var (rows_of job) c.recall-in-Some.ensures.core.legal is c.loop-turn.invariant.bound c.do_job-done.ensures.bound
 
 pub loop-turn-preserved : goal.loop-turn-preserved
 loop-turn-preserved g c =
@@ -60,8 +60,8 @@ loop-turn-preserved g c =
     let turn = turn-taken core c.take.new.self c.loop-turn.turn job.var (rows_of job) c.loop-turn.invariant.bound.idle c.loop-turn.invariant.clean next is in
     record {
       within = omega (arith, turn.late, turn.declared, ap (λ (ds : List Decl). length ds) c.loop-turn.invariant.bound.graph_is);
-      core = c.recall-in-Some.ensures;
-      bound = bound-more c.args.core.now core c.take.new.self c.do_job-done.new.core job.var (rows_of job) c.recall-in-Some.ensures.legal is c.loop-turn.invariant.bound c.do_job-done.ensures.bound;
+      core = c.recall-in-Some.ensures.core;
+      bound = bound-more c.args.core.now core c.take.new.self c.do_job-done.new.core job.var (rows_of job) c.recall-in-Some.ensures.core.legal is c.loop-turn.invariant.bound c.do_job-done.ensures.bound;
       clean = λ y low. c.in_ok-done-in-Some.ensures.clean y (omega (arith, low, turn.late));
       library = c.do_job-done.ensures.library ∙ c.loop-turn.invariant.library;
     }

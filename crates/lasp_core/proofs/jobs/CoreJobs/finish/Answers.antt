@@ -5,7 +5,7 @@ use Rattle.lasp_core.proofs.jobs.CoreJobs.finish.Goals as goal
 
 pub returns-clause-met : goal.returns-clause-met
 returns-clause-met c =
-    finished-met c.args.self.now c.finish.new.self (entry 0 (model.Bind c.args.job.var c.args.job.n)) c.args.job.var c.recall.ensures c.finish.result c.finish.ensures.ok c.finish.ensures.released
+    finished-met c.args.self.now c.finish.new.self (entry 0 (model.Bind c.args.job.var c.args.job.n)) c.args.job.var c.recall.ensures.core c.finish.result c.finish.ensures.ok c.finish.ensures.released
 
 pub returns-clause-err : goal.returns-clause-err
 returns-clause-err c = refused-goes-on c.args.self.now c.finish.new.self c.finish.result c.finish.ensures.err

@@ -1,7 +1,11 @@
-use Rattle.std.proofs.Common.{◌∷◌, [], ◌∙◌}
+use Rattle.std.proofs.Common.{◌∷◌, [], map, ◌∙◌}
 use Rattle.std.specs.Arc.{arc_value}
 use Rattle.model_journal.specs.Entry as model
 use Rattle.model_replica.specs.Peer.{entry}
+use Rattle.model_replica.specs.Core.{is_met}
+use Rattle.lasp_core.specs.Entries.{read_of}
+use Rattle.lasp_core.specs.Replica.{frame_of, entries_of}
+use Rattle.lasp_core.proofs.OrderLaws.{passed-ascend}
 use Rattle.lasp_core.proofs.CoresLaws.{all-watched, entered-sound, entries-many}
 use Rattle.lasp_core.proofs.replica_core.Core.deliver.Goals as goal
 
@@ -9,10 +13,15 @@ pub split_met-requires-clause-reads : goal.split_met-requires-clause-reads
 split_met-requires-clause-reads c =
     let goes = c.in_ok-deliver.ensures.ok in
     let e = entry c.args.by (model.Deliver c.args.number (arc_value c.args.message.now)) in
-    all-watched c.self.inside.replica c.deliver.new.self c.self.inside.parked.items (e ∷ []) c.len-n.result c.self.invariant goes.sound goes.frame goes.entries (c.len-n.ensures ∙ entries-many c.self.inside.replica)
+    all-watched c.self.inside.replica c.deliver.new.self c.self.inside.parked.items c.self.inside.opened (e ∷ []) c.len-n.result c.self.invariant goes.sound goes.frame goes.entries (c.len-n.ensures ∙ entries-many c.self.inside.replica)
 
 pub invariant_of-self-2 : goal.invariant_of-self-2
 invariant_of-self-2 c =
     let goes = c.in_ok-deliver.ensures.ok in
     let e = entry c.args.by (model.Deliver c.args.number (arc_value c.args.message.now)) in
-    entered-sound c.self.inside.replica c.deliver.new.self e c.self.inside.parked.items c.split_met.new.parked.items c.self.invariant goes.sound goes.frame goes.entries c.split_met.ensures.parked
+    entered-sound c.self.inside.replica c.deliver.new.self e c.self.inside.parked.items c.split_met.new.parked.items c.self.inside.opened c.self.invariant goes.sound goes.frame goes.entries c.split_met.ensures.parked
+
+pub returns-clause-ascending : goal.returns-clause-ascending
+returns-clause-ascending c =
+    let new = c.deliver.new.self in
+    passed-ascend (λ r. is_met (frame_of new) (entries_of new) r) (map read_of c.self.inside.parked.items) c.of.result c.self.invariant.order.ascend (c.of.ensures ∙ c.split_met.ensures.released)

@@ -12,7 +12,8 @@ invariant_of-self c =
     let old = c.self.inside.replica in
     let new = c.extend.new.self in
     let reads = c.self.inside.parked.items in
+    let opened = c.self.inside.opened in
     let d = decl_of c.args.decl.now in
     let e = entry c.args.by (model.Extend d) in
-    either-way (Grows e old new) (Stays old new) (IsSound new reads) c.extend.result c.extend.ensures.ok c.extend.ensures.err
-    (λ grows. declared-sound old new e d reads refl c.self.invariant grows) (λ stays. stays-sound old new reads c.self.invariant stays)
+    either-way (Grows e old new) (Stays old new) (IsSound new reads opened) c.extend.result c.extend.ensures.ok c.extend.ensures.err
+    (λ grows. declared-sound old new e d reads opened refl c.self.invariant grows) (λ stays. stays-sound old new reads opened c.self.invariant stays)

@@ -1,8 +1,11 @@
-use Rattle.std.proofs.Common.{◌≡◌, ◌∷◌, [], ◌∙◌, subst}
+use Rattle.std.proofs.Common.{◌≡◌, ◌∷◌, [], map, ◌∙◌, subst}
 use Rattle.model_journal.specs.Entry as model
 use Rattle.model_replica.specs.Peer.{entry}
-use Rattle.model_replica.specs.Core.{Core, entered, released}
+use Rattle.model_replica.specs.Core.{Core, is_met, entered, released}
 use Rattle.lasp_core.specs.Core.{core_of, returned}
+use Rattle.lasp_core.specs.Entries.{read_of}
+use Rattle.lasp_core.specs.Replica.{frame_of, entries_of}
+use Rattle.lasp_core.proofs.OrderLaws.{passed-ascend}
 use Rattle.lasp_core.proofs.CoresLaws.{all-watched, entered-sound, entries-many, bound-is, released-is}
 use Rattle.lasp_core.proofs.replica_core.Core.finish.Goals as goal
 
@@ -10,13 +13,13 @@ pub split_met-requires-clause-reads : goal.split_met-requires-clause-reads
 split_met-requires-clause-reads c =
     let bound = c.in_ok-finish-in-Ok.ensures.ok in
     let e = entry c.args.by (model.Bind c.args.job.var c.args.job.n) in
-    all-watched c.self.inside.replica c.finish.new.self c.self.inside.parked.items (e ∷ []) c.len-n.result c.self.invariant bound.sound bound.frame bound.entries (c.len-n.ensures ∙ entries-many c.self.inside.replica)
+    all-watched c.self.inside.replica c.finish.new.self c.self.inside.parked.items c.self.inside.opened (e ∷ []) c.len-n.result c.self.invariant bound.sound bound.frame bound.entries (c.len-n.ensures ∙ entries-many c.self.inside.replica)
 
 pub invariant_of-self-in-Ok : goal.invariant_of-self-in-Ok
 invariant_of-self-in-Ok c =
     let bound = c.in_ok-finish-in-Ok.ensures.ok in
     let e = entry c.args.by (model.Bind c.args.job.var c.args.job.n) in
-    entered-sound c.self.inside.replica c.finish.new.self e c.self.inside.parked.items c.split_met.new.parked.items c.self.invariant bound.sound bound.frame bound.entries c.split_met.ensures.parked
+    entered-sound c.self.inside.replica c.finish.new.self e c.self.inside.parked.items c.split_met.new.parked.items c.self.inside.opened c.self.invariant bound.sound bound.frame bound.entries c.split_met.ensures.parked
 
 pub returns-in_ok-finish-in-Ok-clause-ok : goal.returns-in_ok-finish-in-Ok-clause-ok
 returns-in_ok-finish-in-Ok-clause-ok c =
@@ -30,3 +33,8 @@ returns-in_ok-finish-in-Ok-clause-released c =
     let e = entry c.args.by (model.Bind c.args.job.var c.args.job.n) in
     subst (λ (s : Core). c.of.result ≡ released e s) c.self.view_is
     (c.of.ensures ∙ released-is c.self.inside.replica c.finish.new.self e c.self.inside.parked.items c.split_met.new.released.items c.self.inside.opened c.self.inside.owed bound.frame bound.entries c.split_met.ensures.released)
+
+pub returns-in_ok-finish-in-Ok-clause-ascending : goal.returns-in_ok-finish-in-Ok-clause-ascending
+returns-in_ok-finish-in-Ok-clause-ascending c =
+    let new = c.finish.new.self in
+    passed-ascend (λ r. is_met (frame_of new) (entries_of new) r) (map read_of c.self.inside.parked.items) c.of.result c.self.invariant.order.ascend (c.of.ensures ∙ c.split_met.ensures.released)

@@ -1,5 +1,5 @@
-use Rattle.std.proofs.Common.{◌≡◌, List, sym, subst}
-use Rattle.model_graph.specs.Graph.{Decl, kind_at}
+use Rattle.std.proofs.Common.{◌≡◌, subst}
+use Rattle.model_graph.specs.Graph.{kind_at}
 use Rattle.model_graph.specs.Lawful.{IsDerived}
 use Rattle.model_journal.specs.Journal.{graph}
 use Rattle.model_replica.specs.Core.{Core}

@@ -30,8 +30,8 @@ returns-clause-done c =
     let expected = delivered (graph core.frame core.entries) m (peer_of core.frame core.entries) in
     let new = peer_of c.deliver.new.self.frame c.deliver.new.self.entries in
     elim c.match-deliver.branch [
-      | in-Ok w ↦ subst (λ (r : Result (Unit {0}) NodeStop). Delivers expected r new) (sym w.result-is) (delivered-ok core c.deliver.new.self 0 c.args.i m c.recall.ensures.legal w.in-Ok.ensures.ok w.in-Ok.ensures.answer.1)
+      | in-Ok w ↦ subst (λ (r : Result (Unit {0}) NodeStop). Delivers expected r new) (sym w.result-is) (delivered-ok core c.deliver.new.self 0 c.args.i m c.recall.ensures.core.legal w.in-Ok.ensures.ok w.in-Ok.ensures.answer.1)
       | in-Err-TooManyRows w ↦ subst (λ (r : Result (Unit {0}) NodeStop). Delivers expected r new) (sym w.result-is)
-          (delivered-large core m w.in-Err-TooManyRows.field-0 w.in-Err-TooManyRows.x c.recall.ensures.legal w.in-Err-TooManyRows.field-0-is w.in-Err-TooManyRows.ensures.answer)
+          (delivered-large core m w.in-Err-TooManyRows.field-0 w.in-Err-TooManyRows.x c.recall.ensures.core.legal w.in-Err-TooManyRows.field-0-is w.in-Err-TooManyRows.ensures.answer)
       | in-Err-Memory w ↦ subst (λ (r : Result (Unit {0}) NodeStop). Delivers expected r new) (sym w.result-is) tt
     ]

@@ -27,4 +27,4 @@ returns-clause-peer c d is =
     let core = c.args.self.now.core in
     let last = last-decl (graph core.frame core.entries) (arc_value c.args.graph.now) c.deref.result.now c.deref-2.result.now d (decl_of c.at.result.now) c.len.result
     is c.deref.ensures c.deref-2.ensures c.len.ensures.graph c.len.ensures.count c.at.ensures.decl in
-    on-ok c.extend.result (extended-peer core c.extend.new.self 0 (decl_of c.at.result.now) d c.recall.ensures.legal last.same) c.extend.ensures.ok
+    on-ok c.extend.result (extended-peer core c.extend.new.self 0 (decl_of c.at.result.now) d c.recall.ensures.core.legal last.same) c.extend.ensures.ok

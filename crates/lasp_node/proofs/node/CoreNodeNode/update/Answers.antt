@@ -20,7 +20,7 @@ returns-clause-node c =
 pub returns-clause-done : goal.returns-clause-done
 returns-clause-done c =
     let core = c.args.self.now.core in
-    let fit : IsFit core c.args.x c.args.op.now = record { legal = c.recall.ensures.legal; within = c.requires.var; may = c.requires.op; suits = c.requires.suits; room = c.requires.room } in
+    let fit : IsFit core c.args.x c.args.op.now = record { legal = c.recall.ensures.core.legal; within = c.requires.var; may = c.requires.op; suits = c.requires.suits; room = c.requires.room } in
     let expected = updated core.frame.replica c.args.x (op_of c.args.op.now) (peer_of core.frame core.entries) in
     let new = peer_of c.update.new.self.frame c.update.new.self.entries in
     elim c.match-update.branch [

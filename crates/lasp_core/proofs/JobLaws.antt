@@ -1,0 +1,88 @@
+-- What the entries tell of a job that was just handed out, and of the states that are shown.
+use Rattle.std.proofs.Common.{◌≡◌, ℕ, ◌<◌, pos, Bool, true, false, List, length, take, refl, sym, ap, ◌∙◌, ◌+◌, if◌then◌else◌}
+use Rattle.std.specs.Prelude.{is_some}
+use Rattle.std.specs.Arc.{arc_value}
+use Rattle.std.proofs.Math.Seq.{take-length}
+use Rattle.model_sets.specs.Equations.{changed}
+use Rattle.model_states.specs.Content.{Content}
+use Rattle.model_states.specs.Threshold.{fold}
+use Rattle.model_graph.specs.Graph.{Kind, OrSet, GSet, Counter, MaxReg, Union, Product, Intersection, Map, Filter, Fold, is_source, kind_at}
+use Rattle.model_graph.specs.Evaluation.{content_at}
+use Rattle.model_graph.specs.Lawful as lawful
+use Rattle.model_journal.specs.Entry.{Entry, Frame}
+use Rattle.model_journal.specs.Journal.{graph, val, vals}
+use Rattle.model_replica.specs.Core.{Core}
+use Rattle.lasp_state.specs.declared.state.State.{State}
+use Rattle.lasp_state.specs.declared.state.State.TheVariants as state
+use Rattle.lasp_state.specs.State.{content_of, shape_of, number_of}
+use Rattle.lasp_graph.specs.States.{held_of}
+use Rattle.lasp_graph.specs.Evaluated.{second_of, number_by}
+use Rattle.lasp_job.specs.declared.job.Job.{Job}
+use Rattle.model_core.specs.Parts.{first_input, second_input, has_two}
+use Rattle.lasp_core.specs.Jobs.{IsJobNow, unread, unread_rows}
+use Rattle.lasp_core.specs.Core.{rows_of, IsStateOf, state_after}
+
+-- ---- the rows of a job
+
+module _ (X : Frame) (h : List Entry) (y : ℕ) (job : Job) (now : IsJobNow X h y job) where
+  -- what its inputs hold is what stands now
+  present : (place : Kind → ℕ) (c : Content) → c ≡ content_at (vals X (take job.n h)) (place (kind_at (graph X h) job.var)) → c ≡ val X h (place (kind_at (graph X h) y))
+  present place c is = is ∙ (λ i. content_at (vals X (take (now.now i) h)) (place (kind_at (graph X h) (now.var i)))) ∙ ap (λ (k : List Entry). content_at (vals X k) (place (kind_at (graph X h) y))) (take-length h)
+
+  first-unread : job.first ≡ unread X h y (first_input (kind_at (graph X h) y))
+  first-unread = now.first ∙ (λ i. changed (now.earlier.first i).rows (present first_input (content_of (arc_value job.inputs.first)) now.is.inputs.first i).rows)
+
+  second-unread : job.second ≡ unread X h y (second_input (kind_at (graph X h) y))
+  second-unread = now.second ∙ (λ i. changed (now.earlier.second i).rows (present second_input (content_of (second_of job.inputs)) now.is.inputs.second i).rows)
+
+  two-inputs : is_some job.inputs.second ≡ has_two (kind_at (graph X h) y)
+  two-inputs = now.is.inputs.two ∙ ap (λ (z : ℕ). has_two (kind_at (graph X h) z)) now.var
+
+  pub rows-unread : rows_of job ≡ unread_rows X h y
+  rows-unread i = length (first-unread i) + (if two-inputs i then length (second-unread i) else 0)
+
+-- ---- the state of a variable
+
+source-number : (k : Kind) (c : Content) → is_source k ≡ true → number_by k c ≡ pos 0
+source-number OrSet c source = refl
+source-number GSet c source = refl
+source-number Counter c source = refl
+source-number MaxReg c source = refl
+source-number (Union x y) c source = refl
+source-number (Product x y) c source = refl
+source-number (Intersection x y) c source = refl
+source-number (Map x place ops) c source = refl
+source-number (Filter x place ops) c source = refl
+source-number (Fold x op place lift) c source = cc
+
+no-fold : (nodes : ℕ) (k : Kind) → is_source k ≡ true → lawful.shape_of nodes k ≡ fold → ⊥
+no-fold nodes OrSet source e = cc
+no-fold nodes GSet source e = cc
+no-fold nodes Counter source e = cc
+no-fold nodes MaxReg source e = cc
+no-fold nodes (Union x y) source e = cc
+no-fold nodes (Product x y) source e = cc
+no-fold nodes (Intersection x y) source e = cc
+no-fold nodes (Map x place ops) source e = cc
+no-fold nodes (Filter x place ops) source e = cc
+no-fold nodes (Fold x op place lift) source e = cc
+
+-- what is no fold has no number
+no-number : (s : State) → (shape_of s ≡ fold → ⊥) → number_of s ≡ pos 0
+no-number (state.Set rows) other = refl
+no-number (state.Grow values) other = refl
+no-number (state.Count counts) other = refl
+no-number (state.Max m) other = refl
+no-number (state.Fold rows n) other = absurd (other refl)
+
+pub state-told : (c : Core) (x : ℕ) (s : State) → x < length (graph c.frame c.entries) → IsStateOf c x s → held_of s ≡ state_after c.frame c.entries x
+state-told c x s low is = (λ i. record { shape = is.shape i; content = is.content i; number = number i }) where
+  k : Kind
+  k = kind_at (graph c.frame c.entries) x
+
+  choose : (b : Bool) → is_source k ≡ b → number_of s ≡ number_by k (val c.frame c.entries x)
+  choose true source = no-number s (λ e. no-fold c.frame.nodes k source (sym is.shape ∙ e)) ∙ sym (source-number k (val c.frame c.entries x) source)
+  choose false process = is.number (record { declared = low; process = process }) ∙ ap (λ (t : Content). number_by k t) is.content
+
+  number : number_of s ≡ number_by k (val c.frame c.entries x)
+  number = choose (is_source k) refl
