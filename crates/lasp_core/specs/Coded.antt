@@ -9,8 +9,8 @@ use Rattle.model_graph.specs.Graph.{Decl, no_decl}
 use Rattle.model_messages.specs.Message.{Message}
 use Rattle.model_journal.specs.Entry.{Act, Update, Deliver, Bind, Extend, Entry, Frame}
 use Rattle.model_replica.specs.Core.{Read, Core}
-use Rattle.lasp_graph.specs.States.{coded_content, coded_shape}
-use Rattle.lasp_graph.specs.Coded.{coded_decls, coded_kind}
+use Rattle.model_states.specs.Coded.{coded_content, coded_shape}
+use Rattle.model_graph.specs.Coded.{coded_decls, coded_kind}
 use Rattle.lasp_wire.specs.Sent.{coded_message, message}
 
 -- ---- reads

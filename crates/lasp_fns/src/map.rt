@@ -44,7 +44,8 @@ pub struct MapOps {
 impl Model for MapOps {
     ghost use Rattle.std.specs.Prelude.{List, map};
     ghost use Rattle.model_functions.specs.Map.{MapOp};
-    ghost use Rattle.lasp_fns.specs.Map.{map_op_of, coded_map_ops};
+    ghost use Rattle.model_functions.specs.Coded.{coded_map_ops};
+    ghost use Rattle.lasp_fns.specs.Map.{map_op_of};
 
     ghost Value = { List MapOp };
 

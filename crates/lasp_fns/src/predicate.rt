@@ -71,7 +71,8 @@ pub struct PredOps {
 impl Model for PredOps {
     ghost use Rattle.std.specs.Prelude.{List, map};
     ghost use Rattle.model_functions.specs.Predicate.{PredOp};
-    ghost use Rattle.lasp_fns.specs.Predicate.{pred_op_of, coded_pred_ops};
+    ghost use Rattle.model_functions.specs.Coded.{coded_pred_ops};
+    ghost use Rattle.lasp_fns.specs.Predicate.{pred_op_of};
 
     ghost Value = { List PredOp };
 

@@ -30,7 +30,7 @@ pub struct Graph {
 impl Model for Graph {
     ghost use Rattle.std.specs.Prelude.{List};
     ghost use Rattle.model_graph.specs.Graph.{Decl};
-    ghost use Rattle.lasp_graph.specs.Coded.{coded_decls};
+    ghost use Rattle.model_graph.specs.Coded.{coded_decls};
     ghost use Rattle.lasp_graph.specs.Kept.{decls_of, IsKept};
 
     ghost Value = { List Decl };

@@ -15,7 +15,7 @@ use Rattle.model_graph.specs.Increment.{IsChange}
 use Rattle.lasp_state.specs.declared.state.State.{State}
 use Rattle.lasp_state.specs.State.{content_of, shape_of}
 use Rattle.lasp_graph.specs.declared.inputs.Inputs.{Inputs}
-use Rattle.lasp_graph.specs.States.{coded_shape, coded_content}
+use Rattle.model_states.specs.Coded.{coded_shape, coded_content}
 use Rattle.lasp_graph.specs.Evaluated.{process, second_of}
 use Rattle.model_core.specs.Parts.{has_two}
 use Rattle.lasp_graph.specs.Delta.{IsStateOf}

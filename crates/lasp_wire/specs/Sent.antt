@@ -1,12 +1,12 @@
 -- Messages as plain data, and as trees of numbers.
 use Rattle.std.specs.Prelude.{ℕ, List, [], ◌∷◌, ◌++◌, refl}
 use Rattle.std.specs.Coded.{Coded, code_by, coded×, coded_ℕ, coded_list}
+use Rattle.model_states.specs.Coded.{coded_content}
 use Rattle.model_states.specs.Content.{Content}
+use Rattle.model_graph.specs.Coded.{coded_kind}
 use Rattle.model_graph.specs.Graph.{Kind, OrSet, GSet, Counter, MaxReg, Union}
 use Rattle.model_messages.specs.Message.{Sent, Message}
 use Rattle.model_wire.specs.Message.{Held}
-use Rattle.lasp_graph.specs.Coded.{coded_kind}
-use Rattle.lasp_graph.specs.States.{coded_content}
 use Rattle.lasp_state.specs.declared.state.State.{State}
 use Rattle.lasp_state.specs.declared.state.State.TheVariants.{Set, Grow, Count, Max, Fold}
 use Rattle.lasp_state.specs.State.{content_of}

@@ -8,3 +8,4 @@ pub mod Width
 pub mod Algebra
 pub mod Increment
 pub mod Limit
+pub mod Coded

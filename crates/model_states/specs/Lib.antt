@@ -4,3 +4,4 @@ pub mod Content
 pub mod Update
 pub mod Threshold
 pub mod Shape
+pub mod Coded

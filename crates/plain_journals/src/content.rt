@@ -18,7 +18,7 @@ pub struct Content {
 impl Model for Content {
     ghost use Rattle.std.specs.Prelude.{[], None};
     ghost use Rattle.model_states.specs.Content.{Content as PlainContent};
-    ghost use Rattle.plain_journals.specs.View.{coded_content};
+    ghost use Rattle.model_states.specs.Coded.{coded_content};
 
     ghost Value = { PlainContent };
 

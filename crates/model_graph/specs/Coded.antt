@@ -1,12 +1,11 @@
 -- Declarations as trees of numbers.
 use Rattle.std.specs.Prelude.{◌≡◌, ℕ, List, [], ◌∷◌, if◌then◌else◌, ◌==◌, slice_index_or, refl}
 use Rattle.std.specs.Coded.{Coded, code_by, coded×, coded_ℕ, coded_list}
+use Rattle.model_functions.specs.Coded.{coded_map_ops, coded_pred_ops}
 use Rattle.model_functions.specs.Map.{MapOp}
 use Rattle.model_functions.specs.Predicate.{PredOp}
 use Rattle.model_functions.specs.Lift.{LiftOp, One, Itself, Length, First}
 use Rattle.model_graph.specs.Graph.{FoldOp, Sum, Xor, Modulo, Kind, OrSet, GSet, Counter, MaxReg, Union, Product, Intersection, Map, Filter, Fold, Decl}
-use Rattle.lasp_fns.specs.Map.{coded_map_ops}
-use Rattle.lasp_fns.specs.Predicate.{coded_pred_ops}
 
 abbrev pub lift_number : LiftOp → ℕ
 lift_number One = 0
