@@ -1,4 +1,4 @@
--- What the core of a replica holds: its journal, the reads that wait, the callers that are busy, and how many reads were opened and answers are owed.
+-- What the core of a replica holds: its journal, the reads that wait, how many jobs of each variable are out, how many reads were opened, and how many changed rows its jobs had.
 use Rattle.std.specs.Prelude.{ℕ, ◌<◌, ◌≤◌, Bool, not, IsTrue, IsFalse, List, [], ◌∷◌, ◌++◌, length, filter}
 use Rattle.std.specs.List.{AllByRecursion}
 use Rattle.model_states.specs.Threshold.{Threshold, suits, meets}
@@ -16,7 +16,7 @@ pub record Read : Type 0 where
   pub var : ℕ
   pub threshold : Threshold
 
--- a core: what no entry changes, the entries so far, the reads that wait, the callers that are busy, how many reads were opened, and how many answers are owed
+-- a core: what no entry changes, the entries so far, the reads that wait, how many jobs of each variable are out, how many reads were opened, and how many changed rows the jobs had that were handed out
 pub record Core : Type 0 where
   pub frame : Frame
   pub entries : List Entry
