@@ -1,16 +1,13 @@
 //! Folds over small stories: whole, after a change, and through a library that counts its calls.
 
 ghost use Rattle.std.specs.Prelude.{◌≡◌, ◌<◌, IfOk, length};
-ghost use Rattle.model_values.specs.Size.{IsSized};
-ghost use Rattle.model_functions.specs.Lift as lift;
-ghost use Rattle.model_functions.specs.Lift.{lifted};
 ghost use Rattle.model_graph.specs.Increment.{IsChange};
-ghost use Rattle.lasp_value.specs.Value.{val_of};
 ghost use Rattle.lasp_fns.specs.Library.{lifts_of};
 ghost use Rattle.lasp_fns.specs.Steps.{library_of};
 ghost use Rattle.lasp_fold.specs.Fold.{HasWidth, IsWithinLimits};
 
-use lasp_fns::{Library, LiftOp, StepLib, StoredLift, apply_lift};
+use crate::made::{itself, library_of_lift, no_calls};
+use lasp_fns::{Library, StepLib};
 use lasp_fold::*;
 use lasp_orset::{Entry, OrSet};
 use lasp_value::{Token, Value};
@@ -114,43 +111,83 @@ const CHANGES: [(
     ),
 ];
 
+/// Counts the calls of a library that has a lift.
+fn steps_of(library: &Library) -> StepLib<'_>
+    requires { 0 < length (lifts_of library.now) }
+    ensures same { library_of result ≡ library.now }
+    ensures place { 0 < length (lifts_of (library_of result)) }
+{
+    StepLib::new(library)
+}
+
+fn is_number(found: Option<i128>, number: i128) -> bool {
+    match found {
+        Some(found) => found == number,
+        None => false,
+    }
+}
+
+/// How many calls are counted until a fold comes to this number after a change.
+fn calls_to<G: FoldGroup>(
+    g: &G,
+    library: &Library,
+    before: &OrSet,
+    change: &OrSet,
+    after: &OrSet,
+    number: i128,
+) -> Option<u64>
+    requires place { 0 < length (lifts_of library.now) }
+    requires change { IsChange before.now change.now after.now }
+    requires before { IsWithinLimits before.now }
+    requires after { IsWithinLimits after.now }
+{
+    let mut steps = steps_of(library);
+    let found = number_after(g, library, &mut steps, before, change, after);
+    if is_number(found, number) {
+        Some(steps.ticks())
+    } else {
+        None
+    }
+}
+
+/// Whether a sum, a xor and a rest by 4 come to these numbers after a change, by so many calls in all.
+fn come_to(
+    library: &Library,
+    before: &OrSet,
+    change: &OrSet,
+    after: &OrSet,
+    numbers: (i128, i128, i128),
+    calls: u64,
+) -> bool
+    requires place { 0 < length (lifts_of library.now) }
+    requires change { IsChange before.now change.now after.now }
+    requires before { IsWithinLimits before.now }
+    requires after { IsWithinLimits after.now }
+{
+    let sum = calls_to(&Sum, library, before, change, after, numbers.0);
+    let xor = calls_to(&Xor, library, before, change, after, numbers.1);
+    let rest = calls_to(&Modulo::new(4), library, before, change, after, numbers.2);
+    match (sum, xor, rest) {
+        (Some(sum), Some(xor), Some(rest)) => {
+            sum.saturating_add(xor).saturating_add(rest) == calls
+        }
+        (_, _, _) => false,
+    }
+}
+
 #[test]
 fn a_fold_follows_additions_and_removals(rt: HostRuntime) -> Result<(), Fail> {
     let alloc = rt.alloc();
-    let itself = |v: &Value| -> i64
-        requires { IsSized (val_of v.now) }
-        ensures { result ≡ lifted lift.Itself (val_of v.entry.now) }
-    { apply_lift(&LiftOp::Itself, v) };
-    let mut library = Library::new(alloc);
-    library.add_lift(
-        "itself",
-        StoredLift::new(LiftOp::Itself, Box::new(alloc, itself)?),
-    )?;
+    let library = library_of_lift(alloc, "itself", itself(alloc, &no_calls(alloc)?)?)?;
     for (rows, more, sum, xor, rest, calls) in &CHANGES {
-        let mut steps = StepLib::new(&library);
         let before = numbers(alloc, rows)?;
         let change = numbers(alloc, more)?;
         let after = grown(&before, &change)?;
-        assert_eq!(rt;
-            number_after(&Sum, &library, &mut steps, &before, &change, &after),
-            Some(*sum)
+        let expected = (*sum, *xor, *rest);
+        assert!(rt;
+            come_to(&library, &before, &change, &after, expected, *calls),
+            "{sum}"
         );
-        assert_eq!(rt;
-            number_after(&Xor, &library, &mut steps, &before, &change, &after),
-            Some(*xor)
-        );
-        assert_eq!(rt;
-            number_after(
-                &Modulo::new(4),
-                &library,
-                &mut steps,
-                &before,
-                &change,
-                &after
-            ),
-            Some(*rest)
-        );
-        assert_eq!(rt; steps.ticks(), *calls);
     }
     Ok(())
 }

@@ -6,4 +6,6 @@ mod fns;
 #[cfg(test)]
 mod fold;
 #[cfg(test)]
+mod made;
+#[cfg(test)]
 mod setops;

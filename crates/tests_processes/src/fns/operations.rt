@@ -35,71 +35,101 @@ fn pair_after(alloc: Global, first: MapOp, then: MapOp) -> Result<Text, AllocErr
     print_value(alloc, &value)
 }
 
+/// An operation, a number, and what is made of it.
+const NUMBERS: [(MapOp, i64, &str); 15] = [
+    (MapOp::Add(1), 6, "7"),
+    (MapOp::Add(1), i64::MAX, "9223372036854775807"),
+    (MapOp::Add(-1), i64::MIN, "-9223372036854775808"),
+    (MapOp::Times(2), -4, "-8"),
+    (MapOp::Times(2), i64::MAX, "9223372036854775807"),
+    (MapOp::Times(-2), i64::MAX, "-9223372036854775808"),
+    (MapOp::Times(-1), i64::MIN, "9223372036854775807"),
+    (MapOp::Neg, 5, "-5"),
+    (MapOp::Neg, i64::MIN, "9223372036854775807"),
+    (MapOp::Abs, -5, "5"),
+    (MapOp::Abs, i64::MIN, "9223372036854775807"),
+    (MapOp::First, 5, "5"),
+    (MapOp::Swap, 5, "5"),
+    (MapOp::Length, 55, "55"),
+    (MapOp::Lower, 5, "5"),
+];
+
+/// How many rows tell what is made of their number, up to the first that does not.
+fn numbers_as_told(alloc: Global, rows: &[(MapOp, i64, &str)]) -> Result<usize, AllocError> {
+    let mut at = 0usize;
+    for (op, n, expected) in rows {
+        if number_after(alloc, *op, *n)?.as_str() != *expected {
+            return Ok(at);
+        }
+        at = at.saturating_add(1);
+    }
+    Ok(at)
+}
+
 #[test]
 fn numbers_are_held_at_both_ends(rt: HostRuntime) -> Result<(), Fail> {
-    let alloc = rt.alloc();
-    let cases = [
-        (MapOp::Add(1), 6, "7"),
-        (MapOp::Add(1), i64::MAX, "9223372036854775807"),
-        (MapOp::Add(-1), i64::MIN, "-9223372036854775808"),
-        (MapOp::Times(2), -4, "-8"),
-        (MapOp::Times(2), i64::MAX, "9223372036854775807"),
-        (MapOp::Times(-2), i64::MAX, "-9223372036854775808"),
-        (MapOp::Times(-1), i64::MIN, "9223372036854775807"),
-        (MapOp::Neg, 5, "-5"),
-        (MapOp::Neg, i64::MIN, "9223372036854775807"),
-        (MapOp::Abs, -5, "5"),
-        (MapOp::Abs, i64::MIN, "9223372036854775807"),
-        (MapOp::First, 5, "5"),
-        (MapOp::Swap, 5, "5"),
-        (MapOp::Length, 55, "55"),
-        (MapOp::Lower, 5, "5"),
-    ];
-    for (op, n, expected) in &cases {
-        let after = number_after(alloc, *op, *n)?;
-        assert_eq!(rt; after.as_str(), *expected);
-    }
+    assert_eq!(rt; numbers_as_told(rt.alloc(), &NUMBERS)?, NUMBERS.len());
     Ok(())
+}
+
+/// An operation, a text, and what is made of it.
+const TEXTS: [(MapOp, &str, &str); 7] = [
+    (MapOp::Length, "", "0"),
+    (MapOp::Length, "aé€", "6"),
+    (MapOp::Lower, "@AZ[`az{", "\"@az[`az{\""),
+    (MapOp::Lower, "ÄΩЖ", "\"ÄΩЖ\""),
+    (MapOp::Add(1), "7", "\"7\""),
+    (MapOp::Neg, "A", "\"A\""),
+    (MapOp::Second, "A", "\"A\""),
+];
+
+/// How many rows tell what is made of their text.
+fn texts_as_told(alloc: Global, rows: &[(MapOp, &str, &str)]) -> Result<usize, AllocError> {
+    let mut at = 0usize;
+    for (op, s, expected) in rows {
+        if text_after(alloc, *op, s)?.as_str() != *expected {
+            return Ok(at);
+        }
+        at = at.saturating_add(1);
+    }
+    Ok(at)
 }
 
 #[test]
 fn texts_are_measured_in_bytes_and_only_latin_capitals_become_small(
     rt: HostRuntime,
 ) -> Result<(), Fail> {
-    let alloc = rt.alloc();
-    let cases = [
-        (MapOp::Length, "", "0"),
-        (MapOp::Length, "aé€", "6"),
-        (MapOp::Lower, "@AZ[`az{", "\"@az[`az{\""),
-        (MapOp::Lower, "ÄΩЖ", "\"ÄΩЖ\""),
-        (MapOp::Add(1), "7", "\"7\""),
-        (MapOp::Neg, "A", "\"A\""),
-        (MapOp::Second, "A", "\"A\""),
-    ];
-    for (op, s, expected) in &cases {
-        let after = text_after(alloc, *op, *s)?;
-        assert_eq!(rt; after.as_str(), *expected);
-    }
+    assert_eq!(rt; texts_as_told(rt.alloc(), &TEXTS)?, TEXTS.len());
     Ok(())
+}
+
+/// Two operations, and what they make of the pair of [1,2] and -3.
+const PAIRS: [(MapOp, MapOp, &str); 8] = [
+    (MapOp::First, MapOp::First, "1"),
+    (MapOp::First, MapOp::Second, "2"),
+    (MapOp::Second, MapOp::First, "-3"),
+    (MapOp::Second, MapOp::Abs, "3"),
+    (MapOp::Swap, MapOp::First, "-3"),
+    (MapOp::First, MapOp::Swap, "[2,1]"),
+    (MapOp::Add(1), MapOp::Length, "[[1,2],-3]"),
+    (MapOp::Neg, MapOp::Lower, "[[1,2],-3]"),
+];
+
+/// How many rows tell what is made of the pair.
+fn pairs_as_told(alloc: Global, rows: &[(MapOp, MapOp, &str)]) -> Result<usize, AllocError> {
+    let mut at = 0usize;
+    for (first, then, expected) in rows {
+        if pair_after(alloc, *first, *then)?.as_str() != *expected {
+            return Ok(at);
+        }
+        at = at.saturating_add(1);
+    }
+    Ok(at)
 }
 
 #[test]
 fn operations_go_from_left_to_right_and_not_into_pairs(rt: HostRuntime) -> Result<(), Fail> {
-    let alloc = rt.alloc();
-    let cases = [
-        (MapOp::First, MapOp::First, "1"),
-        (MapOp::First, MapOp::Second, "2"),
-        (MapOp::Second, MapOp::First, "-3"),
-        (MapOp::Second, MapOp::Abs, "3"),
-        (MapOp::Swap, MapOp::First, "-3"),
-        (MapOp::First, MapOp::Swap, "[2,1]"),
-        (MapOp::Add(1), MapOp::Length, "[[1,2],-3]"),
-        (MapOp::Neg, MapOp::Lower, "[[1,2],-3]"),
-    ];
-    for (first, then, expected) in &cases {
-        let after = pair_after(alloc, *first, *then)?;
-        assert_eq!(rt; after.as_str(), *expected);
-    }
+    assert_eq!(rt; pairs_as_told(rt.alloc(), &PAIRS)?, PAIRS.len());
     Ok(())
 }
 
@@ -185,21 +215,29 @@ fn a_key_is_matched_at_the_front_of_the_first_part(rt: HostRuntime) -> Result<()
     Ok(())
 }
 
-#[test]
-fn a_lift_of_another_shape_brings_nothing(rt: HostRuntime) -> Result<(), Fail> {
-    let alloc = rt.alloc();
-    let number = Value::Int(i64::MIN);
-    let text = Value::Text(Text::of(alloc, "é")?);
+fn brought_by_text(alloc: Global, op: &LiftOp) -> Result<i64, AllocError> {
+    Ok(apply_lift(op, &Value::Text(Text::of(alloc, "é")?)))
+}
+
+/// What the pair of -7 and 1 brings.
+fn brought_by_pair(alloc: Global, op: &LiftOp) -> Result<i64, AllocError> {
     let pair = Value::Pair(
         Box::new(alloc, Value::Int(-7))?,
         Box::new(alloc, Value::Int(1))?,
     );
-    assert_eq!(rt; apply_lift(&LiftOp::One, &pair), 1);
-    assert_eq!(rt; apply_lift(&LiftOp::Itself, &number), i64::MIN);
-    assert_eq!(rt; apply_lift(&LiftOp::Itself, &pair), 0);
-    assert_eq!(rt; apply_lift(&LiftOp::Length, &number), 0);
-    assert_eq!(rt; apply_lift(&LiftOp::First, &pair), -7);
-    assert_eq!(rt; apply_lift(&LiftOp::First, &number), 0);
-    assert_eq!(rt; apply_lift(&LiftOp::First, &text), 0);
+    Ok(apply_lift(op, &pair))
+}
+
+#[test]
+fn a_lift_of_another_shape_brings_nothing(rt: HostRuntime) -> Result<(), Fail> {
+    let alloc = rt.alloc();
+    let number = Value::Int(i64::MIN);
+    assert!(rt; apply_lift(&LiftOp::Itself, &number) == i64::MIN);
+    assert!(rt; apply_lift(&LiftOp::Length, &number) == 0);
+    assert!(rt; apply_lift(&LiftOp::First, &number) == 0);
+    assert!(rt; brought_by_text(alloc, &LiftOp::First)? == 0);
+    assert!(rt; brought_by_pair(alloc, &LiftOp::One)? == 1);
+    assert!(rt; brought_by_pair(alloc, &LiftOp::Itself)? == 0);
+    assert!(rt; brought_by_pair(alloc, &LiftOp::First)? == -7);
     Ok(())
 }

@@ -1,43 +1,26 @@
 //! Closures that count their calls, and a library of them.
 
-ghost use Rattle.std.specs.Prelude.{◌≡◌, IfOk};
-ghost use Rattle.model_values.specs.Size.{IsSized};
-ghost use Rattle.model_functions.specs.Lift as lift;
-ghost use Rattle.model_functions.specs.Lift.{lifted};
-ghost use Rattle.model_functions.specs.Predicate.{passes};
-ghost use Rattle.lasp_value.specs.Value.{val_of};
-ghost use Rattle.lasp_fns.specs.Answers.{Answers};
+ghost use Rattle.std.specs.Prelude.{◌≡◌, ◌<◌, [], OnOk, length};
+ghost use Rattle.lasp_fns.specs.Library.{maps_of, predicates_of, lifts_of};
 
-use lasp_fns::{
-    Library, LibraryRefused, LiftOp, MapOp, MapOps, PredOps, StepLib, StoredLift, StoredMap,
-    StoredPred, apply_map, apply_pred,
-};
+use crate::made::{even, itself, library_of_lift, library_of_map, map_of, no_calls};
+use lasp_fns::{Library, LibraryRefused, MapOp, MapOps, StepLib, StoredMap, StoredPred};
 use lasp_value::Value;
 use std::alloc::AllocError;
-use std::sync::Arc;
-use std::sync::atomic::{AtomicU64, Ordering};
+use std::sync::atomic::Ordering;
 use std::test::Fail;
+
+/// Whether a map function of one operation makes one number of another.
+fn makes(stored: &StoredMap, n: i64, made: i64) -> Result<bool, AllocError> {
+    Ok(stored.call(&Value::Int(n))? == Value::Int(made) && stored.ops().len() == 1)
+}
 
 #[test]
 fn a_map_function_is_called_through_its_closure(rt: HostRuntime) -> Result<(), Fail> {
-    let alloc = rt.alloc();
-    let mut ops = MapOps::new(alloc);
-    ops.push(MapOp::Abs)?;
-    let mine = ops.try_clone()?;
-    let calls = Arc::new(alloc, AtomicU64::new(0))?;
-    let counter = Arc::try_clone(&calls)?;
-    let f = move |v: &Value| -> Result<Value, AllocError>
-        requires { IsSized (val_of v.now) }
-        ensures { Answers mine (val_of v.entry.now) result }
-    {
-        counter.fetch_add(1, Ordering::SeqCst);
-        apply_map(alloc, &mine, v)
-    };
-    let stored = StoredMap::new(ops, Box::new(alloc, f)?);
-    let value = stored.call(&Value::Int(-5))?;
-    assert!(rt; value == Value::Int(5));
-    assert_eq!(rt; calls.load(Ordering::SeqCst), 1);
-    assert_eq!(rt; stored.ops().len(), 1);
+    let calls = no_calls(rt.alloc())?;
+    let stored = map_of(rt.alloc(), MapOp::Abs, &calls)?;
+    assert!(rt; makes(&stored, -5, 5)?);
+    assert!(rt; calls.load(Ordering::SeqCst) == 1);
     Ok(())
 }
 
@@ -50,87 +33,104 @@ fn a_closure_that_finds_no_memory_is_answered_so(rt: HostRuntime) -> Result<(), 
     Ok(())
 }
 
+fn passes(stored: &StoredPred, n: i64) -> bool {
+    stored.call(&Value::Int(n))
+}
+
 #[test]
 fn a_predicate_is_called_through_its_closure(rt: HostRuntime) -> Result<(), Fail> {
-    let alloc = rt.alloc();
-    let ops = PredOps::new(alloc);
-    let mine = ops.try_clone()?;
-    let calls = Arc::new(alloc, AtomicU64::new(0))?;
-    let counter = Arc::try_clone(&calls)?;
-    let f = move |v: &Value| -> bool
-        requires { IsSized (val_of v.now) }
-        ensures { result ≡ passes mine (val_of v.entry.now) }
-    {
-        counter.fetch_add(1, Ordering::SeqCst);
-        apply_pred(&mine, v)
-    };
-    let stored = StoredPred::new(ops, Box::new(alloc, f)?);
-    assert!(rt; stored.call(&Value::Int(-5)));
-    assert!(rt; stored.call(&Value::Int(5)));
-    assert_eq!(rt; calls.load(Ordering::SeqCst), 2);
+    let calls = no_calls(rt.alloc())?;
+    let stored = even(rt.alloc(), &calls)?;
+    assert!(rt; passes(&stored, -4) && !passes(&stored, 5));
+    assert!(rt; calls.load(Ordering::SeqCst) == 2);
     Ok(())
+}
+
+/// Whether the one lift of a library is called and found by its name.
+fn brings(library: &Library, n: i64) -> bool
+    requires place { 0 < length (lifts_of library.now) }
+{
+    let mut steps = StepLib::new(library);
+    steps.call_lift(0, &Value::Int(n)) == n
+        && steps.ticks() == 1
+        && steps.lift_op(1).is_none()
+        && matches!(library.find_lift("itself"), Some(0))
+        && library.find_lift("one").is_none()
 }
 
 #[test]
 fn a_lift_is_called_through_its_closure_and_counted(rt: HostRuntime) -> Result<(), Fail> {
-    let alloc = rt.alloc();
-    let calls = Arc::new(alloc, AtomicU64::new(0))?;
-    let counter = Arc::try_clone(&calls)?;
-    let f = move |v: &Value| -> i64
-        requires { IsSized (val_of v.now) }
-        ensures { result ≡ lifted lift.One (val_of v.entry.now) }
-    {
-        counter.fetch_add(1, Ordering::SeqCst);
-        1
-    };
-    let mut library = Library::new(alloc);
-    library.add_lift("one", StoredLift::new(LiftOp::One, Box::new(alloc, f)?))?;
-    let mut steps = StepLib::new(&library);
-    assert_eq!(rt; steps.call_lift(0, &Value::Int(-5)), 1);
-    assert_eq!(rt; steps.ticks(), 1);
-    assert_eq!(rt; calls.load(Ordering::SeqCst), 1);
-    assert!(rt; steps.lift_op(1).is_none());
-    assert!(rt; library.find_lift("one") == Some(0));
-    assert!(rt; library.find_lift("two").is_none());
+    let calls = no_calls(rt.alloc())?;
+    let library = library_of_lift(rt.alloc(), "itself", itself(rt.alloc(), &calls)?)?;
+    assert!(rt; brings(&library, -5));
+    assert!(rt; calls.load(Ordering::SeqCst) == 1);
     Ok(())
 }
 
-#[test]
-#[tactic(auto, unfolding(model_functions::specs::Predicate::passes))]
-fn a_kind_takes_a_name_once(rt: HostRuntime) -> Result<(), Fail> {
-    let alloc = rt.alloc();
-    let first = |_v: &Value| -> Result<Value, AllocError> { Err(AllocError) };
-    let second = |_v: &Value| -> Result<Value, AllocError> { Err(AllocError) };
-    let stored = StoredMap::new(MapOps::new(alloc), Box::new(alloc, first)?);
-    let other = StoredMap::new(MapOps::new(alloc), Box::new(alloc, second)?);
-    let mut library = Library::new(alloc);
-    library.add_map("abs", stored)?;
-    assert!(rt; StepLib::new(&library).call_map(0, &Value::Int(1)).is_err());
+/// Whether the first map of a library finds memory.
+fn answers(library: &Library) -> bool
+    requires place { 0 < length (maps_of library.now) }
+{
+    StepLib::new(library).call_map(0, &Value::Int(1)).is_ok()
+}
+
+/// Whether a library with a map `abs` takes no other by this name.
+fn refuses_another(library: &mut Library, other: StoredMap) -> bool
+    requires room { length (maps_of library.old) < 4294967295 }
+{
     let taken = library.add_map("abs", other);
-    assert!(rt; matches!(taken, Err(LibraryRefused::NameTaken)));
-    assert!(rt; library.find_map("abs") == Some(0));
-    assert!(rt; library.map_ops(1).is_none());
-    // the sorts have names of their own
-    let test = |_v: &Value| -> bool { true };
-    let predicate = StoredPred::new(PredOps::new(alloc), Box::new(alloc, test)?);
-    library.add_pred("abs", predicate)?;
-    assert!(rt; library.find_pred("abs") == Some(0));
-    Ok(())
+    matches!(taken, Err(LibraryRefused::NameTaken))
+        && matches!(library.find_map("abs"), Some(0))
+        && library.map_ops(1).is_none()
 }
 
 #[test]
-#[tactic(auto, unfolding(model_functions::specs::Predicate::passes))]
-fn a_kind_takes_only_names(rt: HostRuntime) -> Result<(), Fail> {
+fn a_kind_takes_a_name_once(rt: HostRuntime) -> Result<(), Fail> {
+    let calls = no_calls(rt.alloc())?;
+    let abs = map_of(rt.alloc(), MapOp::Abs, &calls)?;
+    let mut library = library_of_map(rt.alloc(), "abs", abs)?;
+    assert!(rt; answers(&library));
+    assert!(rt; refuses_another(&mut library, map_of(rt.alloc(), MapOp::Neg, &calls)?));
+    Ok(())
+}
+
+/// Puts a test into a library of none.
+fn add_test(library: &mut Library, name: &str, stored: StoredPred) -> Result<(), LibraryRefused>
+    requires { predicates_of library.old ≡ [] }
+    ensures { OnOk result (0 < length (predicates_of library.new)) }
+{
+    library.add_pred(name, stored)
+}
+
+/// Whether the one test of a library has this name, and an even number passes it.
+fn takes_even(library: &Library, name: &str) -> bool
+    requires { 0 < length (predicates_of library.now) }
+{
+    StepLib::new(library).call_pred(0, &Value::Int(2)) && matches!(library.find_pred(name), Some(0))
+}
+
+#[test]
+fn each_kind_has_names_of_its_own(rt: HostRuntime) -> Result<(), Fail> {
     let alloc = rt.alloc();
-    let first = |_v: &Value| -> bool { true };
-    let second = |_v: &Value| -> bool { true };
-    let stored = StoredPred::new(PredOps::new(alloc), Box::new(alloc, first)?);
-    let other = StoredPred::new(PredOps::new(alloc), Box::new(alloc, second)?);
-    let mut library = Library::new(alloc);
-    library.add_pred("all", stored)?;
-    assert!(rt; StepLib::new(&library).call_pred(0, &Value::Int(1)));
-    let refused = library.add_pred("All", other);
-    assert!(rt; matches!(refused, Err(LibraryRefused::NameShape)));
-    assert!(rt; library.find_pred("all") == Some(0));
+    let map = map_of(alloc, MapOp::Abs, &no_calls(alloc)?)?;
+    let mut library = library_of_map(alloc, "all", map)?;
+    add_test(&mut library, "all", even(alloc, &no_calls(alloc)?)?)?;
+    assert!(rt; takes_even(&library, "all"));
+    Ok(())
+}
+
+/// Whether a library takes no test by this name, and has none then.
+fn refuses_its_name(library: &mut Library, name: &str, stored: StoredPred) -> bool
+    requires room { length (predicates_of library.old) < 4294967295 }
+{
+    let refused = library.add_pred(name, stored);
+    matches!(refused, Err(LibraryRefused::NameShape)) && library.find_pred(name).is_none()
+}
+
+#[test]
+fn a_kind_takes_only_names(rt: HostRuntime) -> Result<(), Fail> {
+    let calls = no_calls(rt.alloc())?;
+    let mut library = Library::new(rt.alloc());
+    assert!(rt; refuses_its_name(&mut library, "All", even(rt.alloc(), &calls)?));
     Ok(())
 }

@@ -1,116 +1,185 @@
 //! Map and filter through stored closures, which count their calls.
 
-ghost use Rattle.std.specs.Prelude.{◌≡◌};
-ghost use Rattle.model_values.specs.Size.{IsSized};
-ghost use Rattle.model_functions.specs.Predicate.{passes};
-ghost use Rattle.lasp_value.specs.Value.{val_of};
-ghost use Rattle.lasp_fns.specs.Answers.{Answers};
+ghost use Rattle.std.specs.Prelude.{◌<◌, length};
+ghost use Rattle.lasp_fns.specs.Library.{maps_of, predicates_of};
+ghost use Rattle.lasp_fns.specs.Steps.{library_of};
+ghost use Rattle.lasp_setops.specs.Width.{IsSetOfWidth};
 
-use super::{rows, spell};
-use lasp_fns::{
-    Library, MapOp, MapOps, PredOp, PredOps, StepLib, StoredMap, StoredPred, apply_map, apply_pred,
-};
+use super::{rows, spells};
+use crate::made::{even, library_of_map, library_of_test, library_of_two, map_of, no_calls};
+use lasp_fns::{Library, MapOp, MapOps, StepLib, StoredMap};
+use lasp_orset::OrSet;
 use lasp_setops::{
     filter_counted, filter_increment, filter_set, map_counted, map_increment, map_set,
 };
 use lasp_value::Value;
-use std::alloc::AllocError;
+use std::alloc::{AllocError, Global};
 use std::sync::Arc;
 use std::sync::atomic::{AtomicU64, Ordering};
 use std::test::Fail;
 
+/// Rows of which the first two are of numbers that differ by their sign.
+const SIGNED: [(i64, u64, bool); 4] = [(-1, 7, true), (1, 7, false), (1, 8, false), (2, 9, false)];
+
+/// The rows of their absolute numbers.
+const ABSOLUTE: &str = "1@0.7x 1@0.8 2@0.9 ";
+
 #[test]
 fn values_that_a_map_makes_one_are_dead_where_any_was(rt: HostRuntime) -> Result<(), Fail> {
+    let calls = no_calls(rt.alloc())?;
+    let stored = map_of(rt.alloc(), MapOp::Abs, &calls)?;
+    let x = rows(rt.alloc(), &SIGNED)?;
+    let mapped = map_set(rt.alloc(), &stored, &x)?;
+    assert!(rt; spells(rt.alloc(), &mapped, ABSOLUTE)?);
+    assert!(rt; calls.load(Ordering::SeqCst) == 4);
+    Ok(())
+}
+
+/// The one map of a library, as its calls are counted: whether a set and then the set after a change become these, with a call a row.
+fn maps(
+    alloc: Global,
+    library: &Library,
+    x: &OrSet,
+    mapped: &str,
+    change: &OrSet,
+    grown: &str,
+) -> Result<bool, AllocError>
+    requires place { 0 < length (maps_of library.now) }
+    requires width { IsSetOfWidth 16 x.now }
+    requires change { IsSetOfWidth 16 change.now }
+{
+    let mut steps = StepLib::new(library);
+    let before = map_counted(alloc, &mut steps, 0, x)?;
+    let ticks = steps.ticks();
+    let after = map_increment(alloc, &mut steps, 0, &before, change)?;
+    Ok(
+        ticks == x.rows()
+            && steps.ticks() <= x.rows().saturating_add(change.rows())
+            && spells(alloc, &before, mapped)?
+            && spells(alloc, &after, grown)?,
+    )
+}
+
+#[test]
+fn a_map_follows_a_change_by_calls_that_are_counted(rt: HostRuntime) -> Result<(), Fail> {
     let alloc = rt.alloc();
-    let mut ops = MapOps::new(alloc);
-    ops.push(MapOp::Abs)?;
-    let mine = ops.try_clone()?;
-    let calls = Arc::new(alloc, AtomicU64::new(0))?;
-    let counter = Arc::try_clone(&calls)?;
-    let f = move |v: &Value| -> Result<Value, AllocError>
-        requires { IsSized (val_of v.now) }
-        ensures { Answers mine (val_of v.entry.now) result }
-    {
-        counter.fetch_add(1, Ordering::SeqCst);
-        apply_map(alloc, &mine, v)
-    };
-    let stored = StoredMap::new(ops, Box::new(alloc, f)?);
-    let x = rows(
-        alloc,
-        &[(-1, 7, true), (1, 7, false), (1, 8, false), (2, 9, false)],
-    )?;
-    let mapped = map_set(alloc, &stored, &x)?;
-    assert_eq!(rt; spell(alloc, &mapped)?.as_str(), "1@0.7x 1@0.8 2@0.9 ");
-    assert_eq!(rt; calls.load(Ordering::SeqCst), 4);
-    let mut library = Library::new(alloc);
-    library.add_map("abs", stored)?;
-    let mut steps = StepLib::new(&library);
-    let counted = map_counted(alloc, &mut steps, 0, &x)?;
-    assert!(rt; counted.le(&mapped) && mapped.le(&counted));
-    assert_eq!(rt; steps.ticks(), 4);
-    assert_eq!(rt; calls.load(Ordering::SeqCst), 8);
+    let abs = map_of(alloc, MapOp::Abs, &no_calls(alloc)?)?;
+    let library = library_of_map(alloc, "abs", abs)?;
+    let x = rows(alloc, &SIGNED)?;
     let change = rows(alloc, &[(-2, 9, true)])?;
-    let grown = map_increment(alloc, &mut steps, 0, &mapped, &change)?;
-    assert_eq!(rt; spell(alloc, &grown)?.as_str(), "1@0.7x 1@0.8 2@0.9x ");
-    assert!(rt; steps.ticks() <= 5);
+    let grown = "1@0.7x 1@0.8 2@0.9x ";
+    assert!(rt; maps(alloc, &library, &x, ABSOLUTE, &change, grown)?);
     Ok(())
 }
 
 #[test]
 fn a_filter_keeps_live_and_dead_rows_alike(rt: HostRuntime) -> Result<(), Fail> {
-    let alloc = rt.alloc();
-    let mut ops = PredOps::new(alloc);
-    ops.push(PredOp::Even)?;
-    let mine = ops.try_clone()?;
-    let calls = Arc::new(alloc, AtomicU64::new(0))?;
-    let counter = Arc::try_clone(&calls)?;
-    let f = move |v: &Value| -> bool
-        requires { IsSized (val_of v.now) }
-        ensures { result ≡ passes mine (val_of v.entry.now) }
-    {
-        counter.fetch_add(1, Ordering::SeqCst);
-        apply_pred(&mine, v)
-    };
-    let stored = StoredPred::new(ops, Box::new(alloc, f)?);
-    let x = rows(alloc, &[(-2, 1, false), (1, 2, true), (2, 3, true)])?;
+    let calls = no_calls(rt.alloc())?;
+    let stored = even(rt.alloc(), &calls)?;
+    let x = rows(rt.alloc(), &[(-2, 1, false), (1, 2, true), (2, 3, true)])?;
     let kept = filter_set(&stored, &x)?;
-    assert_eq!(rt; spell(alloc, &kept)?.as_str(), "-2@0.1 2@0.3x ");
-    assert_eq!(rt; calls.load(Ordering::SeqCst), 3);
-    let mut library = Library::new(alloc);
-    library.add_pred("even", stored)?;
-    let mut steps = StepLib::new(&library);
-    let counted = filter_counted(&mut steps, 0, &x)?;
-    assert!(rt; counted.le(&kept) && kept.le(&counted));
-    let change = rows(alloc, &[(-2, 1, true), (3, 4, false)])?;
-    let grown = filter_increment(&mut steps, 0, &kept, &change)?;
-    assert_eq!(rt; spell(alloc, &grown)?.as_str(), "-2@0.1x 2@0.3x ");
-    assert!(rt; steps.ticks() <= 5);
+    assert!(rt; spells(rt.alloc(), &kept, "-2@0.1 2@0.3x ")?);
+    assert!(rt; calls.load(Ordering::SeqCst) == 3);
     Ok(())
+}
+
+/// The one test of a library, as its calls are counted: whether these rows pass, and then these after a change.
+fn filters(
+    alloc: Global,
+    library: &Library,
+    x: &OrSet,
+    kept: &str,
+    change: &OrSet,
+    grown: &str,
+) -> Result<bool, AllocError>
+    requires place { 0 < length (predicates_of library.now) }
+    requires width { IsSetOfWidth 16 x.now }
+    requires change { IsSetOfWidth 16 change.now }
+{
+    let mut steps = StepLib::new(library);
+    let before = filter_counted(&mut steps, 0, x)?;
+    let after = filter_increment(&mut steps, 0, &before, change)?;
+    Ok(
+        steps.ticks() <= x.rows().saturating_add(change.rows())
+            && spells(alloc, &before, kept)?
+            && spells(alloc, &after, grown)?,
+    )
+}
+
+#[test]
+fn a_filter_follows_a_change_by_calls_that_are_counted(rt: HostRuntime) -> Result<(), Fail> {
+    let alloc = rt.alloc();
+    let library = library_of_test(alloc, "even", even(alloc, &no_calls(alloc)?)?)?;
+    let x = rows(alloc, &[(-2, 1, false), (1, 2, true), (2, 3, true)])?;
+    let change = rows(alloc, &[(-2, 1, true), (3, 4, false)])?;
+    let grown = "-2@0.1x 2@0.3x ";
+    assert!(rt; filters(alloc, &library, &x, "-2@0.1 2@0.3x ", &change, grown)?);
+    Ok(())
+}
+
+/// Counts the calls of a library that has a map at this place.
+fn steps_of(library: &Library, place: u32) -> StepLib<'_>
+    requires { place < length (maps_of library.now) }
+    ensures { place < length (maps_of (library_of result)) }
+{
+    StepLib::new(library)
+}
+
+/// Whether the map at a place is called once for each row.
+fn is_called(
+    alloc: Global,
+    library: &Library,
+    place: u32,
+    x: &OrSet,
+    calls: &Arc<AtomicU64>,
+) -> Result<bool, AllocError>
+    requires place { place < length (maps_of library.now) }
+    requires width { IsSetOfWidth 16 x.now }
+{
+    let before = calls.load(Ordering::SeqCst);
+    let mut steps = steps_of(library, place);
+    let mapped = map_counted(alloc, &mut steps, place, x)?;
+    let after = calls.load(Ordering::SeqCst);
+    Ok(mapped.rows() > 0 && after == before.saturating_add(x.rows()))
+}
+
+/// Whether the second map of a library is called and the first isn't.
+fn calls_the_second(
+    alloc: Global,
+    library: &Library,
+    x: &OrSet,
+    calls: &Arc<AtomicU64>,
+) -> Result<bool, AllocError>
+    requires first { 0 < length (maps_of library.now) }
+    requires second { 1 < length (maps_of library.now) }
+    requires width { IsSetOfWidth 16 x.now }
+{
+    let first = is_called(alloc, library, 0, x, calls)?;
+    let second = is_called(alloc, library, 1, x, calls)?;
+    Ok(second && !first)
+}
+
+/// Whether only the second of two maps is called, where this one counts its calls.
+fn are_told_apart(alloc: Global, calls: &Arc<AtomicU64>) -> Result<bool, Fail> {
+    let one = map_of(alloc, MapOp::Abs, &no_calls(alloc)?)?;
+    let library = library_of_two(alloc, one, map_of(alloc, MapOp::Abs, calls)?)?;
+    let x = rows(alloc, &SIGNED)?;
+    Ok(calls_the_second(alloc, &library, &x, calls)?)
 }
 
 #[test]
 fn maps_of_equal_operations_are_told_apart_by_their_closures(rt: HostRuntime) -> Result<(), Fail> {
+    let calls = no_calls(rt.alloc())?;
+    assert!(rt; are_told_apart(rt.alloc(), &calls)?);
+    Ok(())
+}
+
+#[test]
+fn a_closures_want_of_memory_is_the_maps(rt: HostRuntime) -> Result<(), Fail> {
     let alloc = rt.alloc();
-    let calls = Arc::new(alloc, AtomicU64::new(0))?;
-    let counter = Arc::try_clone(&calls)?;
-    let counting = move |_v: &Value| -> Result<Value, AllocError> {
-        counter.fetch_add(1, Ordering::SeqCst);
-        Err(AllocError)
-    };
-    let failing = |_v: &Value| -> Result<Value, AllocError> { Err(AllocError) };
-    let first = StoredMap::new(MapOps::new(alloc), Box::new(alloc, failing)?);
-    let second = StoredMap::new(MapOps::new(alloc), Box::new(alloc, counting)?);
+    let f = |_v: &Value| -> Result<Value, AllocError> { Err(AllocError) };
+    let stored = StoredMap::new(MapOps::new(alloc), Box::new(alloc, f)?);
     let x = rows(alloc, &[(1, 1, false)])?;
-    // a closure's want of memory is the map's
-    assert!(rt; map_set(alloc, &second, &x).is_err());
-    assert_eq!(rt; calls.load(Ordering::SeqCst), 1);
-    let mut library = Library::new(alloc);
-    library.add_map("one", first)?;
-    library.add_map("other", second)?;
-    let mut steps = StepLib::new(&library);
-    assert!(rt; map_counted(alloc, &mut steps, 0, &x).is_err());
-    assert_eq!(rt; calls.load(Ordering::SeqCst), 1);
-    assert!(rt; map_counted(alloc, &mut steps, 1, &x).is_err());
-    assert_eq!(rt; calls.load(Ordering::SeqCst), 2);
+    assert!(rt; map_set(alloc, &stored, &x).is_err());
     Ok(())
 }
