@@ -4,7 +4,7 @@ use Rattle.std.specs.Coded.{Coded, code_by, coded×, coded_ℕ, coded_list}
 use Rattle.model_values.specs.Value.{Val, int, text, pair, coded_val}
 use Rattle.model_graph.specs.Graph.{OrSet, Decl}
 use Rattle.model_world.specs.Command.{Until, AtLeast, Above, Count, Added, Removed, Command, Add, Remove, Insert, Inc, Max, Mark, Bind, Send, Deliver, Sync, Settle, Print, Read, Await, Declare, Script}
-use Rattle.lasp_graph.specs.Coded.{coded_decls}
+use Rattle.model_graph.specs.Coded.{coded_decls}
 
 abbrev pub until_numbers : Until → ℕ × ℕ
 until_numbers (AtLeast m) = (0, m)

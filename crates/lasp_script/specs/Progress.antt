@@ -10,7 +10,7 @@ use Rattle.model_world.specs.Lawful.{stage_after, mark_limit, is_mark, is_read}
 use Rattle.model_scripts.specs.Progress as plain
 use Rattle.model_scripts.specs.Progress.{mark_of}
 use Rattle.model_scripts.specs.Check.{command_limit}
-use Rattle.lasp_graph.specs.Coded.{coded_decls}
+use Rattle.model_graph.specs.Coded.{coded_decls}
 use Rattle.lasp_script.specs.Coded.{coded_command}
 use Rattle.lasp_script.specs.Marks.{Mark, names_of, marked_of}
 
