@@ -8,7 +8,8 @@ use std::test::Fail;
 
 fn counted(alloc: Global, counts: [u64; 3]) -> Result<GCount, AllocError> {
     let mut counter = GCount::new(alloc, 3)?;
-    for (replica, count) in [(0u8, counts[0]), (1, counts[1]), (2, counts[2])] {
+    for replica in 0..3u8 {
+        let count = counts[replica as usize];
         if replica < counter.nodes() && count <= COUNT_MAX {
             counter.set_count(replica, count);
         }
@@ -23,68 +24,134 @@ fn shows(counter: &GCount, counts: [u64; 3]) -> bool {
         && counter.count_of(2) == counts[2]
 }
 
+/// Counts, others that are joined in, what they give, and whether that grew.
+const JOINS: [([u64; 3], [u64; 3], [u64; 3], bool); 4] = [
+    ([0, 0, 0], [0, 0, 0], [0, 0, 0], false),
+    ([1, 0, 2], [1, 0, 1], [1, 0, 2], false),
+    ([1, 0, 2], [0, 3, 1], [1, 3, 2], true),
+    ([5, 5, 5], [9, 8, 7], [9, 8, 7], true),
+];
+
+fn raises(counter: &mut GCount, other: &GCount) -> bool {
+    counter.nodes() == other.nodes() && counter.raise(other)
+}
+
+fn is_at_most(x: &GCount, y: &GCount) -> bool {
+    x.nodes() == y.nodes() && x.is_at_most(y)
+}
+
+fn sum(counts: [u64; 3]) -> u64 {
+    counts[0]
+        .saturating_add(counts[1])
+        .saturating_add(counts[2])
+}
+
+/// Whether a join goes so.
+fn joins(mut counter: GCount, other: &GCount, joined: [u64; 3], grew: bool) -> bool {
+    raises(&mut counter, other) == grew
+        && is_at_most(other, &counter)
+        && shows(&counter, joined)
+        && counter.total() == sum(joined)
+}
+
+fn all_join(
+    alloc: Global,
+    table: &[([u64; 3], [u64; 3], [u64; 3], bool)],
+) -> Result<bool, AllocError> {
+    for (mine, theirs, joined, grew) in table {
+        let other = counted(alloc, *theirs)?;
+        if !joins(counted(alloc, *mine)?, &other, *joined, *grew) {
+            return Ok(false);
+        }
+    }
+    Ok(true)
+}
+
 #[test]
 fn a_join_takes_the_larger_count_of_each_node(rt: HostRuntime) -> Result<(), Fail> {
-    let alloc = rt.alloc();
-    let table = [
-        ([0u64, 0, 0], [0u64, 0, 0], [0u64, 0, 0], false),
-        ([1, 0, 2], [1, 0, 1], [1, 0, 2], false),
-        ([1, 0, 2], [0, 3, 1], [1, 3, 2], true),
-        ([5, 5, 5], [9, 8, 7], [9, 8, 7], true),
-    ];
-    for (mine, theirs, joined, grew) in table {
-        let mut counter = counted(alloc, mine)?;
-        let other = counted(alloc, theirs)?;
-        if counter.nodes() == other.nodes() {
-            assert_eq!(rt; counter.raise(&other), grew);
-        }
-        if counter.nodes() == other.nodes() {
-            assert!(rt; other.is_at_most(&counter));
-        }
-        assert!(rt; shows(&counter, joined));
-        assert_eq!(rt; counter.total(), joined[0] + joined[1] + joined[2]);
-    }
+    assert!(rt; all_join(rt.alloc(), &JOINS)?);
     Ok(())
+}
+
+/// A count, what is added, and what is held then.
+const HELD: [(u64, u32, u64); 5] = [
+    (0, 7, 7),
+    (41, 1, 42),
+    (COUNT_MAX - 3, 3, COUNT_MAX),
+    (COUNT_MAX - 3, 4, COUNT_MAX),
+    (COUNT_MAX, 4_294_967_295, COUNT_MAX),
+];
+
+/// Whether a count is held so when it is raised by a number.
+fn is_held(alloc: Global, count: u64, by: u32, held: u64) -> Result<bool, AllocError> {
+    let counter = counted(alloc, [8, count, 9])?;
+    Ok(
+        counter.nodes() == 3
+            && shows(&counter.inc_delta(1, by)?, [0, held, 0])
+            && shows(&counter, [8, count, 9]),
+    )
+}
+
+fn are_held(alloc: Global, table: &[(u64, u32, u64)]) -> Result<bool, AllocError> {
+    for (count, by, held) in table {
+        if !is_held(alloc, *count, *by, *held)? {
+            return Ok(false);
+        }
+    }
+    Ok(true)
 }
 
 #[test]
 fn a_count_is_held_at_the_most(rt: HostRuntime) -> Result<(), Fail> {
-    let alloc = rt.alloc();
-    for (count, by, held) in [
-        (0u64, 7u32, 7u64),
-        (41, 1, 42),
-        (COUNT_MAX - 3, 3, COUNT_MAX),
-        (COUNT_MAX - 3, 4, COUNT_MAX),
-        (COUNT_MAX, 4_294_967_295, COUNT_MAX),
-    ] {
-        let counter = counted(alloc, [8, count, 9])?;
-        assert!(rt; counter.nodes() == 3);
-        let delta = counter.inc_delta(1, by)?;
-        assert!(rt; shows(&delta, [0, held, 0]));
-        assert!(rt; shows(&counter.try_clone()?, [8, count, 9]));
-        assert!(rt; shows(&counter.bottom_like()?, [0, 0, 0]));
-    }
+    assert!(rt; are_held(rt.alloc(), &HELD)?);
     Ok(())
 }
 
 #[test]
-fn a_register_keeps_the_greatest_number(rt: HostRuntime) -> Result<(), Fail> {
-    let table = [
-        (None, None, None, false),
-        (None, Some(-5), Some(-5i64), true),
-        (Some(-5), None, Some(-5), false),
-        (Some(-5), Some(-9), Some(-5), false),
-        (Some(-5), Some(-5), Some(-5), false),
-        (Some(-5), Some(3i64), Some(3), true),
-    ];
+fn a_clone_has_the_counts_and_the_least_counter_none(rt: HostRuntime) -> Result<(), Fail> {
+    let counter = counted(rt.alloc(), [8, 0, 9])?;
+    assert!(rt; shows(&counter.try_clone()?, [8, 0, 9]));
+    assert!(rt; shows(&counter.bottom_like()?, [0, 0, 0]));
+    Ok(())
+}
+
+/// A register, another that is joined in, what they give, and whether that grew.
+const REGISTERS: [(Option<i64>, Option<i64>, Option<i64>, bool); 6] = [
+    (None, None, None, false),
+    (None, Some(-5), Some(-5), true),
+    (Some(-5), None, Some(-5), false),
+    (Some(-5), Some(-9), Some(-5), false),
+    (Some(-5), Some(-5), Some(-5), false),
+    (Some(-5), Some(3), Some(3), true),
+];
+
+fn keeps(
+    mut register: MaxReg,
+    other: &MaxReg,
+    joined: Option<i64>,
+    grew: bool,
+) -> Result<bool, AllocError> {
+    Ok(
+        register.join_in(other)? == grew
+            && register.value == joined
+            && Lattice::le(other, &register)
+            && register.bottom_like()?.value == None,
+    )
+}
+
+fn all_keep(table: &[(Option<i64>, Option<i64>, Option<i64>, bool)]) -> Result<bool, AllocError> {
     for (mine, theirs, joined, grew) in table {
-        let mut register = MaxReg { value: mine };
-        let other = MaxReg { value: theirs };
-        assert_eq!(rt; register.join_in(&other)?, grew);
-        assert!(rt; register.value == joined);
-        assert!(rt; Lattice::le(&other, &register));
-        assert!(rt; register.bottom_like()?.value == None);
+        let other = MaxReg { value: *theirs };
+        if !keeps(MaxReg { value: *mine }, &other, *joined, *grew)? {
+            return Ok(false);
+        }
     }
+    Ok(true)
+}
+
+#[test]
+fn a_register_keeps_the_greatest_number(rt: HostRuntime) -> Result<(), Fail> {
+    assert!(rt; all_keep(&REGISTERS)?);
     Ok(())
 }
 
@@ -96,10 +163,52 @@ fn inserted(alloc: Global, numbers: &[i64]) -> Result<GSet, AllocError> {
     Ok(set)
 }
 
-fn text(alloc: Global, set: &GSet) -> Result<String, AllocError> {
+/// Whether a set prints so and has so many values.
+fn prints(alloc: Global, set: &GSet, text: &str, len: u64) -> Result<bool, AllocError> {
     let mut out = String::new(alloc);
     set.print_into(&mut out)?;
-    Ok(out)
+    Ok(out.as_str() == text && set.len() == len)
+}
+
+/// Numbers, others that are joined in, the text and the count of what they give, and whether that grew.
+const UNIONS: [(&[i64], &[i64], &str, u64, bool); 5] = [
+    (&[], &[], "[]", 0, false),
+    (&[1], &[], "[1]", 1, false),
+    (&[], &[4, -2], "[-2,4]", 2, true),
+    (&[7, 3, 5], &[3, 7], "[3,5,7]", 3, false),
+    (&[7, 3], &[5, 3, 9], "[3,5,7,9]", 4, true),
+];
+
+/// Whether the counts and the order are told so before a join, and the join tells whether it grew.
+fn unites(set: &mut GSet, other: &GSet, len: u64, grew: bool) -> Result<bool, AllocError> {
+    Ok(
+        set.joined_len(other) == len
+            && other.joined_len(set) == len
+            && Lattice::le(other, set) == !grew
+            && set.join_in(other)? == grew
+            && Lattice::le(other, set),
+    )
+}
+
+fn all_unite(
+    alloc: Global,
+    table: &[(&[i64], &[i64], &str, u64, bool)],
+) -> Result<bool, AllocError> {
+    for (mine, theirs, united, len, grew) in table {
+        let mut set = inserted(alloc, mine)?;
+        let is_united = unites(&mut set, &inserted(alloc, theirs)?, *len, *grew)?;
+        if !is_united || !prints(alloc, &set, united, *len)? {
+            return Ok(false);
+        }
+    }
+    Ok(true)
+}
+
+#[test]
+fn a_union_has_the_values_of_either_once(rt: HostRuntime) -> Result<(), Fail> {
+    assert!(rt; all_unite(rt.alloc(), &UNIONS)?);
+    assert!(rt; inserted(rt.alloc(), &[1])?.bottom_like()?.len() == 0);
+    Ok(())
 }
 
 /// How many values of a pass are 0, 1 and so on.
@@ -115,51 +224,49 @@ fn counted_up(set: &GSet) -> i64 {
     next
 }
 
-#[test]
-fn a_union_has_the_values_of_either_once(rt: HostRuntime) -> Result<(), Fail> {
-    let alloc = rt.alloc();
-    let table = [
-        (&[][..], &[][..], "[]", 0u64, false),
-        (&[1i64][..], &[][..], "[1]", 1, false),
-        (&[][..], &[4i64, -2][..], "[-2,4]", 2, true),
-        (&[7, 3, 5][..], &[3, 7][..], "[3,5,7]", 3, false),
-        (&[7, 3][..], &[5, 3, 9][..], "[3,5,7,9]", 4, true),
-    ];
-    for (mine, theirs, united, len, grew) in table {
-        let mut set = inserted(alloc, mine)?;
-        let other = inserted(alloc, theirs)?;
-        assert_eq!(rt; set.joined_len(&other), len);
-        assert_eq!(rt; other.joined_len(&set), len);
-        assert_eq!(rt; Lattice::le(&other, &set), !grew);
-        assert_eq!(rt; set.join_in(&other)?, grew);
-        assert_eq!(rt; text(alloc, &set)?.as_str(), united);
-        assert_eq!(rt; set.len(), len);
-        assert!(rt; Lattice::le(&other, &set));
-        assert_eq!(rt; set.bottom_like()?.len(), 0);
-    }
-    Ok(())
-}
-
-#[test]
-fn values_stand_in_order_however_they_came(rt: HostRuntime) -> Result<(), Fail> {
-    let alloc = rt.alloc();
+/// The numbers below 300, which come in another order.
+fn scattered(alloc: Global) -> Result<GSet, AllocError> {
     let mut set = GSet::new(alloc);
     for k in 0..300u64 {
         let n = (k * 7919 % 300) as i64;
         set.unite(&GSet::insert_delta(alloc, &Value::Int(n))?)?;
     }
-    let snapshot = set.try_clone()?;
-    set.unite(&GSet::insert_delta(alloc, &Value::Int(-1))?)?;
-    assert_eq!(rt; set.len(), 301);
-    assert_eq!(rt; snapshot.len(), 300);
-    assert!(rt; set.has(&Value::Int(299)));
-    assert!(rt; !set.has(&Value::Int(300)));
-    assert!(rt; !snapshot.has(&Value::Int(-1)));
-    for i in [0u64, 1, 128, 299] {
-        if i < snapshot.len() {
-            assert!(rt; *snapshot.at(i) == Value::Int(i as i64));
+    Ok(set)
+}
+
+fn are_at_their_places(set: &GSet, places: &[u64]) -> bool {
+    for place in places {
+        if *place >= set.len() || *set.at(*place) != Value::Int(*place as i64) {
+            return false;
         }
     }
-    assert_eq!(rt; counted_up(&snapshot), 300);
+    true
+}
+
+fn has(set: &GSet, n: i64) -> bool {
+    set.has(&Value::Int(n))
+}
+
+#[test]
+fn values_stand_in_order_however_they_came(rt: HostRuntime) -> Result<(), Fail> {
+    let set = scattered(rt.alloc())?;
+    assert!(rt; set.len() == 300 && counted_up(&set) == 300);
+    assert!(rt; has(&set, 299) && !has(&set, 300));
+    assert!(rt; are_at_their_places(&set, &[0, 1, 128, 299]));
+    Ok(())
+}
+
+fn with(alloc: Global, set: &GSet, n: i64) -> Result<GSet, AllocError> {
+    let mut more = set.try_clone()?;
+    more.unite(&GSet::insert_delta(alloc, &Value::Int(n))?)?;
+    Ok(more)
+}
+
+#[test]
+fn a_snapshot_stays_while_its_clone_goes_on(rt: HostRuntime) -> Result<(), Fail> {
+    let snapshot = inserted(rt.alloc(), &[4])?;
+    let set = with(rt.alloc(), &snapshot, -1)?;
+    assert!(rt; prints(rt.alloc(), &snapshot, "[4]", 1)?);
+    assert!(rt; prints(rt.alloc(), &set, "[-1,4]", 2)?);
     Ok(())
 }

@@ -30,55 +30,67 @@ fn of_length(alloc: Global, length: u32) -> Result<String, Fail> {
     Ok(out)
 }
 
+/// Texts of values, and how each value is printed.
+const VALUES: [(&str, &str); 8] = [
+    ("0", "0"),
+    (" -9223372036854775808 ", "-9223372036854775808"),
+    ("9223372036854775807", "9223372036854775807"),
+    ("\"\"", "\"\""),
+    ("\"\\u0041\\n\"", "\"A\\n\""),
+    ("[1, \"a\"]", "[1,\"a\"]"),
+    ("[[1,2],[\"a\",[3,4]]]", "[[1,2],[\"a\",[3,4]]]"),
+    (EIGHT, EIGHT),
+];
+
+/// Texts of no values, and why.
+const REFUSED: [(&str, &str); 20] = [
+    ("null", "NotAValue"),
+    ("true", "NotAValue"),
+    ("{}", "NotAValue"),
+    ("[]", "NotAValue"),
+    ("[1]", "NotAValue"),
+    ("[1,2,3]", "NotAValue"),
+    ("[1,[2]]", "NotAValue"),
+    ("1.5", "NumberRefused"),
+    ("1.0", "NumberRefused"),
+    ("1e3", "NumberRefused"),
+    ("-0", "NumberRefused"),
+    ("9223372036854775808", "NumberRefused"),
+    ("-9223372036854775809", "NumberRefused"),
+    ("[1.5,null]", "NumberRefused"),
+    ("[null,1.5]", "NotAValue"),
+    ("[[1,1.5],[]]", "NumberRefused"),
+    ("[1.5,1,1]", "NotAValue"),
+    (NINE, "TooBig"),
+    ("[[[1,2],[3,4]],[[5,6],[7,[8,null]]]]", "NotAValue"),
+    ("[[[[1,2],[3,4]],[[5,6],[7,[8,9]]]],1.5]", "NumberRefused"),
+];
+
+fn is_shown(alloc: Global, json: &str, expected: &str) -> Result<bool, Fail> {
+    Ok(shown(alloc, json)?.as_str() == expected)
+}
+
+/// How many texts are shown as their rows say, up to the first that is not.
+fn shown_as_told(alloc: Global, rows: &[(&str, &str)]) -> Result<usize, Fail> {
+    let mut at = 0usize;
+    for (json, expected) in rows {
+        if !is_shown(alloc, json, expected)? {
+            return Ok(at);
+        }
+        at = at.saturating_add(1);
+    }
+    Ok(at)
+}
+
 #[test]
 fn a_number_a_text_and_an_array_of_two_are_values(rt: HostRuntime) -> Result<(), Fail> {
-    let alloc = rt.alloc();
-    let cases = [
-        ("0", "0"),
-        (" -9223372036854775808 ", "-9223372036854775808"),
-        ("9223372036854775807", "9223372036854775807"),
-        ("\"\"", "\"\""),
-        ("\"\\u0041\\n\"", "\"A\\n\""),
-        ("[1, \"a\"]", "[1,\"a\"]"),
-        ("[[1,2],[\"a\",[3,4]]]", "[[1,2],[\"a\",[3,4]]]"),
-        (EIGHT, EIGHT),
-    ];
-    for (json, printed) in &cases {
-        let text = shown(alloc, json)?;
-        assert_eq!(rt; text.as_str(), *printed, "{json}");
-    }
+    assert_eq!(rt; shown_as_told(rt.alloc(), &VALUES)?, VALUES.len());
     Ok(())
 }
 
 #[test]
 fn the_first_part_that_is_no_value_tells_why(rt: HostRuntime) -> Result<(), Fail> {
-    let alloc = rt.alloc();
-    let cases = [
-        ("null", "NotAValue"),
-        ("true", "NotAValue"),
-        ("{}", "NotAValue"),
-        ("[]", "NotAValue"),
-        ("[1]", "NotAValue"),
-        ("[1,2,3]", "NotAValue"),
-        ("[1,[2]]", "NotAValue"),
-        ("1.5", "NumberRefused"),
-        ("1.0", "NumberRefused"),
-        ("1e3", "NumberRefused"),
-        ("-0", "NumberRefused"),
-        ("9223372036854775808", "NumberRefused"),
-        ("-9223372036854775809", "NumberRefused"),
-        ("[1.5,null]", "NumberRefused"),
-        ("[null,1.5]", "NotAValue"),
-        ("[[1,1.5],[]]", "NumberRefused"),
-        ("[1.5,1,1]", "NotAValue"),
-        (NINE, "TooBig"),
-        ("[[[1,2],[3,4]],[[5,6],[7,[8,null]]]]", "NotAValue"),
-        ("[[[[1,2],[3,4]],[[5,6],[7,[8,9]]]],1.5]", "NumberRefused"),
-    ];
-    for (json, refused) in &cases {
-        let text = shown(alloc, json)?;
-        assert_eq!(rt; text.as_str(), *refused, "{json}");
-    }
+    assert_eq!(rt; shown_as_told(rt.alloc(), &REFUSED)?, REFUSED.len());
     Ok(())
 }
 
@@ -86,10 +98,7 @@ fn the_first_part_that_is_no_value_tells_why(rt: HostRuntime) -> Result<(), Fail
 fn a_text_of_257_bytes_is_too_big(rt: HostRuntime) -> Result<(), Fail> {
     let alloc = rt.alloc();
     let largest = of_length(alloc, 256)?;
-    let text = shown(alloc, largest.as_str())?;
-    assert_eq!(rt; text.as_str(), largest.as_str());
-    let larger = of_length(alloc, 257)?;
-    let text = shown(alloc, larger.as_str())?;
-    assert_eq!(rt; text.as_str(), "TooBig");
+    assert!(rt; is_shown(alloc, largest.as_str(), largest.as_str())?);
+    assert!(rt; is_shown(alloc, of_length(alloc, 257)?.as_str(), "TooBig")?);
     Ok(())
 }

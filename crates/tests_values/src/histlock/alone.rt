@@ -5,18 +5,24 @@ use super::notes::Notes;
 use lasp_histlock::{Held, HistLock};
 use std::test::Fail;
 
+fn has_one_note(notes: &Notes) -> bool {
+    match notes.entries.as_slice() {
+        [note] => notes.topic == 7 && note.by == 0 && note.text == 5,
+        _ => false,
+    }
+}
+
 #[test]
 fn a_given_entry_is_counted(rt: HostRuntime) -> Result<(), Fail> {
     let (lock, mut first) = HistLock::new(rt.alloc(), Notes::about(rt.alloc(), 7))?;
-    assert_eq!(rt; lock.length(&mut first), 0);
+    let before = lock.length(&mut first);
     write(&rt, &lock, &mut first, 5)?;
     first.known();
-    assert_eq!(rt; lock.length(&mut first), 1);
+    let after = lock.length(&mut first);
     let value = lock
         .close(first)
         .ok_or("a lock with one pass didn't close")?;
-    assert!(rt; value.topic == 7 && value.entries.len() == 1);
-    assert!(rt; value.entries[0].by == 0 && value.entries[0].text == 5);
+    assert!(rt; before == 0 && after == 1 && has_one_note(&value));
     Ok(())
 }
 
@@ -24,21 +30,26 @@ fn a_given_entry_is_counted(rt: HostRuntime) -> Result<(), Fail> {
 fn a_second_pass_misses_while_the_first_has_the_turn(rt: HostRuntime) -> Result<(), Fail> {
     let (lock, mut first) = HistLock::new(rt.alloc(), Notes::about(rt.alloc(), 7))?;
     let mut second = lock.split(&mut first)?;
-    assert!(rt; second.number() == 1 && first.made() == 2);
     let held = lock.take(&rt, &mut first);
     let missed = misses(&lock, &mut second);
     let length = lock.length(&mut second);
     lock.give(&mut first, held);
-    assert!(rt; missed && length == 0);
+    assert!(rt; missed && length == 0 && !misses(&lock, &mut second));
+    Ok(())
+}
+
+#[test]
+fn a_lock_whose_passes_came_back_closes(rt: HostRuntime) -> Result<(), Fail> {
+    let (lock, mut first) = HistLock::new(rt.alloc(), Notes::about(rt.alloc(), 7))?;
+    let mut second = lock.split(&mut first)?;
+    let are_two = second.number() == 1 && first.made() == 2;
     write(&rt, &lock, &mut first, 5)?;
-    assert!(rt; !misses(&lock, &mut second));
-    assert_eq!(rt; lock.length(&mut second), 1);
+    let length = lock.length(&mut second);
     lock.rejoin(&mut first, second);
     let value = lock
         .close(first)
         .ok_or("a lock whose passes came back didn't close")?;
-    assert!(rt; value.topic == 7 && value.entries.len() == 1);
-    assert!(rt; value.entries[0].by == 0 && value.entries[0].text == 5);
+    assert!(rt; are_two && length == 1 && has_one_note(&value));
     Ok(())
 }
 
