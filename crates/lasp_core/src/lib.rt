@@ -21,6 +21,7 @@ mod read;
 mod refused;
 mod replica;
 mod replica_core;
+mod sources;
 mod watched;
 
 pub use entry::{Act, Entry};
@@ -31,4 +32,5 @@ pub use laws::{
 pub use read::{ReadNo, Released};
 pub use refused::{DeliverRefused, NotYet, UpdateRefused};
 pub use replica_core::Core;
+pub use sources::begins;
 pub use watched::{Settle, Try, Watched};

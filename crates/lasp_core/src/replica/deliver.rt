@@ -1,78 +1,31 @@
 //! Deliveries of messages to a replica.
 
-ghost use Rattle.std.specs.Prelude.{◌≡◌, ◌<◌, ◌≤◌, ◌↔◌, OnOk, OnErr, IfOk, IsTrue, Some, length, map, slice_get};
+ghost use Rattle.std.specs.Prelude.{◌≡◌, ◌<◌, ◌≤◌, OnOk, OnErr, IfOk, length, map};
 ghost use Rattle.std.specs.Arc.{arc_value};
 ghost use Rattle.model_states.specs.Counts as plain;
 ghost use Rattle.model_states.specs.Content.{join_contents, of_set, size_of, row_limit};
 ghost use Rattle.model_states.specs.Threshold.{set};
-ghost use Rattle.model_graph.specs.Graph.{is_source};
-ghost use Rattle.model_messages.specs.Message.{Sent, sent_at, brought, gained};
+ghost use Rattle.model_messages.specs.Message.{sent_at, brought, gained};
 ghost use Rattle.model_held.specs.Held.{IsSentTo};
 ghost use Rattle.model_journal.specs.Entry as model;
 ghost use Rattle.model_replica.specs.Peer.{entry};
-ghost use Rattle.lasp_graph.specs.Decl.{decl_of};
-ghost use Rattle.lasp_graph.specs.Kind.{kind_of};
 ghost use Rattle.lasp_state.specs.State.{content_of, shape_of};
 ghost use Rattle.lasp_graph.specs.States.{held_of, held_at, contents_of, AreJoinable};
-ghost use Rattle.lasp_wire.specs.Sent as sent;
-ghost use Rattle.lasp_core.specs.Replica.{told, IsReplica, Goes, Stays, IsBeginning, IsDelivered};
+ghost use Rattle.lasp_core.specs.Replica.{told, IsReplica, Goes, Stays, IsDelivered};
 ghost use Rattle.lasp_core.specs.Delivery.{IsLike, AreOfKind, AreSmall, IsTaken, IsRefusedAt, AreJoined, IsRefused, AreRecordable, AreRecordedTo};
 
 use super::sizes::{joined_size, news};
 use super::{MOST_ROWS, Replica};
 use crate::entry::{Act, Entry};
 use crate::refused::DeliverRefused;
-use lasp_graph::{Decl, Graph, Kind, States};
+use crate::sources::begins;
+use lasp_graph::{Graph, States};
 use lasp_history::History;
 use lasp_orset::OrSet;
 use lasp_state::State;
-use lasp_value::Name;
 use lasp_wire::{Counts, Message};
 use std::alloc::Global;
 use std::sync::Arc;
-
-/// Whether a state is one of a source of the kind.
-fn is_same_kind(state: &State, kind: &Kind) -> bool
-    ensures { IsTrue result ↔ (IsTrue (is_source (kind_of kind.now)) × (sent.kind_of state.now ≡ kind_of kind.now)) }
-{
-    match state {
-        State::Set(_) => matches!(kind, Kind::OrSet),
-        State::Grow(_) => matches!(kind, Kind::GSet),
-        State::Count(_) => matches!(kind, Kind::Counter),
-        State::Max(_) => matches!(kind, Kind::MaxReg),
-        State::Fold(_, _) => false,
-    }
-}
-
-/// Whether source number i of a message is this one.
-fn is_source_at(message: &Message, i: u64, decl: &Decl) -> bool
-    requires { i < length message.now.sources }
-    ensures { (s : Sent) → slice_get message.now.sources i ≡ Some s → IsTrue result ↔ (s.decl ≡ decl_of decl.now) }
-{
-    message.recall();
-    let name: &Name = message.name_at(i);
-    name.as_str() == decl.name.as_str() && is_same_kind(message.state_at(i), &decl.kind)
-}
-
-/// Whether a message's sources are the first of the graph's, in their order.
-fn begins(graph: &Graph, message: &Message) -> bool
-    ensures { IsTrue result ↔ IsBeginning message.now graph.now }
-{
-    let mut i = 0;
-    for x in 0..graph.len() {
-        if i == message.len() {
-            return true;
-        }
-        let decl = graph.at(x);
-        if decl.kind.is_source() {
-            if !is_source_at(message, i, decl) {
-                return false;
-            }
-            i += 1;
-        }
-    }
-    i == message.len()
-}
 
 /// Raises each count to the other one where that is larger.
 fn raise(counts: &mut Counts, others: &Counts)

@@ -1,7 +1,7 @@
 use Rattle.std.proofs.Common.{◌↔◌, ◌≤◌, length}
 use Rattle.lasp_core.specs.Replica.{IsBeginning}
 use Rattle.lasp_core.proofs.BeginLaws.{BeginsFrom}
-use Rattle.lasp_core.proofs.replica.deliver.begins.Given as goal
+use Rattle.lasp_core.proofs.sources.begins.Given as goal
 
 abbrev pub invariant-loop-x : goal.invariant-loop-x
 invariant-loop-x l = record {

@@ -3,8 +3,8 @@ use Rattle.model_graph.specs.Graph.{is_source}
 use Rattle.lasp_graph.specs.Decl.{decl_of}
 use Rattle.lasp_core.specs.Replica.{IsBeginning}
 use Rattle.lasp_core.proofs.BeginLaws.{BeginsFrom, some-source, begins-next, begins-other, begins-process, begins-whole, begins-end}
-use Rattle.lasp_core.proofs.replica.deliver.begins.Goals as goal
-use Rattle.lasp_core.proofs.replica.deliver.begins.Goals.{then-is_source+else-not-is_source_at, else-is_source}
+use Rattle.lasp_core.proofs.sources.begins.Goals as goal
+use Rattle.lasp_core.proofs.sources.begins.Goals.{then-is_source+else-not-is_source_at, else-is_source}
 
 pub returns-then-i-len : goal.returns-then-i-len
 returns-then-i-len c =

@@ -1,7 +1,7 @@
 use Rattle.std.proofs.Common.{rules, ◌≡◌}
 use Rattle.lasp_graph.specs.Decl.{decl_of}
 use Rattle.lasp_core.proofs.BeginLaws.{same-source}
-use Rattle.lasp_core.proofs.replica.deliver.is_source_at.Goals as goal
+use Rattle.lasp_core.proofs.sources.is_source_at.Goals as goal
 
 pub returns-then-eq : goal.returns-then-eq
 returns-then-eq c =
