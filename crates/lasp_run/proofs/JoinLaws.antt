@@ -1,65 +1,44 @@
 -- The message of a file, and the node that takes it.
-use Rattle.std.proofs.Common.{◌≡◌, ℕ, suc, ◌<◌, Bool, true, false, cond, List, [], ◌∷◌, ◌++◌, length, take, Option, Some, None, Result, Ok, Err, refl, sym, ap, subst, ◌∙◌, arith}
-use Rattle.std.specs.List.{AllByRecursion}
+use Rattle.std.proofs.Common.{◌≡◌, ◌↔◌, ℕ, ◌<◌, ◌&&◌, ◌==◌, IsTrue, Bool, true, false, List, length, Option, Some, None, Result, Ok, Err, sym, ap, subst, ◌∙◌, arith}
+use Rattle.std.proofs.lemmas.Bool.Decides.{same_from_decides, Decides-and, Decides-eqb}
 use Rattle.model_states.proofs.CountLaws.{length-zeros, length-larger}
 use Rattle.model_graph.specs.Chain.{◌>>=◌, check, refusing}
-use Rattle.model_graph.specs.Graph.{Decl, is_source, name_at}
+use Rattle.model_graph.specs.Graph.{Decl, name_at}
 use Rattle.model_graph.specs.Evaluation.{first_large}
-use Rattle.model_graph.specs.Lawful.{sources_among}
-use Rattle.model_messages.specs.Message.{Sent, Message, brought}
+use Rattle.model_messages.specs.Message.{Message, brought}
 use Rattle.model_messages.proofs.MessageLaws.{gained-length}
-use Rattle.model_wire.specs.Lawful.{IsSent, IsMessage}
+use Rattle.model_wire.specs.Lawful.{IsMessage}
 use Rattle.model_wire.specs.Message.{decoded}
 use Rattle.model_world.specs.World.{Peer, fresh_peer, delivered}
-use Rattle.model_held.specs.Held.{IsHeld, IsSentSource, IsSentTo}
+use Rattle.model_held.specs.Held.{IsHeld, IsSentTo}
 use Rattle.model_held.proofs.HeldLaws.{held-fresh, held-delivered}
 use Rattle.model_held.proofs.StopLaws.{first-low}
+use Rattle.model_replica.proofs.MessageLaws.{sent-to}
 use Rattle.model_program.specs.Follows.{Gives}
-use Rattle.model_program.specs.Merge.{declared_in, sources_of, may_take, file_at, state_refused, large_refused, replica_before, message_joined, file_joined}
+use Rattle.model_program.specs.Merge.{may_take, file_at, state_refused, large_refused, replica_before, message_joined, file_joined}
 use Rattle.model_program.proofs.MergeLaws.{take-Decides}
 use Rattle.model_program.specs.declared.refusal.Refusal.{Refusal}
 use Rattle.model_program.specs.declared.refusal.Refusal.TheVariants as refusal
 use Rattle.model_program.specs.declared.state_why.StateWhy.TheVariants.{WrongGraph}
 use Rattle.model_program.specs.declared.failure.Failure.{Failure}
 use Rattle.model_program.specs.declared.failure.Failure.TheVariants.{Refused, ReadFault, Memory}
+use Rattle.lasp_core.specs.Replica.{IsBeginning}
 use Rattle.lasp_drive.specs.Node.{IsNode}
 use Rattle.lasp_run.specs.Merge.{IsReplica, IsRefusal}
 
 -- ---- messages to a graph
 
--- sources that begin a graph's are those of some first declarations
-first-declared : (g first rest : List Decl) → first ++ rest ≡ sources_of g → (n : ℕ) × (first ≡ sources_among (take n g))
-first-declared g [] rest e = (0, none g) where
-  none : (ds : List Decl) → [] ≡ sources_among (take 0 ds)
-  none [] = refl
-  none (d ∷ ds) = refl
-first-declared [] (d ∷ first) rest e = absurd cc
-first-declared (e ∷ g) (d ∷ first) rest same =
-    choose (λ tail. first-declared g first rest tail) (λ all. first-declared g (d ∷ first) rest all) (is_source e.kind) refl same where
-      longer : (n : ℕ) (b : Bool) → is_source e.kind ≡ b → sources_among (take (suc n) (e ∷ g)) ≡ cond b (e ∷ sources_among (take n g)) (sources_among (take n g))
-      longer n b is = ap (λ (c : Bool). cond c (e ∷ sources_among (take n g)) (sources_among (take n g))) is
-
-      choose : (first ++ rest ≡ sources_of g → (n : ℕ) × (first ≡ sources_among (take n g))) → (d ∷ (first ++ rest) ≡ sources_of g → (n : ℕ) × (d ∷ first ≡ sources_among (take n g)))
-          → (b : Bool) → is_source e.kind ≡ b → d ∷ (first ++ rest) ≡ cond b (e ∷ sources_of g) (sources_of g) → (n : ℕ) × (d ∷ first ≡ sources_among (take n (e ∷ g)))
-      choose in_tail in_all true is all =
-          let head : d ≡ e = cc in
-          let tail : first ++ rest ≡ sources_of g = cc in
-          let found = in_tail tail in
-          (suc found.0, ap (λ (ds : List Decl). d ∷ ds) found.1 ∙ ap (λ (c : Decl). c ∷ sources_among (take found.0 g)) head ∙ sym (longer found.0 true is))
-      choose in_tail in_all false is all =
-          let found = in_all all in
-          (suc found.0, found.1 ∙ sym (longer found.0 false is))
-
--- what a message has of its sources is within the format
-sent-each : (nodes : ℕ) (sources : List Sent) → AllByRecursion (IsSent nodes) sources → AllByRecursion (IsSentSource nodes) sources
-sent-each nodes [] h = tt
-sent-each nodes (s ∷ sources) h = (h.0.1, sent-each nodes sources h.1)
+-- a message may be taken where its sources are the first of the graph's, and it is of as many nodes
+pub taken-test : (g : List Decl) (r : Peer) (m : Message) (first : Bool) → IsTrue first ↔ IsBeginning m g → (first && (length m.counts == length r.counts)) ≡ may_take g r m
+taken-test g r m first is =
+    same_from_decides (first && (length m.counts == length r.counts)) (may_take g r m)
+    (Decides-and first (length m.counts == length r.counts) (λ t. let begins = is.0 t in record { rest = begins.0; is = begins.1 }, λ p. is.1 (p.rest, p.is)) (Decides-eqb (length m.counts) (length r.counts)))
+    (take-Decides g r m)
 
 taken-sent : (g : List Decl) (r : Peer) (m : Message) → may_take g r m ≡ true → IsMessage m → IsSentTo (length r.counts) g m
 taken-sent g r m taken lawful =
     let parts = (take-Decides g r m).0 taken in
-    let begins = first-declared g (declared_in m) parts.0.rest parts.0.is in
-    record { wide = parts.1; declared = begins.0; sources = begins.1; each = subst (λ (nodes : ℕ). AllByRecursion (IsSentSource nodes) m.sources) parts.1 (sent-each (length m.counts) m.sources lawful.sources) }
+    sent-to (length r.counts) g m lawful parts.1 (parts.0.rest, parts.0.is)
 
 -- ---- what is answered of a message
 

@@ -5,7 +5,6 @@ pub mod MergeLaws
 pub mod NameLaws
 pub mod PartLaws
 pub mod PlayLaws
-pub mod SourceLaws
 pub mod StepLaws
 pub mod TellLaws
 pub mod TextLaws

@@ -12,7 +12,6 @@ ghost use Rattle.lasp_run.specs.Merge.{IsReplica, ComesTo};
 ghost use Rattle.lasp_run.specs.Words.{words_of, answered};
 
 mod join;
-mod source;
 mod text;
 
 use crate::merge::join::{join_first, join_next};

@@ -11,7 +11,7 @@ ghost use Rattle.model_program.specs.Merge.{state_refused, may_take, message_joi
 ghost use Rattle.model_program.specs.declared.refusal.Refusal.TheVariants as refusal;
 ghost use Rattle.lasp_run.specs.Merge.{IsReplica, IsRefusal};
 
-use crate::merge::source::begins;
+use lasp_core::begins;
 use lasp_drive::{Node, NodeStop};
 use lasp_graph::Graph;
 use lasp_wire::{Message, WireRefused, decode};
