@@ -1,5 +1,5 @@
--- The messages that were sent, each kept as its bytes.
-use Rattle.std.specs.Prelude.{◌≡◌, ℕ, ◌++◌, List, [], ◌∷◌, length, map, sum, Option, Some, None, Result, Ok, Err, refl}
+-- The messages that were sent, each as its bytes.
+use Rattle.std.specs.Prelude.{◌≡◌, ℕ, ◌++◌, List, [], ◌∷◌, length, map, sum, Result, Ok, Err, refl}
 use Rattle.std.specs.Coded.{Coded, code_by, coded×, coded_ℕ, coded_list}
 use Rattle.model_messages.specs.Message.{Message}
 use Rattle.model_messages.specs.Spelling.{spelled}
@@ -20,11 +20,6 @@ message_in bytes = or_nothing (decoded bytes)
 pub record AreSpelled (bytes : List ℕ) : Type 0 where
   pub lawful : IsMessage (message_in bytes)
   pub spelling : bytes ≡ spelled (message_in bytes)
-
--- a message that was read from the bytes already is the one that they are
-abbrev pub AgreesWith : {X : Type 0} → (X → Message) → Message → Option X → Type 0
-AgreesWith view m None = Unit {0}
-AgreesWith view m (Some x) = view x ≡ m
 
 -- the bytes of all messages
 abbrev pub size_of : List Message → ℕ

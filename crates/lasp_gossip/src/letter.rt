@@ -10,26 +10,33 @@ use std::alloc::{AllocError, Global};
 use std::marker::Model;
 use std::sync::Arc;
 
-/// The bytes of a message, and the message itself once somebody received it. It is seen as the message.
+/// A message that was sent, seen as the message.
 #[derive(Drop)]
 pub(crate) struct Letter {
-    bytes: Vec<u8>,
-    message: Option<Arc<Message>>,
+    kept: Kept,
+}
+
+/// What is kept of a message.
+#[derive(Drop)]
+enum Kept {
+    /// Its bytes, as long as nobody received it.
+    Bytes(Vec<u8>),
+    /// The message that they were, shared with all who received it. The bytes are gone, since nobody reads them again.
+    Read(Arc<Message>),
 }
 
 impl Model for Letter {
-    ghost use Rattle.std.specs.Arc.{arc_value};
     ghost use Rattle.model_messages.specs.Message as plain;
     ghost use Rattle.lasp_wire.specs.Sent.{coded_message};
-    ghost use Rattle.lasp_gossip.specs.Network.{message_in, AreSpelled, AgreesWith};
+    ghost use Rattle.lasp_gossip.specs.Kept.{message_of, IsKept};
 
     ghost Value = { plain.Message };
 
     ghost coded = { coded_message };
 
-    ghost view = { λ a. message_in a.bytes.items };
+    ghost view = { λ a. message_of a.kept };
 
-    ghost invariant = { λ a. AreSpelled a.bytes.items × AgreesWith (λ m. arc_value m) (message_in a.bytes.items) a.message };
+    ghost invariant = { λ a. IsKept a.kept };
 }
 
 impl Letter {
@@ -39,8 +46,7 @@ impl Letter {
         ensures { result ≡ message_in bytes.items }
     {
         Letter {
-            bytes,
-            message: None,
+            kept: Kept::Bytes(bytes),
         }
     }
 
@@ -49,13 +55,15 @@ impl Letter {
         ensures same { self.new ≡ self.old }
         ensures message { IfOk result (λ m. arc_value m ≡ self.old) }
     {
-        if let Some(message) = &self.message {
-            return Arc::try_clone(message);
+        match &self.kept {
+            Kept::Read(message) => Arc::try_clone(message),
+            Kept::Bytes(bytes) => {
+                let message = Arc::new(alloc, read(alloc, bytes)?)?;
+                let share = Arc::try_clone(&message)?;
+                self.kept = Kept::Read(message);
+                Ok(share)
+            }
         }
-        let message = Arc::new(alloc, read(alloc, &self.bytes)?)?;
-        let share = Arc::try_clone(&message)?;
-        self.message = Some(message);
-        Ok(share)
     }
 }
 
