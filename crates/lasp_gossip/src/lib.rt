@@ -15,6 +15,3 @@ mod refused;
 pub use compose::message_of;
 pub use network::Network;
 pub use refused::SendRefused;
-
-#[cfg(test)]
-mod tests;

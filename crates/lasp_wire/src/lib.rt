@@ -23,6 +23,3 @@ pub use message::Message;
 pub use model_wire::WireWhy;
 pub use recall::recall_value;
 pub use refused::WireRefused;
-
-#[cfg(test)]
-mod tests;

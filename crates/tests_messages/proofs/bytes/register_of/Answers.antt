@@ -7,7 +7,7 @@ use Rattle.lasp_state.specs.declared.state.State.{State}
 use Rattle.lasp_state.specs.declared.state.State.TheVariants.{Set, Grow, Count, Max, Fold}
 use Rattle.lasp_state.specs.State.{content_of, shape_of}
 use Rattle.lasp_wire.specs.Sent.{message, sent, kind_of, with_source}
-use Rattle.lasp_wire.proofs.tests.register_of.Goals as goal
+use Rattle.tests_messages.proofs.bytes.register_of.Goals as goal
 
 is_register : (s : State) → shape_of s ≡ register → content_of s ≡ least → IsSource 1 (kind_of s) (content_of s)
 is_register (Set rows) h e = absurd cc

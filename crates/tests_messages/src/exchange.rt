@@ -8,7 +8,7 @@ ghost use Rattle.model_wire.specs.Lawful.{FitsTop, IsSource};
 ghost use Rattle.lasp_graph.specs.States.{held_at};
 ghost use Rattle.lasp_state.specs.State.{content_of, shape_of};
 
-use crate::message_of;
+use lasp_gossip::message_of;
 use lasp_graph::{Decl, Graph, Kind, States};
 use lasp_state::{Op, State, print_state};
 use lasp_value::{Name, Text};
@@ -91,7 +91,9 @@ fn shown(alloc: Global, m: &Message) -> Result<Text, Fail> {
 }
 
 fn spelled(alloc: Global, g: &Graph, number: i64) -> Result<Vec<u8>, Fail> {
-    Ok(encode(alloc, &sent(alloc, g, &raised(alloc, number)?)?)?)
+    let sources = raised(alloc, number)?;
+    let message = sent(alloc, g, &sources)?;
+    Ok(encode(alloc, &message)?)
 }
 
 #[test]

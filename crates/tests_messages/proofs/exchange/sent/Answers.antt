@@ -5,7 +5,7 @@ use Rattle.model_messages.specs.Message.{Sent, sent_from, message_of}
 use Rattle.model_readings.specs.Lawful.{IsGraph}
 use Rattle.model_wire.specs.Lawful.{IsSource, IsSent, IsMessage}
 use Rattle.lasp_graph.specs.States.{Held, held_at, contents_of}
-use Rattle.lasp_gossip.proofs.tests.exchange.sent.Goals as goal
+use Rattle.tests_messages.proofs.exchange.sent.Goals as goal
 
 -- a replica that knows one update of the first of two nodes
 one-lawful : (g : List Decl) (hs : List Held) → IsGraph g → length g ≡ 1 → kind_at g 0 ≡ MaxReg → length hs ≡ 1 → IsSource 2 MaxReg (held_at hs 0).content → IsMessage (message_of g (contents_of hs) (1 ∷ 0 ∷ []))
