@@ -7,8 +7,6 @@ mod growth;
 mod history;
 mod laws;
 mod news;
-#[cfg(test)]
-mod tests;
 
 pub use history::History;
 pub use laws::{histories_follow_the_journal, histories_tell_what_changed};

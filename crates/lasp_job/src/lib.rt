@@ -9,8 +9,6 @@
 
 mod job;
 mod parts;
-#[cfg(test)]
-mod tests;
 
 pub use job::Job;
 pub use parts::JobParts;

@@ -1,7 +1,7 @@
 use Rattle.std.proofs.Common.{ap}
 use Rattle.lasp_state.specs.State.{content_of}
 use Rattle.lasp_graph.proofs.DeltaLaws.{changed-change}
-use Rattle.lasp_job.proofs.tests.change_of.Goals as goal
+use Rattle.tests_jobs.proofs.job.change_of.Goals as goal
 
 pub returns : goal.returns
 returns c =

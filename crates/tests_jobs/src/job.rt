@@ -9,9 +9,9 @@ ghost use Rattle.lasp_state.specs.State.{content_of, shape_of};
 ghost use Rattle.lasp_graph.specs.Evaluated as evaluated;
 ghost use Rattle.lasp_job.specs.Asked.{IsReadable};
 
-use super::*;
 use lasp_fns::{Library, StepLib};
 use lasp_graph::{EvalRefused, Graph, Inputs, Kind, eval_node, read_graph};
+use lasp_job::Job;
 use lasp_orset::{Entry, OrSet, changed};
 use lasp_state::State;
 use lasp_value::{Token, Value};
