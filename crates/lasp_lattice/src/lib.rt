@@ -7,6 +7,3 @@ mod places;
 
 pub use lattice::Lattice;
 pub use places::join_all;
-
-#[cfg(test)]
-mod tests;

@@ -1,4 +1,4 @@
-//! Tests of values, of sources, of files and outputs, and of the lock.
+//! Tests of values, of joins, of sources, of files and outputs, and of the lock.
 #![tactic(auto)]
 
 #[cfg(test)]
@@ -9,6 +9,8 @@ mod edge;
 mod histlock;
 #[cfg(test)]
 mod json;
+#[cfg(test)]
+mod lattice;
 #[cfg(test)]
 mod orset;
 #[cfg(test)]

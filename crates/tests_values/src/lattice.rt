@@ -1,13 +1,26 @@
 //! Joining lists place by place, shown at a small instance: numbers under the maximum.
 
-ghost use Rattle.std.specs.Prelude.{◌≡◌, ℕ, ◌≤◌, max, refl};
+ghost use Rattle.std.specs.Prelude.{ℕ, ◌≤◌, max};
 ghost use Rattle.std.proofs.Common.{arith};
 
-use super::*;
+use lasp_lattice::{Lattice, join_all};
 use std::alloc::AllocError;
+use std::marker::Model;
 use std::test::Fail;
 
-impl Lattice for u64 {
+/// A number under the maximum.
+#[derive(Drop)]
+struct Height {
+    number: u64,
+}
+
+impl Model for Height {
+    ghost Value = { ℕ };
+
+    ghost view = { λ a. a.number };
+}
+
+impl Lattice for Height {
     ghost is_state = { λ _. Unit {0} };
 
     ghost same_shape = { λ _ _. Unit {0} };
@@ -20,18 +33,18 @@ impl Lattice for u64 {
 
     fn known(&self) {}
 
-    fn bottom_like(&self) -> Result<u64, AllocError> {
-        Ok(0)
+    fn bottom_like(&self) -> Result<Height, AllocError> {
+        Ok(Height { number: 0 })
     }
 
-    fn le(&self, other: &u64) -> bool {
-        self <= other
+    fn le(&self, other: &Height) -> bool {
+        self.number <= other.number
     }
 
-    fn join_in(&mut self, other: &u64) -> Result<bool, AllocError> {
-        let grew = *self < *other;
+    fn join_in(&mut self, other: &Height) -> Result<bool, AllocError> {
+        let grew = self.number < other.number;
         if grew {
-            *self = *other;
+            self.number = other.number;
         }
         Ok(grew)
     }
@@ -71,21 +84,31 @@ impl Lattice for u64 {
     ghost lowest = { λ s t _ _ _. omega arith };
 }
 
+fn state(number: u64) -> Height {
+    Height { number }
+}
+
+/// Whether three states are of these numbers.
+fn are(states: &[Height; 3], numbers: [u64; 3]) -> bool {
+    let [first, second, third] = states;
+    [first.number, second.number, third.number] == numbers
+}
+
 #[test]
 fn joining_the_same_again_changes_nothing(rt: HostRuntime) -> Result<(), Fail> {
-    let mut into = [4u64, 0, 7];
-    let others = [2u64, 5, 7];
+    let mut into = [state(4), state(0), state(7)];
+    let others = [state(2), state(5), state(7)];
     assert!(rt; join_all(&mut into, &others)?);
-    assert_eq!(rt; into, [4, 5, 7]);
+    assert!(rt; are(&into, [4, 5, 7]));
     assert!(rt; !join_all(&mut into, &others)?);
-    assert_eq!(rt; into, [4, 5, 7]);
+    assert!(rt; are(&into, [4, 5, 7]));
     Ok(())
 }
 
 #[test]
 fn the_least_element_is_below_each(rt: HostRuntime) -> Result<(), Fail> {
-    let least = 9u64.bottom_like()?;
-    assert!(rt; Lattice::le(&least, &0));
-    assert!(rt; !Lattice::le(&1u64, &least));
+    let least = state(9).bottom_like()?;
+    assert!(rt; least.le(&state(0)));
+    assert!(rt; !state(1).le(&least));
     Ok(())
 }
