@@ -17,8 +17,6 @@ mod read;
 mod refused;
 mod script;
 mod step;
-#[cfg(test)]
-mod tests;
 mod update;
 mod word;
 

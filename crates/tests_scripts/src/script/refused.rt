@@ -178,3 +178,49 @@ fn each_bad_script_is_refused_by_its_number_and_cause(rt: HostRuntime) -> Result
     assert_eq!(rt; first_other(rt.alloc(), &graph, &REFUSED), None);
     Ok(())
 }
+
+/// Scripts whose first command is read, and whose second one is refused.
+const BEHIND: [(&str, u32, ScriptWhy); 7] = [
+    (
+        r#"[["nodes",2],["mark",0,"a","k"],["bind",0,"a","l"]]"#,
+        2,
+        ScriptWhy::UnknownMark,
+    ),
+    (
+        r#"[["nodes",2],["settle"],["read",0,"c",["added",[null]]]]"#,
+        2,
+        ScriptWhy::WrongOp,
+    ),
+    (
+        r#"[["nodes",2],["settle"],["await",0,"a",["added",[1,null]]]]"#,
+        2,
+        ScriptWhy::ValueRefused,
+    ),
+    (
+        r#"[["nodes",2],["sync"],["deliver",0,2]]"#,
+        2,
+        ScriptWhy::NotSent,
+    ),
+    (
+        r#"[["nodes",2],["declare",["n","orset"]],["declare",["n","gset"]]]"#,
+        2,
+        ScriptWhy::NameTaken,
+    ),
+    (
+        r#"[["nodes",2],["declare",["n","gset"]],["add",0,"n",1]]"#,
+        2,
+        ScriptWhy::WrongOp,
+    ),
+    (
+        r#"[["nodes",2],["settle"],["declare",["n","map","a","f"]]]"#,
+        2,
+        ScriptWhy::UnknownFunction,
+    ),
+];
+
+#[test]
+fn the_second_command_is_refused_behind_the_first(rt: HostRuntime) -> Result<(), Fail> {
+    let graph = graph_of(rt.alloc())?;
+    assert_eq!(rt; first_other(rt.alloc(), &graph, &BEHIND), None);
+    Ok(())
+}

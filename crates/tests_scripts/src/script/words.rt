@@ -127,3 +127,37 @@ fn a_script_of_each_word_is_read(rt: HostRuntime) -> Result<(), Fail> {
     assert_eq!(rt; spell(rt.alloc(), &script)?.as_str(), SPELLED);
     Ok(())
 }
+
+const EACH_ONCE: &str = r#"[["nodes",2],
+    ["add",0,"a",5],["remove",1,"b",7],["insert",0,"g",1],["inc",1,"c",3],["max",0,"m",-4],["mark",0,"a","k"],["bind",1,"a","k"],
+    ["send",0],["sync"],["deliver",1,2],["settle"],["declare",["w","union","a","u"]],["print",0,"w"],
+    ["read",0,"a",["at_least","k"]],["read",1,"a",["above","k"]],["await",0,"c",["count",0]],
+    ["await",1,"w",["added",[5]]],["await",0,"u",["removed",[]]]]"#;
+
+const EACH_ONCE_SPELLED: &str = r#"2 nodes
+add 0 0 5
+remove 1 1 7
+insert 0 3 1
+inc 1 4 3
+max 0 5 -4
+mark 0 0
+bind 1 0 0
+send 0
+sync
+deliver 1 2
+settle
+declare w of 0 2
+print 0 6
+read 0 0 at_least 0
+read 1 0 above 0
+await 0 4 count 0
+await 1 6 added 5
+await 0 2 removed"#;
+
+#[test]
+fn a_declared_union_is_printed_and_awaited(rt: HostRuntime) -> Result<(), Fail> {
+    let graph = graph_of(rt.alloc())?;
+    let script = read(rt.alloc(), EACH_ONCE, &graph)?;
+    assert_eq!(rt; spell(rt.alloc(), &script)?.as_str(), EACH_ONCE_SPELLED);
+    Ok(())
+}
