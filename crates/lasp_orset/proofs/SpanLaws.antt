@@ -1,6 +1,6 @@
 -- The rows of one value stand in the pieces that a search finds, and what they say of it.
-use Rattle.std.proofs.Common.{◌≡◌, ◌≢◌, ℕ, zero, suc, ◌-◌, ◌<◌, max, Bool, true, false, cond, not, ◌&&◌, ◌||◌, IsTrue, List, [], ◌∷◌, ◌++◌, map, filter, length, take, drop, refl, sym, ap, subst, ◌∙◌, append-nil, length-drop, arith, if◌then◌else◌}
-use Rattle.std.proofs.lemmas.List.{take_all}
+use Rattle.std.proofs.Common.{◌≡◌, ◌≢◌, ℕ, zero, suc, ◌-◌, ◌<◌, max, Bool, true, false, cond, not, ◌&&◌, ◌||◌, IsTrue, List, [], ◌∷◌, ◌++◌, map, filter, length, take, drop, get_or, ◌≤◌, refl, sym, ap, subst, ◌∙◌, append-nil, length-drop, arith, if◌then◌else◌}
+use Rattle.std.proofs.lemmas.List.{take_all, take-append-drop}
 use Rattle.std.proofs.lemmas.List.Elements.{filter-append}
 use Rattle.std.specs.Ordering.{is_eq, is_lt, eq_by_cmp, ordering_reverse, ordering_then}
 use Rattle.std.specs.List.{list_any}
@@ -15,7 +15,7 @@ use Rattle.model_sets.specs.Values.{held, IsHeld, live_values, visible}
 use Rattle.model_sets.proofs.RowLaws.{and-left, and-right, and-both, is-Less, join-row, join-append, join-nothing, of_rows-ascending}
 use Rattle.model_sets.proofs.ValueLaws.{held-visible, held-small}
 use Rattle.lasp_orset.specs.Pieces.{joined, AreFilled, first_value_cmp, top_value_cmp}
-use Rattle.lasp_orset.proofs.PieceLaws.{ascending-right, joined-split, filled-drop}
+use Rattle.lasp_orset.proofs.PieceLaws.{ascending-left, ascending-right, joined-split, filled-drop}
 
 -- ---- values along ascending rows
 
@@ -117,6 +117,55 @@ near-kept v css b e up full below above =
     ap (λ (l : List (List Row)). filter (is_of v) (joined (take e l))) whole
     ∙ kept-front v (drop b css) e (ascending-drop css b up) (filled-drop css b full) (subst (λ (l : List (List Row)). top_value_cmp v (drop e l) ≡ Greater) whole above)
     ∙ kept-behind v css b up full below
+
+-- ---- the rows of a value within a piece
+
+rows-behind : (v : Val) (s : List Row) (i : ℕ) → IsAscending s → (0 < i → first_value_cmp v (drop i s) ≡ Less) → filter (is_of v) (drop i s) ≡ filter (is_of v) s
+rows-behind v s zero up below = refl
+rows-behind v s (suc i) up below =
+    let split : s ≡ take (suc i) s ++ drop (suc i) s = sym (take-append-drop (suc i) s) in
+    let front : filter (is_of v) (take (suc i) s) ≡ [] = none-before v (take (suc i) s) (drop (suc i) s) (subst IsAscending split up) (below (omega arith)) in
+    sym (ap (filter (is_of v)) split ∙ filter-append (is_of v) (take (suc i) s) (drop (suc i) s) ∙ ap (λ (l : List Row). l ++ filter (is_of v) (drop (suc i) s)) front)
+
+rows-front : (v : Val) (s : List Row) (i : ℕ) → IsAscending s → first_value_cmp v (drop i s) ≡ Greater → filter (is_of v) (take i s) ≡ filter (is_of v) s
+rows-front v s i up above =
+    let split : s ≡ take i s ++ drop i s = sym (take-append-drop i s) in
+    let back : filter (is_of v) (drop i s) ≡ [] = none-above v (drop i s) (ascending-right (take i s) (drop i s) (subst IsAscending split up)) above in
+    sym (ap (filter (is_of v)) split ∙ filter-append (is_of v) (take i s) (drop i s) ∙ ap (λ (l : List Row). filter (is_of v) (take i s) ++ l) back ∙ append-nil (filter (is_of v) (take i s)))
+
+-- The rows from one below the value, or the first, to one above it, as the code takes them.
+pub within-kept : (v : Val) (s : List Row) (b e : ℕ) → IsAscending s → (0 < b → first_value_cmp v (drop b s) ≡ Less) → first_value_cmp v (drop e (take (length s - b) (drop b s))) ≡ Greater
+    → filter (is_of v) (take e (take (length s - b) (drop b s))) ≡ filter (is_of v) s
+within-kept v s b e up below above =
+    let whole : take (length s - b) (drop b s) ≡ drop b s = grind (arith, take_all, length-drop) in
+    let later : IsAscending (drop b s) = ascending-right (take b s) (drop b s) (subst IsAscending (sym (take-append-drop b s)) up) in
+    ap (λ (l : List Row). filter (is_of v) (take e l)) whole
+    ∙ rows-front v (drop b s) e later (subst (λ (l : List Row). first_value_cmp v (drop e l) ≡ Greater) whole above)
+    ∙ rows-behind v s b up below
+
+alone-is : (near : List (List Row)) (s : List Row) → 1 ≤ length near → length near < 2 → s ≡ get_or near 0 s → near ≡ s ∷ []
+alone-is [] s some few e = absurd (omega (arith, some))
+alone-is (c ∷ []) s some few e = ap (λ (r : List Row). r ∷ []) (sym e)
+alone-is (c ∷ d ∷ cs) s some few e = absurd (omega (arith, few))
+
+-- A piece that stands alone among those that are near ascends.
+near-ascending : (css : List (List Row)) (b e : ℕ) → IsAscending (joined css) → IsAscending (joined (take e (take (length css - b) (drop b css))))
+near-ascending css b e up =
+    let whole = behind-whole css b in
+    let later = ascending-drop css b up in
+    subst (λ (l : List (List Row)). IsAscending (joined (take e l))) (sym whole) (ascending-left (joined (take e (drop b css))) (joined (drop e (drop b css))) (subst IsAscending (joined-split (drop b css) e) later))
+
+pub alone-ascending : (css : List (List Row)) (b e : ℕ) (s rows : List Row) → IsAscending (joined css) → (let near = take e (take (length css - b) (drop b css)) in (1 ≤ length near) × (length near < 2) × (s ≡ get_or near 0 s)) → rows ≡ s → IsAscending rows
+alone-ascending css b e s rows up alone same =
+    let is = alone-is (take e (take (length css - b) (drop b css))) s alone.0 alone.1 alone.2 in
+    subst IsAscending (ap joined is ∙ append-nil s ∙ sym same) (near-ascending css b e up)
+
+-- What is said of the piece is said of all.
+pub alone-kept : (v : Val) (css : List (List Row)) (b e : ℕ) (s rows found pass : List Row) → (let near = take e (take (length css - b) (drop b css)) in (1 ≤ length near) × (length near < 2) × (s ≡ get_or near 0 s)) → rows ≡ s → pass ≡ found
+    → filter (is_of v) found ≡ filter (is_of v) rows → filter (is_of v) (joined (take e (take (length css - b) (drop b css)))) ≡ filter (is_of v) (joined css) → filter (is_of v) pass ≡ filter (is_of v) (joined css)
+alone-kept v css b e s rows found pass alone same passed kept all =
+    let is = alone-is (take e (take (length css - b) (drop b css))) s alone.0 alone.1 alone.2 in
+    ap (filter (is_of v)) passed ∙ kept ∙ ap (filter (is_of v)) (same ∙ sym (append-nil s) ∙ ap joined (sym is)) ∙ all
 
 -- ---- a live row of a value
 

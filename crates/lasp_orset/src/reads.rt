@@ -26,7 +26,7 @@ impl OrSet {
         Rows::of(self.pieces())
     }
 
-    /// A pass over rows among which are all those of a value, and besides them at most those of two pieces. It costs a search to find them.
+    /// A pass over rows among which are all those of a value, and besides them seldom more than one. It costs a search to find them.
     pub fn rows_near(&self, value: &Value) -> Rows<'_>
         ensures { filter (is_of (val_of value.now)) result ≡ filter (is_of (val_of value.now)) self.now }
     {

@@ -37,6 +37,13 @@ impl<'a> Rows<'a> {
         Rows { rows: &[], pieces }
     }
 
+    /// A pass over rows of one piece.
+    pub(crate) fn within(rows: &'a [Entry]) -> Rows<'a>
+        ensures { result ≡ rows.now }
+    {
+        Rows { rows, pieces: &[] }
+    }
+
     /// The next row, in constant time.
     pub fn next(&mut self) -> Option<&'a Entry>
         ensures some { IfSome result (λ r. self.old ≡ r.now ∷ self.new) }
