@@ -1,6 +1,6 @@
 //! Putting a row into pieces. A full piece is halved first, so that no failure comes after a change.
 
-ghost use Rattle.std.specs.Prelude.{◌≡◌, ◌<◌, ◌+◌, ◌++◌, ◌∷◌, [], IfOk, OnOk, OnErr, length, if◌then◌else◌};
+ghost use Rattle.std.specs.Prelude.{◌≡◌, ◌<◌, ◌+◌, ◌++◌, ◌∷◌, [], IfOk, OnOk, OnErr, IsTrue, length, if◌then◌else◌};
 ghost use Rattle.model_sets.specs.Rows.{IsAscending, put};
 ghost use Rattle.lasp_orset.specs.Pieces.{IsPlace, AreFilled, joined};
 
@@ -9,7 +9,7 @@ use super::piece::{FULL, Piece};
 use super::search::place_of;
 use std::alloc::{AllocError, Global};
 
-/// Puts a row among the pieces' rows, or makes the row of its key dead where it is. It answers whether there is one row more.
+/// Puts a row among the pieces' rows, or makes the row of its key dead where it is. It answers whether there is one row more. A row above all others costs one comparison, any other a search.
 pub(crate) fn put_entry(
     alloc: Global,
     pieces: &mut Vec<Piece>,
@@ -26,8 +26,24 @@ pub(crate) fn put_entry(
         pieces.push(Piece::of(alloc, entry)?)?;
         return Ok(true);
     }
+    if is_behind(pieces, &entry) {
+        push_entry(alloc, pieces, entry)?;
+        return Ok(true);
+    }
     let at = room_for(alloc, pieces, &entry)?;
     put_at(alloc, pieces, at, entry)
+}
+
+/// Whether a row stands above those of all pieces. Rows mostly come in order, so this is asked before a search.
+fn is_behind(pieces: &[Piece], entry: &Entry) -> bool
+    requires ascends { IsAscending (joined pieces.now) }
+    requires filled { AreFilled pieces.now }
+    ensures { IsTrue result → put entry.now (joined pieces.now) ≡ joined pieces.now ++ entry.now ∷ [] }
+{
+    match pieces.last() {
+        Some(piece) => piece.is_below(entry),
+        None => false,
+    }
 }
 
 /// Appends a row, to the last piece where that has room.

@@ -1,9 +1,10 @@
 //! A run of sorted rows that several sets may share. It is copied before it changes, unless no other set has it.
 
-ghost use Rattle.std.specs.Prelude.{◌≡◌, ◌<◌, ◌+◌, ◌++◌, ◌∷◌, [], IfOk, OnOk, OnErr, length, if◌then◌else◌};
+ghost use Rattle.std.specs.Prelude.{◌≡◌, ◌<◌, ◌+◌, ◌++◌, ◌∷◌, [], IfOk, OnOk, OnErr, IsTrue, length, if◌then◌else◌};
 ghost use Rattle.std.specs.Arc.{arc_value};
 ghost use Rattle.model_sets.specs.Rows.{IsAscending, put};
 ghost use Rattle.lasp_orset.specs.Pieces.{first_cmp, first_value_cmp};
+ghost use Rattle.lasp_orset.specs.Reads.{IsAboveLast};
 ghost use Rattle.lasp_value.specs.Value.{val_of};
 
 use super::entry::Entry;
@@ -82,6 +83,16 @@ impl Piece {
         match self.rows().first() {
             Some(first) => first.compare_value(value),
             None => Ordering::Greater,
+        }
+    }
+
+    /// Whether the last row is below a row; an empty piece has none.
+    pub(crate) fn is_below(&self, entry: &Entry) -> bool
+        ensures { IsTrue result → IsAboveLast entry.now.0 self.now }
+    {
+        match self.rows().last() {
+            Some(last) => last.compare(entry).is_lt(),
+            None => false,
         }
     }
 
