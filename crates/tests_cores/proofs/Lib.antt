@@ -1,0 +1,4 @@
+mod Asked
+mod Declared
+mod Evaluated
+mod Later

@@ -1,0 +1,174 @@
+//! Lists of calls, and what they come to.
+
+ghost use Rattle.std.specs.Prelude.{◌≡◌};
+ghost use Rattle.lasp_core.specs.Listed.{GoesOn};
+ghost use Rattle.tests_cores.specs.Follows.{Follows};
+
+use crate::call::{Call, Until};
+use crate::cores::declare;
+use crate::functions::library;
+use crate::table::Table;
+use crate::wrong::Wrong;
+use lasp_core::{jobs_stay, reads_stay_open};
+use std::alloc::Global;
+
+/// A call that adds no entry.
+fn arrange(table: &mut Table, call: Call) -> Result<(), Wrong>
+    ensures frame { table.new.core.frame ≡ table.old.core.frame }
+    ensures entries { table.new.core.entries ≡ table.old.core.entries }
+{
+    match call {
+        Call::Other(var, doing, n) => table.update_other(var, doing, n),
+        Call::Send => table.send()?,
+        Call::DeclareOther(text) => declare(table.alloc, &mut table.other, table.lib, text)?,
+        Call::Take => table.take()?,
+        Call::Return => table.give_back()?,
+        Call::ReturnAt(var) => table.give_back_at(var)?,
+        Call::Open(var, until) => table.keep_read(var, until)?,
+        Call::Close(place) => table.close(place),
+        Call::Tell(what) => table.tell(what)?,
+        _ => {}
+    }
+    Ok(())
+}
+
+/// Any call.
+fn act(table: &mut Table, call: Call) -> Result<(), Wrong>
+    ensures frame { table.new.core.frame ≡ table.old.core.frame }
+    ensures entries { GoesOn table.old.core.entries table.new.core.entries }
+{
+    match call {
+        Call::Update(var, doing, n) => table.update(var, doing, n),
+        Call::Deliver(number) => table.deliver(number),
+        Call::Declare(text) => declare(table.alloc, &mut table.core, table.lib, text),
+        Call::Work => table.do_next(),
+        Call::WorkAt(var) => table.do_at(var),
+        _ => arrange(table, call),
+    }
+}
+
+/// Any call. Jobs and reads from before it are there after it.
+pub fn call(table: &mut Table, call: Call) -> Result<(), Wrong>
+    ensures { Follows table.old.core table.new.core }
+{
+    jobs_stay();
+    reads_stay_open();
+    act(table, call)
+}
+
+/// Calls one after the other. Whenever the core is settled, it is compared with plain evaluation.
+#[tactic(auto, using(crate::proofs::Later::follows_self, crate::proofs::Later::follows_then))]
+pub fn calls(table: &mut Table, list: &[Call]) -> Result<(), Wrong>
+    ensures { Follows table.old.core table.new.core }
+{
+    for one in list {
+        call(table, *one)?;
+        table.compare()?;
+    }
+    Ok(())
+}
+
+/// Takes a job of a variable, makes other calls, and then hands its result in.
+#[tactic(auto, using(crate::proofs::Later::follows_self, crate::proofs::Later::follows_then))]
+pub fn late(table: &mut Table, var: u8, list: &[Call]) -> Result<(), Wrong> {
+    let Some(work) = table.hold_at(var)? else {
+        return Ok(());
+    };
+    let called = calls(table, list);
+    table.finish(work)?;
+    called
+}
+
+/// The first of two that went wrong.
+fn both(first: Result<(), Wrong>, second: Result<(), Wrong>) -> Result<(), Wrong> {
+    first?;
+    second
+}
+
+/// Opens a read and asks it after each list of calls.
+#[tactic(auto, using(crate::proofs::Later::follows_self, crate::proofs::Later::follows_then))]
+fn asked(table: &mut Table, var: u8, until: Until, lists: [&[Call]; 3]) -> Result<(), Wrong> {
+    let Some(read) = table.ask_for(var, until)? else {
+        return Ok(());
+    };
+    let first = calls(table, lists[0]);
+    let one = table.ask(&read);
+    let second = calls(table, lists[1]);
+    let two = table.ask(&read);
+    let third = calls(table, lists[2]);
+    let three = table.ask(&read);
+    both(
+        both(both(first, one), both(second, two)),
+        both(third, three),
+    )
+}
+
+/// What is under way while calls are made.
+#[derive(Clone, Copy)]
+enum Beside {
+    /// A job of a variable, which is taken after the first calls, and whose result is handed in before the last ones.
+    Job(u8),
+    /// A read of a variable, which is opened before the calls, and asked after each list of them.
+    Read(u8, Until),
+}
+
+/// Calls before, while and after a job of a variable is out.
+fn calls_round(table: &mut Table, var: u8, lists: [&[Call]; 3]) -> Result<(), Wrong> {
+    calls(table, lists[0])?;
+    late(table, var, lists[1])?;
+    calls(table, lists[2])
+}
+
+/// Makes calls beside what is under way.
+fn calls_beside(table: &mut Table, beside: Beside, lists: [&[Call]; 3]) -> Result<(), Wrong> {
+    match beside {
+        Beside::Job(var) => calls_round(table, var, lists),
+        Beside::Read(var, until) => asked(table, var, until, lists),
+    }
+}
+
+/// What calls beside a job or a read come to at a new table, a line each.
+fn told_beside(
+    alloc: Global,
+    graph: &str,
+    beside: Beside,
+    lists: [&[Call]; 3],
+) -> Result<String, Wrong> {
+    let lib = library(alloc)?;
+    let mut table = Table::new(alloc, &lib, graph)?;
+    let called = calls_beside(&mut table, beside, lists);
+    let Table { out, .. } = table;
+    called?;
+    Ok(out)
+}
+
+/// What calls come to, a line each.
+pub fn told(alloc: Global, graph: &str, list: &[Call]) -> Result<String, Wrong> {
+    let lib = library(alloc)?;
+    let mut table = Table::new(alloc, &lib, graph)?;
+    let called = calls(&mut table, list);
+    let Table { out, .. } = table;
+    called?;
+    Ok(out)
+}
+
+/// What calls come to where a job of a variable is taken after the first ones, and its result handed in before the last ones.
+pub fn told_late(
+    alloc: Global,
+    graph: &str,
+    var: u8,
+    lists: [&[Call]; 3],
+) -> Result<String, Wrong> {
+    told_beside(alloc, graph, Beside::Job(var), lists)
+}
+
+/// What calls come to where a read is opened before them, and asked after each list of them.
+pub fn told_asked(
+    alloc: Global,
+    graph: &str,
+    var: u8,
+    until: Until,
+    lists: [&[Call]; 3],
+) -> Result<String, Wrong> {
+    told_beside(alloc, graph, Beside::Read(var, until), lists)
+}

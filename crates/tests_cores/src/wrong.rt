@@ -1,0 +1,73 @@
+//! What calls must not come to.
+
+use lasp_core::{DeliverRefused, UpdateRefused};
+use lasp_fns::LibraryRefused;
+use lasp_graph::{DeclRefused, EvalAll, GraphRefused};
+use std::alloc::{AllocError, AllocFailed};
+
+/// What calls came to that they must not come to.
+#[derive(Debug, Drop)]
+pub enum Wrong {
+    /// A call that is refused, or takes a job and gives it back, changed something.
+    Changed,
+    /// An accepted call didn't add one entry.
+    Journal,
+    /// The released reads aren't those that no longer wait, in ascending order.
+    Released,
+    /// A settled core isn't what plain evaluation gives.
+    Evaluated,
+    /// A variable lacks an input whose version it has applied.
+    Lacking,
+    /// A read is answered and waits, or neither.
+    Waiting,
+    /// A call was refused, or no memory was left.
+    Refused,
+}
+
+impl From<AllocError> for Wrong {
+    fn from(_error: AllocError) -> Wrong {
+        Wrong::Refused
+    }
+}
+
+impl<T: Drop> From<AllocFailed<T>> for Wrong {
+    fn from(_error: AllocFailed<T>) -> Wrong {
+        Wrong::Refused
+    }
+}
+
+impl From<LibraryRefused> for Wrong {
+    fn from(_why: LibraryRefused) -> Wrong {
+        Wrong::Refused
+    }
+}
+
+impl From<GraphRefused> for Wrong {
+    fn from(_why: GraphRefused) -> Wrong {
+        Wrong::Refused
+    }
+}
+
+impl From<DeclRefused> for Wrong {
+    fn from(_why: DeclRefused) -> Wrong {
+        Wrong::Refused
+    }
+}
+
+impl From<EvalAll> for Wrong {
+    fn from(_why: EvalAll) -> Wrong {
+        Wrong::Refused
+    }
+}
+
+impl From<UpdateRefused> for Wrong {
+    fn from(_why: UpdateRefused) -> Wrong {
+        Wrong::Refused
+    }
+}
+
+impl From<DeliverRefused> for Wrong {
+    fn from(_why: DeliverRefused) -> Wrong {
+        Wrong::Refused
+    }
+}
