@@ -9,7 +9,7 @@ use Rattle.lasp_job.specs.declared.job.Job.{Job}
 use Rattle.lasp_core.specs.Core.{IsOpen}
 use Rattle.lasp_core.specs.Listed.{GoesOn}
 use Rattle.lasp_core.specs.Jobs.{IsJobOf, IsResultOf}
-use Rattle.tests_cores.specs.Follows.{IsWork, IsAsked, Follows}
+use Rattle.tests_cores.specs.Follows.{Follows}
 
 -- what jobs are of later entries, as the law of the cores says it
 abbrev pub JobsStay : Type 0
