@@ -1,5 +1,5 @@
 -- What a job of a variable has, and what a replica is once one is out or back.
-use Rattle.std.proofs.Common.{ℕ, pos, ◌≡◌, ◌<◌, ◌≤◌, ◌-◌, Bool, true, false, IsTrue, IsFalse, IfOk, Result, Ok, Err, List, length, map, take, get_or, Option, Some, is_some, refl, sym, ap, subst, ◌∙◌, arith, slice_set, vec_len}
+use Rattle.std.proofs.Common.{ℕ, pos, ◌≡◌, ◌<◌, ◌≤◌, ◌-◌, Bool, true, false, IsTrue, IsFalse, IfOk, Result, Ok, Err, List, length, map, take, get_or, Option, Some, None, is_some, refl, sym, ap, subst, ◌∙◌, arith, slice_set, vec_len}
 use Rattle.std.specs.Option.{option_map}
 use Rattle.std.specs.Vec.{with_item}
 use Rattle.std.specs.Prelude.{slice_get}
@@ -270,6 +270,7 @@ pub record IsMade (job : Job) (y n : ℕ) (g : List Decl) (inputs base : Inputs)
   pub before_is : arc_value job.before ≡ old
   pub first_is : job.first ≡ first
   pub second_is : job.second ≡ second
+  pub fresh : job.gain ≡ None
 
 made-copied : (r : Replica) (y : ℕ) (p : Process) (x z : ℕ) (job : Job) (n : ℕ) (g : List Decl) (inputs base : Inputs) (old : State) (first second : List Row) → IsMade job y n g inputs base old first second → IsCopied r y p x z g inputs base old first second
     → IsCopied r y p x z (arc_value job.graph) job.inputs job.base (arc_value job.before) job.first job.second
@@ -322,6 +323,7 @@ taken r ok y p found x z i job g inputs base old first second copied m =
         gained = λ _. own;
       };
       own = own;
+      fresh = m.fresh;
       earlier = base-inputs r ok y p found job.base c.base_is;
       first = (first-changed r ok y p found x z i (arc_value job.graph) job.inputs job.base (arc_value job.before) job.first job.second c).rows_are;
       second = (second-changed r ok y p found x z i (arc_value job.graph) job.inputs job.base (arc_value job.before) job.first job.second c).rows_are;

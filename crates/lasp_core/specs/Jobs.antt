@@ -1,5 +1,5 @@
 -- Jobs of a replica: which variable's is next, what a job has, and when a result is a job's.
-use Rattle.std.specs.Prelude.{◌≡◌, ◌≢◌, ℕ, ◌+◌, ◌-◌, ◌^◌, ◌<◌, ◌≤◌, min, ◌⊎◌, if◌then◌else◌, List, [], ◌∷◌, ◌++◌, length, take, slice_set, slice_index_or, is_some, IsSome}
+use Rattle.std.specs.Prelude.{◌≡◌, ◌≢◌, ℕ, ◌+◌, ◌-◌, ◌^◌, ◌<◌, ◌≤◌, min, ◌⊎◌, if◌then◌else◌, List, [], ◌∷◌, ◌++◌, None, length, take, slice_set, slice_index_or, is_some, IsSome}
 use Rattle.std.specs.Arc.{arc_value}
 use Rattle.model_values.specs.Row.{Row}
 use Rattle.model_states.specs.Content.{Content, size_of, row_limit}
@@ -119,6 +119,7 @@ pub record IsJobNow (X : Frame) (entries : List model.Entry) (y : ℕ) (job : Jo
   pub now : job.n ≡ length entries
   pub is : IsJobOf X entries job
   pub own : IsOwn X entries job
+  pub fresh : job.gain ≡ None
   pub earlier : AreInputsOf (kind_at (graph X entries) y) (vals X (take (base X entries y) entries)) job.base
   pub first : job.first ≡ changed (state.content_of (arc_value job.base.first)).rows (state.content_of (arc_value job.inputs.first)).rows
   pub second : job.second ≡ changed (state.content_of (second_of job.base)).rows (state.content_of (second_of job.inputs)).rows

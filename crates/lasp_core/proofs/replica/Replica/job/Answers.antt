@@ -159,4 +159,5 @@ returns c =
       before_is = ap arc_value c.new.ensures.earlier.1;
       first_is = c.new.ensures.rows.0;
       second_is = c.new.ensures.rows.1;
+      fresh = c.new.ensures.fresh;
     })
