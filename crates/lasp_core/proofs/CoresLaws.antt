@@ -2,6 +2,7 @@
 use Rattle.std.proofs.Common.{◌≡◌, ℕ, ◌<◌, ◌≤◌, Bool, true, false, not, IsTrue, IsFalse, List, [], ◌∷◌, ◌++◌, length, map, filter, take, refl, sym, ap, subst, ◌∙◌, append-nil, arith}
 use Rattle.std.specs.Prelude.{slice_get, Some, Result, Ok, Err, OnOk, OnErr, IfOk, vec_len, ◌==◌}
 use Rattle.std.specs.List.{AllByRecursion}
+use Rattle.std.proofs.lemmas.List.Elements.{filter-append}
 use Rattle.model_states.specs.Content.{Content, least}
 use Rattle.model_states.specs.Threshold.{Threshold, suits, meets}
 use Rattle.model_graph.specs.Graph.{Decl, kind_at}
@@ -12,7 +13,8 @@ use Rattle.model_graph.proofs.PlaceLaws.{at-append, map-length}
 use Rattle.model_held.specs.Held.{IsHeld}
 use Rattle.model_held.proofs.EachLaws.{each-append, each-weaker}
 use Rattle.model_journal.specs.Entry as model
-use Rattle.model_journal.specs.Entry.{Entry, Frame}
+use Rattle.model_journal.specs.Entry.{Act, Entry, Frame}
+use Rattle.model_journal.specs.Callers.{made_by}
 use Rattle.model_journal.specs.Journal.{graph, val, vals}
 use Rattle.model_journal.specs.Clean.{version}
 use Rattle.model_journal.specs.Legal.{IsLegal}
@@ -20,7 +22,7 @@ use Rattle.model_journal.proofs.JournalLaws.{journal-later}
 use Rattle.model_journal.proofs.LegalLaws.{legal-first}
 use Rattle.model_journal.proofs.CleanLaws.{vals-length}
 use Rattle.model_journal.proofs.EntryLaws.{extend-vals}
-use Rattle.model_replica.specs.Peer.{peer_of}
+use Rattle.model_replica.specs.Peer.{peer_of, entry}
 use Rattle.model_replica.specs.Core.{Read, Core, is_met, entered, released, IsParked, IsCore}
 use Rattle.model_replica.proofs.BaseLaws.{graph-longer}
 use Rattle.model_replica.proofs.ReadLaws.{meets-grows, suits-stays, each-kept}
@@ -263,3 +265,9 @@ finished-met c new e y core (Err why) ok out = tt
 pub refused-goes-on : {A E : Type 0} (c new : Core) → (result : Result A E) → OnErr result (new ≡ c) → OnErr result (GoesOn c.entries new.entries)
 refused-goes-on c new (Ok a) same = tt
 refused-goes-on c new (Err why) same = ([], ap (λ (s : Core). s.entries) same ∙ sym (append-nil c.entries))
+
+-- a result that is taken in is the next entry of caller 0
+pub finished-own : {A E : Type 0} (c new : Core) (act : Act) (y : ℕ) → (result : Result A E) → OnOk result (new ≡ returned y (entered (entry 0 act) c))
+    → OnOk result (made_by 0 new.entries ≡ made_by 0 c.entries ++ entry 0 act ∷ [])
+finished-own c new act y (Ok a) bound = ap (λ (s : Core). made_by 0 s.entries) bound ∙ filter-append (λ e. e.by == 0) c.entries (entry 0 act ∷ [])
+finished-own c new act y (Err why) bound = tt

@@ -4,6 +4,7 @@ ghost use Rattle.std.specs.Prelude.{◌≡◌, ℕ, List, [], ◌∷◌, ◌++�
 ghost use Rattle.std.specs.List.{AllByRecursion};
 ghost use Rattle.std.specs.Option.{option_map};
 ghost use Rattle.model_graph.specs.Lawful.{IsDerived};
+ghost use Rattle.model_journal.specs.Callers.{made_by};
 ghost use Rattle.model_journal.specs.Entry as model;
 ghost use Rattle.model_journal.specs.Journal.{graph};
 ghost use Rattle.model_journal.specs.Legal.{IsLegal};
@@ -19,7 +20,7 @@ use lasp_job::Job;
 use lasp_state::State;
 use std::alloc::AllocError;
 
-/// A replica that hands out jobs and takes in their results. It is seen by its place and its frame, which no call changes, and by its list of entries, which only goes on.
+/// A replica that hands out jobs and takes in their results. It is seen by its place and its frame, which no call changes, and by its list of entries, which only goes on and to which its caller adds the binds of its results alone.
 pub trait Jobs {
     // where it stands: what tells it from others of its type
     ghost Place: { Type 0 };
@@ -66,7 +67,9 @@ pub trait Jobs {
         ensures none { IfOk result (λ found. IfNone found (AreClean (frame self.new) (list self.new))) }
         ensures unclean { IfOk result (λ found. IfSome found (λ job. IsUnclean (frame self.new) (list self.new) job.var)) }
         ensures caller { caller self.new ≡ caller self.old }
+        ensures own { made_by (caller self.old) (list self.new) ≡ made_by (caller self.old) (list self.old) }
         ensures later { IsLater (looks self.old) (looks self.new) }
+        ensures told { IsLater (told self.old) (told self.new) }
         ensures taken { IfOk result (λ found. IfSome found (λ job. core self.new ≡ option_map (taken job.var (rows_of job)) (core self.old))) }
         ensures untaken { IfOk result (λ found. IfNone found (core self.new ≡ core self.old)) }
         ensures kept { OnErr result (core self.new ≡ core self.old) }
@@ -88,7 +91,10 @@ pub trait Jobs {
         ensures same { looks self.old ≡ None → OnErr result (list self.new ≡ list self.old) }
         ensures met { IfOk result (λ reads. AllByRecursion (λ r. IsTrue (is_met (frame self.new) (list self.new) r)) reads) }
         ensures caller { caller self.new ≡ caller self.old }
+        ensures own_ok { OnOk result (made_by (caller self.old) (list self.new) ≡ made_by (caller self.old) (list self.old) ++ entry (caller self.old) (model.Bind job.var job.n) ∷ []) }
+        ensures own_err { OnErr result (made_by (caller self.old) (list self.new) ≡ made_by (caller self.old) (list self.old)) }
         ensures later { IsLater (looks self.old) (looks self.new) }
+        ensures told { IsLater (told self.old) (told self.new) }
         ensures bound { OnOk result (core self.new ≡ option_map (λ c. returned job.var (entered (entry (caller self.old) (model.Bind job.var job.n)) c)) (core self.old)) }
         ensures kept { OnErr result (core self.new ≡ core self.old) }
         ensures released { IfSome (core self.old) (λ c. IfOk result (λ reads. reads ≡ released (entry (caller self.old) (model.Bind job.var job.n)) c)) }
@@ -104,7 +110,9 @@ pub trait Jobs {
         ensures list { GoesOn (list self.old) (list self.new) }
         ensures alone { looks self.old ≡ None → list self.new ≡ list self.old }
         ensures caller { caller self.new ≡ caller self.old }
+        ensures own { made_by (caller self.old) (list self.new) ≡ made_by (caller self.old) (list self.old) }
         ensures later { IsLater (looks self.old) (looks self.new) }
+        ensures told { IsLater (told self.old) (told self.new) }
         ensures returned { core self.new ≡ option_map (returned job.var) (core self.old) }
         ensures owed { rows_owed self.new ≡ rows_owed self.old };
 }
