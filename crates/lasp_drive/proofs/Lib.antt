@@ -1,4 +1,5 @@
 pub mod NodeLaws
+pub mod CallLaws
 pub mod DriverLaws
 pub mod SyncLaws
 pub mod PointLaws

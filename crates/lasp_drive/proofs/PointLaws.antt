@@ -61,11 +61,15 @@ point-passes decls peer run c p nodes n new within found graph same few =
     same-peers peer (m ∷ nodes) zero n new found same = ap (λ (r : Peer). r ∷ map peer nodes) (same ∙ ap peer found)
     same-peers peer (m ∷ nodes) (suc p) n new found same = ap (λ (rs : List Peer). peer m ∷ rs) (same-peers peer nodes p n new found same)
 
+-- what the nodes have is as before
+pub all-stay : {N X : Type 0} (of : N → X) (nodes : List N) (p : ℕ) (n new : N) → n ≡ get_or nodes p n → of new ≡ of n → map of (slice_set nodes p new) ≡ map of nodes
+all-stay of [] p n new found same = refl
+all-stay {N} {X} of (m ∷ nodes) zero n new found same = ap (λ (r : X). r ∷ map of nodes) (same ∙ ap of found)
+all-stay {N} {X} of (m ∷ nodes) (suc p) n new found same = ap (λ (rs : List X). of m ∷ rs) (all-stay of nodes p n new found same)
+
 -- the replicas are as before
 pub peers-stay : {N : Type 0} (peer : N → Peer) (nodes : List N) (p : ℕ) (n new : N) → n ≡ get_or nodes p n → peer new ≡ peer n → map peer (slice_set nodes p new) ≡ map peer nodes
-peers-stay peer [] p n new found same = refl
-peers-stay peer (m ∷ nodes) zero n new found same = ap (λ (r : Peer). r ∷ map peer nodes) (same ∙ ap peer found)
-peers-stay peer (m ∷ nodes) (suc p) n new found same = ap (λ (rs : List Peer). peer m ∷ rs) (peers-stay peer nodes p n new found same)
+peers-stay peer nodes p n new found same = all-stay peer nodes p n new found same
 
 -- past all nodes the point changes nothing
 pub point-end : {N : Type 0} (peer : N → Peer) (run : Run) (c p : ℕ) (nodes : List N) → length nodes ≤ p → point_from c p (drop p (map peer nodes)) run ≡ Ok run
@@ -101,29 +105,24 @@ pub nodes-rest : {N : Type 0} (decls : N → List Decl) (number among : N → �
 nodes-rest decls number among g many p nodes new rest =
     at-set (λ q n. p + 1 ≤ q → IsNode decls number among g many q n) nodes p new (λ q n other at low. rest q n at (omega (arith, low))) (λ low. absurd (omega (arith, low)))
 
--- the replica at a place among those that went on and those that didn't
-extend-at : (f : Peer → Peer) (rs : List Peer) (p : ℕ) (r : Peer) → p < length rs → r ≡ f (get_or rs p r) → slice_set (map f (take p rs) ++ drop p rs) p r ≡ map f (take (suc p) rs) ++ drop (suc p) rs
+-- what stands at a place among what went on and what didn't
+extend-at : {X : Type 0} (f : X → X) (rs : List X) (p : ℕ) (r : X) → p < length rs → r ≡ f (get_or rs p r) → slice_set (map f (take p rs) ++ drop p rs) p r ≡ map f (take (suc p) rs) ++ drop (suc p) rs
 extend-at f [] p r within is = absurd (omega (arith, within))
-extend-at f (s ∷ rs) zero r within is = ap (λ (t : Peer). t ∷ rs) is
-extend-at f (s ∷ rs) (suc p) r within is = ap (λ (ts : List Peer). f s ∷ ts) (extend-at f rs p r (omega (arith, within)) is)
+extend-at {X} f (s ∷ rs) zero r within is = ap (λ (t : X). t ∷ rs) is
+extend-at {X} f (s ∷ rs) (suc p) r within is = ap (λ (ts : List X). f s ∷ ts) (extend-at f rs p r (omega (arith, within)) is)
 
-here-at : (f : Peer → Peer) (rs : List Peer) (p : ℕ) (d : Peer) → p < length rs → get_or (map f (take p rs) ++ drop p rs) p d ≡ get_or rs p d
+here-at : {X : Type 0} (f : X → X) (rs : List X) (p : ℕ) (d : X) → p < length rs → get_or (map f (take p rs) ++ drop p rs) p d ≡ get_or rs p d
 here-at f [] p d within = absurd (omega (arith, within))
 here-at f (s ∷ rs) zero d within = refl
 here-at f (s ∷ rs) (suc p) d within = here-at f rs p d (omega (arith, within))
 
-get-any : (rs : List Peer) (p : ℕ) (d e : Peer) → p < length rs → get_or rs p d ≡ get_or rs p e
-get-any [] p d e within = absurd (omega (arith, within))
-get-any (r ∷ rs) zero d e within = refl
-get-any (r ∷ rs) (suc p) d e within = get-any rs p d e (omega (arith, within))
-
-pub extend-next : {N : Type 0} (peer : N → Peer) (f : Peer → Peer) (rs : List Peer) (nodes : List N) (p : ℕ) (n new : N) → p < length rs → p < length nodes → n ≡ get_or nodes p n → map peer nodes ≡ map f (take p rs) ++ drop p rs → peer new ≡ f (peer n)
-    → map peer (slice_set nodes p new) ≡ map f (take (p + 1) rs) ++ drop (p + 1) rs
-extend-next peer f rs nodes p n new within inside found before is =
-    let old : peer n ≡ get_or rs p (peer new) =
-    ap peer found ∙ sym (get_or-map peer nodes p n (peer new) inside) ∙ ap (λ (ts : List Peer). get_or ts p (peer new)) before ∙ here-at f rs p (peer new) within in
-    map-set peer nodes p new ∙ ap (λ (ts : List Peer). slice_set ts p (peer new)) before
-    ∙ extend-at f rs p (peer new) within (is ∙ ap f old)
+pub extend-next : {N X : Type 0} (of : N → X) (f : X → X) (rs : List X) (nodes : List N) (p : ℕ) (n new : N) → p < length rs → p < length nodes → n ≡ get_or nodes p n → map of nodes ≡ map f (take p rs) ++ drop p rs → of new ≡ f (of n)
+    → map of (slice_set nodes p new) ≡ map f (take (p + 1) rs) ++ drop (p + 1) rs
+extend-next {N} {X} of f rs nodes p n new within inside found before is =
+    let old : of n ≡ get_or rs p (of new) =
+    ap of found ∙ sym (get_or-map of nodes p n (of new) inside) ∙ ap (λ (ts : List X). get_or ts p (of new)) before ∙ here-at f rs p (of new) within in
+    map-set of nodes p new ∙ ap (λ (ts : List X). slice_set ts p (of new)) before
+    ∙ extend-at f rs p (of new) within (is ∙ ap f old)
     ∙ ap (λ (k : ℕ). map f (take k rs) ++ drop k rs) (let next : suc p ≡ p + 1 = omega arith in next)
 
 -- a node that went on with a larger graph
@@ -151,10 +150,10 @@ replicate-push : {X : Type 0} (n : ℕ) (x : X) → replicate (suc n) x ≡ repl
 replicate-push zero x = refl
 replicate-push (suc n) x = ap (λ (xs : List _). x ∷ xs) (replicate-push n x)
 
--- their replicas
-pub fresh-push : {N : Type 0} (peer : N → Peer) (p : ℕ) (fresh : Peer) (nodes : List N) (new : N) → map peer nodes ≡ replicate p fresh → peer new ≡ fresh → map peer (nodes ++ new ∷ []) ≡ replicate (p + 1) fresh
-fresh-push peer p fresh nodes new all is =
-    map-append peer nodes (new ∷ []) ∙ ap (λ (rs : List Peer). rs ++ peer new ∷ []) all ∙ ap (λ (r : Peer). replicate p fresh ++ r ∷ []) is ∙ sym (ap (λ (n : ℕ). replicate n fresh) (let next : p + 1 ≡ suc p = omega arith in next) ∙ replicate-push p fresh)
+-- what they have
+pub fresh-push : {N X : Type 0} (of : N → X) (p : ℕ) (fresh : X) (nodes : List N) (new : N) → map of nodes ≡ replicate p fresh → of new ≡ fresh → map of (nodes ++ new ∷ []) ≡ replicate (p + 1) fresh
+fresh-push {N} {X} of p fresh nodes new all is =
+    map-append of nodes (new ∷ []) ∙ ap (λ (rs : List X). rs ++ of new ∷ []) all ∙ ap (λ (r : X). replicate p fresh ++ r ∷ []) is ∙ sym (ap (λ (n : ℕ). replicate n fresh) (let next : p + 1 ≡ suc p = omega arith in next) ∙ replicate-push p fresh)
 
 -- ---- the run after a point
 

@@ -42,6 +42,11 @@ each-next c run next a rest done = ap (λ (r : Result Run Stop). r >>= (λ n. ea
 each-stops : (c : ℕ) (run : Run) (a : Act) (rest : List Act) (stop : Stop) → act c run a ≡ Err stop → each c run (a ∷ rest) ≡ Err stop
 each-stops c run a rest stop halts = ap (λ (r : Result Run Stop). r >>= (λ n. each c n rest)) halts
 
+-- the next node's send, and those behind it
+pub posts-next : (n p : ℕ) → p < n → drop p (map Post (range_with_len 0 n)) ≡ Post p ∷ drop (p + 1) (map Post (range_with_len 0 n))
+posts-next n p within =
+    drop-map Post (range_with_len 0 n) p ∙ ap (map Post) (next-range n p within) ∙ ap (λ (acts : List Act). Post p ∷ acts) (sym (drop-map Post (range_with_len 0 n) (p + 1)))
+
 -- the next node sent
 pub post-next : (c n p : ℕ) (run next : Run) → p < n → act c run (Post p) ≡ Ok next → each c run (drop p (map Post (range_with_len 0 n))) ≡ each c next (drop (p + 1) (map Post (range_with_len 0 n)))
 post-next c n p run next within done =
@@ -77,6 +82,9 @@ drop-end (x ∷ xs) (suc k) h = drop-end xs k (omega (arith, h))
 end-range : (n k : ℕ) → n ≤ k → drop k (range_with_len 0 n) ≡ []
 end-range n k past = drop-end (range_with_len 0 n) k (omega (arith, past, length-range_with_len 0 n))
 
+pub posts-end : (n p : ℕ) → n ≤ p → drop p (map Post (range_with_len 0 n)) ≡ []
+posts-end n p past = drop-map Post (range_with_len 0 n) p ∙ ap (map Post) (end-range n p past)
+
 pub post-end : (c n p : ℕ) (run : Run) → n ≤ p → each c run (drop p (map Post (range_with_len 0 n))) ≡ Ok run
 post-end c n p run past = ap (each c run) (drop-map Post (range_with_len 0 n) p ∙ ap (map Post) (end-range n p past))
 
@@ -86,11 +94,11 @@ abbrev kept : ℕ → ℕ → ℕ → List ℕ → Bool → List Act
 kept i p q rest b = map (λ (k : ℕ). Take p (i + k)) (cond b (q ∷ filter (λ k. not (k == p)) rest) (filter (λ k. not (k == p)) rest))
 
 -- the next sender is another
-takes-other : (n i p q : ℕ) → q < n → not (q == p) ≡ true → takes_of i p (drop q (range_with_len 0 n)) ≡ Take p (i + q) ∷ takes_of i p (drop (q + 1) (range_with_len 0 n))
+pub takes-other : (n i p q : ℕ) → q < n → not (q == p) ≡ true → takes_of i p (drop q (range_with_len 0 n)) ≡ Take p (i + q) ∷ takes_of i p (drop (q + 1) (range_with_len 0 n))
 takes-other n i p q within other = ap (takes_of i p) (next-range n q within) ∙ ap (λ (b : Bool). kept i p q (drop (q + 1) (range_with_len 0 n)) b) other
 
 -- the next sender is the receiver itself
-takes-own : (n i p q : ℕ) → q < n → not (q == p) ≡ false → takes_of i p (drop q (range_with_len 0 n)) ≡ takes_of i p (drop (q + 1) (range_with_len 0 n))
+pub takes-own : (n i p q : ℕ) → q < n → not (q == p) ≡ false → takes_of i p (drop q (range_with_len 0 n)) ≡ takes_of i p (drop (q + 1) (range_with_len 0 n))
 takes-own n i p q within own = ap (takes_of i p) (next-range n q within) ∙ ap (λ (b : Bool). kept i p q (drop (q + 1) (range_with_len 0 n)) b) own
 
 pub take-next : (c n i p q : ℕ) (run next : Run) → q < n → not (q == p) ≡ true → act c run (Take p (i + q)) ≡ Ok next → each c run (takes_of i p (drop q (range_with_len 0 n))) ≡ each c next (takes_of i p (drop (q + 1) (range_with_len 0 n)))
@@ -103,6 +111,9 @@ pub take-halts : (c n i p q : ℕ) (run : Run) (why : Halt) → q < n → not (q
 take-halts c n i p q run why within other h =
     halts-as (each c run (takes_of i p (drop q (range_with_len 0 n)))) (each c run (Take p (i + q) ∷ takes_of i p (drop (q + 1) (range_with_len 0 n)))) why (ap (each c run) (takes-other n i p q within other))
     (halts-first c run (Take p (i + q)) (takes_of i p (drop (q + 1) (range_with_len 0 n))) why h)
+
+pub takes-end : (n i p q : ℕ) → n ≤ q → takes_of i p (drop q (range_with_len 0 n)) ≡ []
+takes-end n i p q past = ap (takes_of i p) (end-range n q past)
 
 pub take-end : (c n i p q : ℕ) (run : Run) → n ≤ q → each c run (takes_of i p (drop q (range_with_len 0 n))) ≡ Ok run
 take-end c n i p q run past = ap (λ (qs : List ℕ). each c run (takes_of i p qs)) (end-range n q past)
@@ -132,6 +143,13 @@ append-halts c run xs ys (halt.TooLarge n p x) h = append-stops c run xs ys _ h
 append-halts c run xs ys (halt.NetworkFull n) h = append-stops c run xs ys _ h
 append-halts c run xs ys (halt.NotReached n) h = append-stops c run xs ys _ h
 append-halts c run xs ys halt.Memory h = tt
+
+-- what the next receiver takes, and those behind it
+pub all-takes-next : (n i p : ℕ) → p < n → flat_map (takes n i) (drop p (range_with_len 0 n)) ≡ takes n i p ++ flat_map (takes n i) (drop (p + 1) (range_with_len 0 n))
+all-takes-next n i p within = ap (flat_map (takes n i)) (next-range n p within)
+
+pub all-takes-end : (n i p : ℕ) → n ≤ p → flat_map (takes n i) (drop p (range_with_len 0 n)) ≡ []
+all-takes-end n i p past = ap (flat_map (takes n i)) (end-range n p past)
 
 -- the next receiver took all
 pub all-next : (c n i p : ℕ) (run next : Run) → p < n → each c run (takes n i p) ≡ Ok next

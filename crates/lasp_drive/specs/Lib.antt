@@ -1,2 +1,4 @@
 pub mod Node
 pub mod Driver
+pub mod Calls
+pub mod Reads

@@ -1,11 +1,12 @@
 //! The driver: the nodes of a run, what they sent, marked and are to read, and the lines that were printed.
 
-ghost use Rattle.std.specs.Prelude.{◌≡◌, ◌≤◌, ◌<◌, List, ℕ, IfOk, length, map, replicate};
+ghost use Rattle.std.specs.Prelude.{◌≡◌, ◌≤◌, ◌<◌, [], List, ℕ, IfOk, length, map, replicate};
 ghost use Rattle.std.specs.Arc.{arc_value};
 ghost use Rattle.model_world.specs.Lawful.{opening_stage};
 ghost use Rattle.model_world.specs.World.{start, fresh_peer};
 ghost use Rattle.lasp_drive.specs.Node.{AreNodes};
 ghost use Rattle.lasp_drive.specs.Driver.{run_of, stage_of, IsReady};
+ghost use Rattle.lasp_drive.specs.Reads.{no_reads};
 
 use super::node::Node;
 use lasp_gossip::Network;
@@ -58,6 +59,8 @@ fn fresh_nodes<N: Node>(alloc: Global, graph: &Arc<Graph>, nodes: u8) -> Result<
     ensures size { IfOk result (λ all. length all.items ≡ nodes) }
     ensures nodes { IfOk result (λ all. AreNodes N.decls N.number N.among (arc_value graph.now) nodes all.items) }
     ensures peers { IfOk result (λ all. map N.peer all.items ≡ replicate nodes (fresh_peer (arc_value graph.now) nodes)) }
+    ensures calls { IfOk result (λ all. map N.calls all.items ≡ replicate nodes []) }
+    ensures reads { IfOk result (λ all. map N.reads all.items ≡ replicate nodes no_reads) }
 {
     let mut all = Vec::new(alloc);
     for p in 0..nodes {
@@ -74,6 +77,8 @@ impl<N: Node> Driver<N> {
         ensures ready { IfOk result (IsReady N.decls N.number N.among N.peer N.awaited nodes 1) }
         ensures start { IfOk result (λ d. run_of N.peer N.awaited d ≡ start (arc_value graph.now) nodes) }
         ensures stage { IfOk result (λ d. stage_of d ≡ opening_stage (arc_value graph.now)) }
+        ensures calls { IfOk result (λ d. map N.calls d.nodes.items ≡ replicate nodes []) }
+        ensures reads { IfOk result (λ d. map N.reads d.nodes.items ≡ replicate nodes no_reads) }
     {
         Ok(Driver {
             graph: Arc::try_clone(graph)?,

@@ -1,6 +1,6 @@
 //! What the driver asks of one node, whatever engine keeps its states.
 
-ghost use Rattle.std.specs.Prelude.{◌≡◌, ◌<◌, ◌≤◌, ◌++◌, ◌∷◌, [], ℕ, List, IfOk, IfSome, OnOk, IsTrue, length};
+ghost use Rattle.std.specs.Prelude.{◌≡◌, ◌<◌, ◌≤◌, ◌++◌, ◌∷◌, [], ℕ, List, IfOk, IfSome, OnOk, OnErr, IsTrue, length};
 ghost use Rattle.std.specs.Arc.{arc_value};
 ghost use Rattle.std.specs.Option.{is_some};
 ghost use Rattle.model_states.specs.Content.{Content};
@@ -12,6 +12,8 @@ ghost use Rattle.model_graph.specs.Lawful.{shape_of};
 ghost use Rattle.model_world.specs.World.{Peer, fresh_peer, updated, delivered, extended, shown_at, message_at};
 ghost use Rattle.model_world.specs.Line.{shown_content};
 ghost use Rattle.model_readings.specs.Lawful.{FitsAll};
+ghost use Rattle.model_journal.specs.Entry as model;
+ghost use Rattle.model_calls.specs.Calls.{fed};
 ghost use Rattle.model_wire.specs.Lawful.{IsMessage};
 ghost use Rattle.model_held.specs.Held.{IsHeld, IsSentTo, IsUpdate};
 ghost use Rattle.lasp_state.specs.State as state;
@@ -19,6 +21,7 @@ ghost use Rattle.lasp_state.specs.State.{shown_state, op_of, IsOpOf};
 ghost use Rattle.lasp_state.specs.Threshold.{threshold_of};
 ghost use Rattle.lasp_graph.specs.Library.{library_of};
 ghost use Rattle.lasp_drive.specs.Node.{Awaited, awaits, Updates, Delivers, Settles, IsNode};
+ghost use Rattle.lasp_drive.specs.Reads.{Reads, no_reads, next_read, opens, closes, releases};
 
 use lasp_fns::Library;
 use lasp_graph::Graph;
@@ -67,18 +70,29 @@ pub trait Node: Drop + Sized {
     // its sources and counts
     ghost peer: { Self → Peer };
 
-    // what its variables show since the last settle
+    // its calls: the entries of its journal that are no results
+    ghost calls: { Self → List model.Entry };
+
+    // what its variables hold: since a settle, what they show
     ghost shown: { Self → List Content };
+
+    // its reads: those that wait, and how many were opened
+    ghost reads: { Self → Reads };
 
     // what a read waits for
     ghost awaited: { Self.Read → Awaited };
+
+    // the number of a read
+    ghost number_of: { Self.Read → ℕ };
 
     /// A node to which nothing has happened, of 8 at most.
     fn new(alloc: Global, graph: &Arc<Graph>, replica: u8, nodes: u8) -> Result<Self, AllocError>
         requires member { replica < nodes }
         requires few { nodes ≤ 8 }
         ensures node { IfOk result (IsNode decls number among (arc_value graph.now) nodes replica) }
-        ensures peer { IfOk result (λ n. peer n ≡ fresh_peer (arc_value graph.now) nodes) };
+        ensures peer { IfOk result (λ n. peer n ≡ fresh_peer (arc_value graph.now) nodes) }
+        ensures calls { IfOk result (λ n. calls n ≡ []) }
+        ensures reads { IfOk result (λ n. reads n ≡ no_reads) };
 
     /// Updates a source: its delta is joined in and the update is counted.
     fn update(&mut self, alloc: Global, x: u8, op: &Op) -> Result<(), NodeStop>
@@ -89,7 +103,9 @@ pub trait Node: Drop + Sized {
         requires suits { IsOpOf op.now (number self.old) (shape_of (among self.old) (kind_at (decls self.old) x)) }
         requires room { count_at (peer self.old).counts (number self.old) < 100000 }
         ensures node { IsNode decls number among (decls self.old) (among self.old) (number self.old) self.new }
-        ensures done { Updates (updated (number self.old) x (op_of op.now) (peer self.old)) x result (peer self.new) };
+        ensures done { Updates (updated (number self.old) x (op_of op.now) (peer self.old)) x result (peer self.new) }
+        ensures calls { OnOk result (calls self.new ≡ calls self.old ++ fed (model.Update x (op_of op.now)) ∷ []) }
+        ensures reads { OnOk result (reads self.new ≡ releases (shown self.new) (reads self.old)) };
 
     /// What a source holds, shared.
     fn source(&self, x: u8) -> &Arc<State>
@@ -108,13 +124,17 @@ pub trait Node: Drop + Sized {
         requires held { IsHeld (among self.old) (decls self.old) (peer self.old) }
         requires sent { IsSentTo (among self.old) (decls self.old) (arc_value m.now) }
         ensures node { IsNode decls number among (decls self.old) (among self.old) (number self.old) self.new }
-        ensures done { Delivers (delivered (decls self.old) (arc_value m.now) (peer self.old)) result (peer self.new) };
+        ensures done { Delivers (delivered (decls self.old) (arc_value m.now) (peer self.old)) result (peer self.new) }
+        ensures calls { OnOk result (calls self.new ≡ calls self.old ++ fed (model.Deliver i (arc_value m.now)) ∷ []) }
+        ensures reads { OnOk result (reads self.new ≡ releases (shown self.new) (reads self.old)) };
 
     /// Goes on with a graph that has one declaration more, of which nothing has happened.
     fn extend(&mut self, alloc: Global, graph: &Arc<Graph>) -> Result<(), AllocError>
         requires { (d : Decl) × (arc_value graph.now ≡ decls self.old ++ d ∷ []) }
         ensures node { OnOk result (IsNode decls number among (arc_value graph.now) (among self.old) (number self.old) self.new) }
-        ensures peer { (d : Decl) → arc_value graph.now ≡ decls self.old ++ d ∷ [] → OnOk result (peer self.new ≡ extended (among self.old) d (peer self.old)) };
+        ensures peer { (d : Decl) → arc_value graph.now ≡ decls self.old ++ d ∷ [] → OnOk result (peer self.new ≡ extended (among self.old) d (peer self.old)) }
+        ensures calls { (d : Decl) → arc_value graph.now ≡ decls self.old ++ d ∷ [] → OnOk result (calls self.new ≡ calls self.old ++ fed (model.Extend d) ∷ []) }
+        ensures reads { OnOk result (reads self.new ≡ reads self.old) };
 
     /// Brings every derived variable to what its process gives on the present sources.
     fn settle(&mut self, alloc: Global, lib: &Library) -> Result<(), NodeStop>
@@ -123,7 +143,9 @@ pub trait Node: Drop + Sized {
         ensures node { IsNode decls number among (decls self.old) (among self.old) (number self.old) self.new }
         ensures peer { peer self.new ≡ peer self.old }
         ensures done { Settles (first_large 0 (shown_at (decls self.old) (peer self.old))) result }
-        ensures shown { OnOk result (shown self.new ≡ shown_at (decls self.old) (peer self.old)) };
+        ensures shown { OnOk result (shown self.new ≡ shown_at (decls self.old) (peer self.old)) }
+        ensures calls { calls self.new ≡ calls self.old }
+        ensures reads { reads self.new ≡ releases (shown self.new) (reads self.old) };
 
     /// The state of a variable of a settled node: what is shown of it.
     fn state(&self, x: u8) -> &State
@@ -133,7 +155,7 @@ pub trait Node: Drop + Sized {
         ensures shape { state.shape_of result.now ≡ shape_of (among self.now) (kind_at (decls self.now) x) }
         ensures text { shown_state result.now ≡ shown_content (kind_at (decls self.now) x) (content_at (shown self.now) x) };
 
-    /// Opens a read: it waits for a variable to come to the threshold.
+    /// Opens a read, under the next number. It waits for its variable to come to the threshold, unless it is there.
     fn open_read(
         &mut self,
         alloc: Global,
@@ -145,7 +167,11 @@ pub trait Node: Drop + Sized {
         ensures node { IsNode decls number among (decls self.old) (among self.old) (number self.old) self.new }
         ensures peer { peer self.new ≡ peer self.old }
         ensures shown { shown self.new ≡ shown self.old }
-        ensures read { IfOk result (λ r. awaited r ≡ awaits x (threshold_of threshold)) };
+        ensures calls { calls self.new ≡ calls self.old }
+        ensures read { IfOk result (λ r. awaited r ≡ awaits x (threshold_of threshold)) }
+        ensures number { IfOk result (λ r. number_of r ≡ (reads self.old).opened) }
+        ensures reads { OnOk result (reads self.new ≡ opens (next_read (reads self.old) x (threshold_of threshold)) (meets (threshold_of threshold) (content_at (shown self.old) x)) (reads self.old)) }
+        ensures unopened { OnErr result (reads self.new ≡ reads self.old) };
 
     /// The state of a read's variable, shared, where it is at the threshold.
     fn poll_read(&self, r: &Self::Read) -> Result<Option<Arc<State>>, AllocError>
@@ -157,11 +183,13 @@ pub trait Node: Drop + Sized {
         ensures shape { IfOk result (λ o. IfSome o (λ s. state.shape_of (arc_value s) ≡ shape_of (among self.now) (kind_at (decls self.now) (awaited r.now).var))) }
         ensures text { IfOk result (λ o. IfSome o (λ s. shown_state (arc_value s) ≡ shown_content (kind_at (decls self.now) (awaited r.now).var) (content_at (shown self.now) (awaited r.now).var))) };
 
-    /// Closes a read: nobody waits for it any more.
+    /// Closes a read: it waits no more.
     fn close_read(&mut self, r: &Self::Read)
         ensures node { IsNode decls number among (decls self.old) (among self.old) (number self.old) self.new }
         ensures peer { peer self.new ≡ peer self.old }
-        ensures shown { shown self.new ≡ shown self.old };
+        ensures shown { shown self.new ≡ shown self.old }
+        ensures calls { calls self.new ≡ calls self.old }
+        ensures reads { reads self.new ≡ closes (number_of r.now) (reads self.old) };
 
     /// How many updates of each replica it knows.
     fn counts(&self) -> &[u64]

@@ -5,11 +5,14 @@ ghost use Rattle.std.specs.Arc.{arc_value};
 ghost use Rattle.model_graph.specs.Graph.{Decl as Declaration};
 ghost use Rattle.model_graph.specs.Lawful.{variable_limit};
 ghost use Rattle.model_readings.specs.Lawful.{IsNext};
+ghost use Rattle.model_journal.specs.Entry as model;
 ghost use Rattle.model_world.specs.Command as command;
 ghost use Rattle.model_world.specs.Lawful.{stage_after};
 ghost use Rattle.model_world.specs.World.{act, extended, Extend};
 ghost use Rattle.lasp_graph.specs.Decl.{decl_of};
 ghost use Rattle.lasp_drive.specs.Node.{AreNodes};
+ghost use Rattle.model_calls.specs.Calls.{fed, call_of};
+ghost use Rattle.lasp_drive.specs.Calls.{GoOnByCalls};
 ghost use Rattle.lasp_drive.specs.Driver.{run_of, stage_of, IsReady, Does};
 
 use crate::driver::Driver;
@@ -32,6 +35,7 @@ fn extend_all<N: Node>(
     ensures size { length nodes.new.items ≡ length nodes.old.items }
     ensures nodes { OnOk result (AreNodes N.decls N.number N.among (arc_value graph.now) (length nodes.old.items) nodes.new.items) }
     ensures peers { OnOk result (map N.peer nodes.new.items ≡ map (extended (length nodes.old.items) (decl_of decl.now)) (map N.peer nodes.old.items)) }
+    ensures calls { OnOk result (map N.calls nodes.new.items ≡ map (λ h. h ++ fed (model.Extend (decl_of decl.now)) ∷ []) (map N.calls nodes.old.items)) }
 {
     for p in 0..nodes.len() {
         nodes[p].extend(alloc, graph)?;
@@ -48,6 +52,7 @@ impl<N: Node> Driver<N> {
         ensures ready { OnOk result (IsReady N.decls N.number N.among N.peer N.awaited (length self.old.nodes.items) c self.new) }
         ensures stage { OnOk result (stage_of self.new ≡ stage_after (length self.old.nodes.items) (stage_of self.old) (command.Declare (decl_of decl.now))) }
         ensures done { Does (act c (run_of N.peer N.awaited self.old) (Extend (decl_of decl.now))) result (run_of N.peer N.awaited self.new) }
+        ensures calls { OnOk result (GoOnByCalls N.calls self.old.nodes.items self.new.nodes.items (λ q. call_of (run_of N.peer N.awaited self.old) q (Extend (decl_of decl.now)))) }
     {
         let grown = Arc::new(alloc, self.graph.with(alloc, decl)?)?;
         extend_all(&mut self.nodes, alloc, &self.graph, &grown, decl)?;

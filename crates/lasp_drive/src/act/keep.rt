@@ -11,6 +11,9 @@ ghost use Rattle.model_world.specs.Lawful.{stage_after};
 ghost use Rattle.model_world.specs.World as world;
 ghost use Rattle.model_world.specs.World.{act, Keep, Open};
 ghost use Rattle.lasp_state.specs.Threshold.{threshold_of};
+ghost use Rattle.model_calls.specs.Calls.{call_of};
+ghost use Rattle.lasp_drive.specs.Calls.{GoOnByCalls};
+ghost use Rattle.lasp_drive.specs.Reads.{OpensAt};
 ghost use Rattle.lasp_drive.specs.Driver.{run_of, stage_of, IsReady, Does};
 
 use crate::driver::{Driver, Mark, OpenRead};
@@ -30,6 +33,7 @@ impl<N: Node> Driver<N> {
         ensures ready { OnOk result (IsReady N.decls N.number N.among N.peer N.awaited (length self.old.nodes.items) c self.new) }
         ensures stage { OnOk result (stage_of self.new ≡ stage_after (length self.old.nodes.items) (stage_of self.old) (command.Mark p x)) }
         ensures done { Does (act c (run_of N.peer N.awaited self.old) (Keep p x)) result (run_of N.peer N.awaited self.new) }
+        ensures calls { OnOk result (GoOnByCalls N.calls self.old.nodes.items self.new.nodes.items (λ q. call_of (run_of N.peer N.awaited self.old) q (Keep p x))) }
     {
         let state = Arc::try_clone(self.nodes[p as usize].source(x))?;
         self.marks.push(Mark { var: x, state })?;
@@ -54,6 +58,8 @@ impl<N: Node> Driver<N> {
         ensures stage { OnOk result (stage_of self.new ≡ stage_of self.old) }
         ensures done { (until : Until) → threshold_of threshold ≡ world.threshold_of (run_of N.peer N.awaited self.old).marks until
             → Does (act c (run_of N.peer N.awaited self.old) (Open p x until)) result (run_of N.peer N.awaited self.new) }
+        ensures calls { (until : Until) → OnOk result (GoOnByCalls N.calls self.old.nodes.items self.new.nodes.items (λ q. call_of (run_of N.peer N.awaited self.old) q (Open p x until))) }
+        ensures reads { OnOk result (OpensAt N.shown N.reads self.old.nodes.items p x (threshold_of threshold) self.new.nodes.items) }
     {
         let read = self.nodes[p as usize].open_read(alloc, x, threshold)?;
         self.reads.push(OpenRead { node: p, read })?;

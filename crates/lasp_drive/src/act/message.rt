@@ -6,6 +6,8 @@ ghost use Rattle.model_readings.specs.Lawful.{IsGraph};
 ghost use Rattle.model_world.specs.Command as command;
 ghost use Rattle.model_world.specs.Lawful.{stage_after};
 ghost use Rattle.model_world.specs.World.{act, Post, Take};
+ghost use Rattle.model_calls.specs.Calls.{call_of};
+ghost use Rattle.lasp_drive.specs.Calls.{GoOnByCalls};
 ghost use Rattle.lasp_drive.specs.Driver.{run_of, stage_of, IsReady, Does};
 
 use crate::driver::Driver;
@@ -23,6 +25,7 @@ impl<N: Node> Driver<N> {
         ensures ready { OnOk result (IsReady N.decls N.number N.among N.peer N.awaited (length self.old.nodes.items) c self.new) }
         ensures stage { OnOk result (stage_of self.new ≡ stage_after (length self.old.nodes.items) (stage_of self.old) (command.Send p)) }
         ensures done { Does (act c (run_of N.peer N.awaited self.old) (Post p)) result (run_of N.peer N.awaited self.new) }
+        ensures calls { OnOk result (GoOnByCalls N.calls self.old.nodes.items self.new.nodes.items (λ q. call_of (run_of N.peer N.awaited self.old) q (Post p))) }
     {
         self.graph.recall();
         self.network.len();
@@ -42,6 +45,7 @@ impl<N: Node> Driver<N> {
         ensures ready { OnOk result (IsReady N.decls N.number N.among N.peer N.awaited (length self.old.nodes.items) c self.new) }
         ensures stage { OnOk result (stage_of self.new ≡ stage_of self.old) }
         ensures done { Does (act c (run_of N.peer N.awaited self.old) (Take p i)) result (run_of N.peer N.awaited self.new) }
+        ensures calls { OnOk result (GoOnByCalls N.calls self.old.nodes.items self.new.nodes.items (λ q. call_of (run_of N.peer N.awaited self.old) q (Take p i))) }
     {
         let message = self.network.receive(alloc, i)?;
         match self.nodes[p as usize].deliver(alloc, i, &message) {

@@ -7,6 +7,8 @@ ghost use Rattle.model_held.specs.Held.{IsHeld};
 ghost use Rattle.model_world.specs.World.{act, Run, Point, peer_at, point_from};
 ghost use Rattle.lasp_graph.specs.Library.{library_of};
 ghost use Rattle.lasp_drive.specs.Node.{AreNodes, AreSettled};
+ghost use Rattle.model_calls.specs.Calls.{call_of};
+ghost use Rattle.lasp_drive.specs.Calls.{GoOnByCalls};
 ghost use Rattle.lasp_drive.specs.Driver.{run_of, stage_of, IsReady, Does};
 
 use crate::driver::Driver;
@@ -32,6 +34,7 @@ fn settle_all<N: Node>(
     ensures peers { map N.peer nodes.new.items ≡ map N.peer nodes.old.items }
     ensures nodes { AreNodes N.decls N.number N.among graph.now (length nodes.old.items) nodes.new.items }
     ensures settled { OnOk result (AreSettled N.decls N.peer N.shown nodes.new.items) }
+    ensures calls { OnOk result (map N.calls nodes.new.items ≡ map N.calls nodes.old.items) }
     ensures done { (run : Run) → run.graph ≡ graph.now → Does (point_from c 0 (map N.peer nodes.old.items) run) result run }
 {
     for p in 0..nodes.len() {
@@ -53,6 +56,7 @@ impl<N: Node> Driver<N> {
         ensures stage { OnOk result (stage_of self.new ≡ stage_of self.old) }
         ensures settled { OnOk result (AreSettled N.decls N.peer N.shown self.new.nodes.items) }
         ensures done { Does (act c (run_of N.peer N.awaited self.old) Point) result (run_of N.peer N.awaited self.new) }
+        ensures calls { OnOk result (GoOnByCalls N.calls self.old.nodes.items self.new.nodes.items (λ q. call_of (run_of N.peer N.awaited self.old) q Point)) }
     {
         settle_all(&mut self.nodes, alloc, &self.graph, lib, c)
     }

@@ -11,6 +11,9 @@ ghost use Rattle.model_world.specs.World as world;
 ghost use Rattle.model_world.specs.World.{act, shown_at, Show, Reach};
 ghost use Rattle.lasp_state.specs.Threshold.{threshold_of};
 ghost use Rattle.lasp_drive.specs.Node.{IsNode, AreSettled};
+ghost use Rattle.model_calls.specs.Calls.{call_of};
+ghost use Rattle.lasp_drive.specs.Calls.{GoOnByCalls};
+ghost use Rattle.lasp_drive.specs.Reads.{looks, LooksAt};
 ghost use Rattle.lasp_drive.specs.Driver.{run_of, stage_of, IsReady, Does};
 
 use crate::driver::Driver;
@@ -20,7 +23,7 @@ use crate::text::print_line;
 use lasp_state::Threshold;
 use std::alloc::{AllocError, Global};
 
-/// Whether variable x of a settled node is at the threshold.
+/// Whether variable x of a settled node is at the threshold: a read of it is opened, polled and closed.
 fn has_reached<N: Node>(
     node: &mut N,
     alloc: Global,
@@ -32,6 +35,8 @@ fn has_reached<N: Node>(
     requires suits { IsTrue (suits (threshold_of threshold) (shape_of (N.among node.old) (kind_at (N.decls node.old) x))) }
     ensures node { IsNode N.decls N.number N.among (N.decls node.old) (N.among node.old) (N.number node.old) node.new }
     ensures peer { N.peer node.new ≡ N.peer node.old }
+    ensures calls { N.calls node.new ≡ N.calls node.old }
+    ensures reads { OnOk result (N.reads node.new ≡ looks (N.reads node.old)) }
     ensures reached { IfOk result (λ reached. reached ≡ meets (threshold_of threshold) (content_at (N.shown node.old) x)) }
 {
     let read = node.open_read(alloc, x, threshold)?;
@@ -50,6 +55,7 @@ impl<N: Node> Driver<N> {
         ensures ready { OnOk result (IsReady N.decls N.number N.among N.peer N.awaited (length self.old.nodes.items) c self.new) }
         ensures stage { OnOk result (stage_of self.new ≡ stage_of self.old) }
         ensures done { Does (act c (run_of N.peer N.awaited self.old) (Show p x)) result (run_of N.peer N.awaited self.new) }
+        ensures calls { OnOk result (GoOnByCalls N.calls self.old.nodes.items self.new.nodes.items (λ q. call_of (run_of N.peer N.awaited self.old) q (Show p x))) }
     {
         let state = self.nodes[p as usize].state(x);
         print_line(
@@ -61,7 +67,7 @@ impl<N: Node> Driver<N> {
         Ok(())
     }
 
-    /// Goes on where variable x of node p is at the threshold: a read of it is opened, polled and closed.
+    /// Goes on where variable x of node p is at the threshold. The read by which this is asked waits no more then.
     pub fn reach(
         &mut self,
         alloc: Global,
@@ -79,6 +85,8 @@ impl<N: Node> Driver<N> {
         ensures stage { OnOk result (stage_of self.new ≡ stage_of self.old) }
         ensures done { (until : Until) → threshold_of threshold ≡ world.threshold_of (run_of N.peer N.awaited self.old).marks until
             → Does (act c (run_of N.peer N.awaited self.old) (Reach p x until)) result (run_of N.peer N.awaited self.new) }
+        ensures calls { (until : Until) → OnOk result (GoOnByCalls N.calls self.old.nodes.items self.new.nodes.items (λ q. call_of (run_of N.peer N.awaited self.old) q (Reach p x until))) }
+        ensures reads { OnOk result (LooksAt N.reads self.old.nodes.items p self.new.nodes.items) }
     {
         if has_reached(&mut self.nodes[p as usize], alloc, x, threshold)? {
             Ok(())

@@ -5,6 +5,8 @@ ghost use Rattle.std.specs.List.{range_with_len};
 ghost use Rattle.model_world.specs.Command as command;
 ghost use Rattle.model_world.specs.Lawful.{stage_after};
 ghost use Rattle.model_world.specs.World.{each, takes, sync_acts, Post};
+ghost use Rattle.model_calls.specs.Calls.{calls_of_acts};
+ghost use Rattle.lasp_drive.specs.Calls.{GoOnByCalls};
 ghost use Rattle.lasp_drive.specs.Driver.{run_of, stage_of, IsReady, Does};
 
 use crate::driver::Driver;
@@ -20,6 +22,7 @@ impl<N: Node> Driver<N> {
         ensures ready { OnOk result (IsReady N.decls N.number N.among N.peer N.awaited (length self.old.nodes.items) c self.new) }
         ensures stage { OnOk result (stage_of self.new ≡ stage_after (length self.old.nodes.items) (stage_of self.old) command.Sync) }
         ensures done { Does (each c (run_of N.peer N.awaited self.old) (map Post (range_with_len 0 (length self.old.nodes.items)))) result (run_of N.peer N.awaited self.new) }
+        ensures calls { OnOk result (GoOnByCalls N.calls self.old.nodes.items self.new.nodes.items (λ q. calls_of_acts c (run_of N.peer N.awaited self.old) q (map Post (range_with_len 0 (length self.old.nodes.items))))) }
     {
         for p in 0..self.nodes.len() {
             match self.post(alloc, c, p as u8) {
@@ -38,6 +41,7 @@ impl<N: Node> Driver<N> {
         ensures ready { OnOk result (IsReady N.decls N.number N.among N.peer N.awaited (length self.old.nodes.items) c self.new) }
         ensures stage { OnOk result (stage_of self.new ≡ stage_of self.old) }
         ensures done { Does (each c (run_of N.peer N.awaited self.old) (takes (length self.old.nodes.items) i p)) result (run_of N.peer N.awaited self.new) }
+        ensures calls { OnOk result (GoOnByCalls N.calls self.old.nodes.items self.new.nodes.items (λ q. calls_of_acts c (run_of N.peer N.awaited self.old) q (takes (length self.old.nodes.items) i p))) }
     {
         self.network.len();
         for q in 0..self.nodes.len() {
@@ -58,6 +62,7 @@ impl<N: Node> Driver<N> {
         ensures ready { OnOk result (IsReady N.decls N.number N.among N.peer N.awaited (length self.old.nodes.items) c self.new) }
         ensures stage { OnOk result (stage_of self.new ≡ stage_of self.old) }
         ensures done { Does (each c (run_of N.peer N.awaited self.old) (flat_map (takes (length self.old.nodes.items) i) (range_with_len 0 (length self.old.nodes.items)))) result (run_of N.peer N.awaited self.new) }
+        ensures calls { OnOk result (GoOnByCalls N.calls self.old.nodes.items self.new.nodes.items (λ q. calls_of_acts c (run_of N.peer N.awaited self.old) q (flat_map (takes (length self.old.nodes.items) i) (range_with_len 0 (length self.old.nodes.items))))) }
     {
         for p in 0..self.nodes.len() {
             match self.take_others(alloc, c, p as u8, i) {
@@ -75,6 +80,7 @@ impl<N: Node> Driver<N> {
         ensures ready { OnOk result (IsReady N.decls N.number N.among N.peer N.awaited (length self.old.nodes.items) c self.new) }
         ensures stage { OnOk result (stage_of self.new ≡ stage_after (length self.old.nodes.items) (stage_of self.old) command.Sync) }
         ensures done { Does (each c (run_of N.peer N.awaited self.old) (sync_acts (length self.old.nodes.items) (length self.old.network.sent))) result (run_of N.peer N.awaited self.new) }
+        ensures calls { OnOk result (GoOnByCalls N.calls self.old.nodes.items self.new.nodes.items (λ q. calls_of_acts c (run_of N.peer N.awaited self.old) q (sync_acts (length self.old.nodes.items) (length self.old.network.sent)))) }
     {
         let first = self.network.len() as u32;
         match self.post_all(alloc, c) {

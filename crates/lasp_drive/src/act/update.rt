@@ -7,6 +7,8 @@ ghost use Rattle.model_graph.specs.Lawful.{shape_of};
 ghost use Rattle.model_world.specs.World.{act, Update};
 ghost use Rattle.model_held.specs.Held.{IsUpdate};
 ghost use Rattle.lasp_state.specs.State.{op_of, IsOpOf};
+ghost use Rattle.model_calls.specs.Calls.{call_of};
+ghost use Rattle.lasp_drive.specs.Calls.{GoOnByCalls};
 ghost use Rattle.lasp_drive.specs.Driver.{run_of, stage_of, IsReady, Does};
 
 use crate::driver::Driver;
@@ -27,6 +29,7 @@ impl<N: Node> Driver<N> {
         ensures ready { OnOk result (IsReady N.decls N.number N.among N.peer N.awaited (length self.old.nodes.items) (c + 1) self.new) }
         ensures stage { OnOk result (stage_of self.new ≡ stage_of self.old) }
         ensures done { Does (act c (run_of N.peer N.awaited self.old) (Update p x (op_of op.now))) result (run_of N.peer N.awaited self.new) }
+        ensures calls { OnOk result (GoOnByCalls N.calls self.old.nodes.items self.new.nodes.items (λ q. call_of (run_of N.peer N.awaited self.old) q (Update p x (op_of op.now)))) }
     {
         match self.nodes[p as usize].update(alloc, x, op) {
             Ok(()) => Ok(()),

@@ -9,7 +9,7 @@ use Rattle.model_world.specs.World.{Peer, peer_at, shown_at}
 use Rattle.model_world.specs.declared.stop.Stop.TheVariants.{TooLarge}
 use Rattle.lasp_graph.specs.Library.{library_of}
 use Rattle.lasp_drive.proofs.NodeLaws.{node-here, node-stays, nodes-set, held-here}
-use Rattle.lasp_drive.proofs.PointLaws.{stopped-first, point-stops, point-passes, peers-stay, settled-next, all-settled}
+use Rattle.lasp_drive.proofs.PointLaws.{stopped-first, point-stops, point-passes, all-stay, peers-stay, settled-next, all-settled}
 use Rattle.lasp_drive.proofs.act.point.settle_all.Goals as goal
 
 pub settle-requires-clause-held : goal.settle-requires-clause-held
@@ -54,6 +54,7 @@ loop-p-preserved g c =
     record {
       within = omega (arith, within, length-set c.loop-p.nodes.items c.loop-p.p c.settle.new.self);
       size = length-set c.loop-p.nodes.items c.loop-p.p c.settle.new.self ∙ c.loop-p.invariant.size;
+      calls = all-stay g.N.Node.calls c.loop-p.nodes.items c.loop-p.p c.index_mut.result.now c.settle.new.self c.index_mut.ensures.value c.settle.ensures.calls ∙ c.loop-p.invariant.calls;
       same = peers-stay g.N.Node.peer c.loop-p.nodes.items c.loop-p.p c.index_mut.result.now c.settle.new.self c.index_mut.ensures.value c.settle.ensures.peer ∙ c.loop-p.invariant.same;
       nodes = nodes-set g.N.Node.decls g.N.Node.number g.N.Node.among c.args.graph.now (length c.args.nodes.now.items) c.loop-p.nodes.items c.loop-p.p c.settle.new.self c.loop-p.invariant.nodes
           (node-stays g.N.Node.decls g.N.Node.number g.N.Node.among c.args.graph.now (length c.args.nodes.now.items) c.loop-p.p c.index_mut.result.now c.settle.new.self here c.settle.ensures.node);

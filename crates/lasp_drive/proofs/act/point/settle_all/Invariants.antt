@@ -7,6 +7,7 @@ abbrev pub invariant-loop-p : goal.invariant-loop-p
 invariant-loop-p g l = record {
   within : l.p ≤ length l.nodes.items;
   size : length l.nodes.items ≡ length l.fn.nodes.items;
+  calls : map g.N.Node.calls l.nodes.items ≡ map g.N.Node.calls l.fn.nodes.items;
   same : map g.N.Node.peer l.nodes.items ≡ map g.N.Node.peer l.fn.nodes.items;
   nodes : AreNodes g.N.Node.decls g.N.Node.number g.N.Node.among l.graph (length l.fn.nodes.items) l.nodes.items;
   settled : AreSettledBelow g.N.Node.decls g.N.Node.peer g.N.Node.shown l.p l.nodes.items;

@@ -2,9 +2,12 @@ use Rattle.std.proofs.Common.{rules, ◌≡◌, ◌++◌, ◌∷◌, [], length,
 use Rattle.std.specs.Prelude.{List}
 use Rattle.std.specs.Arc.{arc_value}
 use Rattle.model_graph.specs.Graph.{Decl}
+use Rattle.model_journal.specs.Entry as model
+use Rattle.model_calls.specs.Calls.{fed}
 use Rattle.lasp_graph.specs.Decl.{decl_of}
 use Rattle.lasp_drive.specs.Node.{AreNodes}
 use Rattle.lasp_drive.proofs.PointLaws.{extended-ready}
+use Rattle.lasp_drive.proofs.CallLaws.{calls-each}
 use Rattle.lasp_drive.proofs.driver.Driver.extend.Goals as goal
 
 pub extend_all-requires-clause-nodes : goal.extend_all-requires-clause-nodes
@@ -16,3 +19,6 @@ returns-clause-ready g c =
     let graph : arc_value c.in_ok-grown.grown ≡ arc_value c.args.self.now.graph ++ decl_of c.args.decl.now ∷ [] = search rules in
     extended-ready g.N.Node.decls g.N.Node.number g.N.Node.among g.N.Node.peer g.N.Node.awaited (length c.args.self.now.nodes.items) c.args.c c.args.self.now (decl_of c.args.decl.now) c.in_ok-grown.grown c.extend_all.new.nodes
     c.requires.ready graph refl c.extend_all.ensures.size c.in_ok-extend_all.ensures.nodes c.in_ok-extend_all.ensures.peers
+
+pub returns-clause-calls : goal.returns-clause-calls
+returns-clause-calls g c = calls-each g.N.Node.calls c.args.self.now.nodes.items c.extend_all.new.nodes.items (fed (model.Extend (decl_of c.args.decl.now)) ∷ []) c.in_ok-extend_all.ensures.calls

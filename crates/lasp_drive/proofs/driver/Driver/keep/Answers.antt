@@ -7,6 +7,7 @@ use Rattle.lasp_drive.specs.Driver.{marked_of, run_of, stage_of}
 use Rattle.lasp_drive.specs.declared.driver.Mark.{Mark}
 use Rattle.lasp_drive.proofs.NodeLaws.{node-here}
 use Rattle.lasp_drive.proofs.DriverLaws.{marked, marked-here, keep-done, with_marks, marks-sound}
+use Rattle.lasp_drive.proofs.CallLaws.{calls-stay}
 use Rattle.lasp_drive.proofs.driver.Driver.keep.Goals as goal
 
 pub returns-clause-done : goal.returns-clause-done
@@ -34,3 +35,6 @@ returns-clause-ready g c =
           (ap (map (λ (m : Mark). m.var)) c.in_ok-push.ensures.items ∙ map-append (λ (m : Mark). m.var) c.args.self.now.marks.items _)
           (sound-keep (length nodes) c.args.c c.args.p c.args.x (stage_of c.args.self.now) (run_of g.N.Node.peer g.N.Node.awaited c.args.self.now) _ c.requires.ready.sound c.requires.node c.requires.var c.requires.source (returns-clause-done g c));
     }
+
+pub returns-clause-calls : goal.returns-clause-calls
+returns-clause-calls g c = calls-stay g.N.Node.calls c.args.self.now.nodes.items c.args.self.now.nodes.items refl

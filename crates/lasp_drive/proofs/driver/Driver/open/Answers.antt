@@ -12,7 +12,8 @@ use Rattle.lasp_state.specs.Threshold.{threshold_of}
 use Rattle.lasp_drive.specs.Driver.{opened_of, run_of, stage_of}
 use Rattle.lasp_drive.proofs.NodeLaws.{node-here, node-stays, nodes-set, suited-here, with_peers}
 use Rattle.lasp_drive.proofs.DriverLaws.{opened, open-done, with_reads}
-use Rattle.lasp_drive.proofs.PointLaws.{called-same, called-sound, opened-here}
+use Rattle.lasp_drive.proofs.PointLaws.{all-stay, called-same, called-sound, opened-here}
+use Rattle.lasp_drive.proofs.CallLaws.{calls-stay, opens-at}
 use Rattle.lasp_drive.proofs.driver.Driver.open.Goals as goal
 
 pub open_read-requires-clause-suits : goal.open_read-requires-clause-suits
@@ -55,3 +56,12 @@ returns-clause-ready g c =
           ∙ ap (λ (o : Opened). map (opened_of g.N.Node.awaited) c.args.self.now.reads.items ++ o ∷ []) (opened-here g.N.Node.awaited c.args.p c.args.x c.in_ok-read.read (threshold_of c.args.threshold) c.in_ok-read.ensures.read)
           ∙ ap (λ (t : Threshold). map (opened_of g.N.Node.awaited) c.args.self.now.reads.items ++ opened c.args.p c.args.x t ∷ []) c.requires.until.1));
     }
+
+pub returns-clause-calls : goal.returns-clause-calls
+returns-clause-calls g c until =
+    calls-stay g.N.Node.calls c.args.self.now.nodes.items (slice_set c.args.self.now.nodes.items c.args.p c.open_read.new.self)
+    (all-stay g.N.Node.calls c.args.self.now.nodes.items c.args.p c.index_mut.result.now c.open_read.new.self c.index_mut.ensures.value c.open_read.ensures.calls)
+
+pub returns-clause-reads : goal.returns-clause-reads
+returns-clause-reads g c n at =
+    opens-at g.N.Node.shown g.N.Node.reads c.args.self.now.nodes.items c.args.p c.index_mut.result.now c.open_read.new.self n c.args.x (threshold_of c.args.threshold) c.index_mut.ensures.value at c.in_ok-read.ensures.reads

@@ -12,6 +12,7 @@ use Rattle.lasp_drive.specs.Driver.{run_of, stage_of}
 use Rattle.lasp_drive.specs.declared.driver.Mark.{Mark}
 use Rattle.lasp_drive.proofs.NodeLaws.{node-here, message-here, below-limit, post-done, post-stops}
 use Rattle.lasp_drive.proofs.DriverLaws.{network-done, network-sent}
+use Rattle.lasp_drive.proofs.CallLaws.{calls-stay}
 use Rattle.lasp_drive.proofs.driver.Driver.post.Goals as goal
 
 pub message-requires : goal.message-requires
@@ -64,3 +65,6 @@ returns-in-Err-NetworkFull-clause-done g c =
     post-stops (run_of g.N.Node.peer g.N.Node.awaited c.args.self.now) c.args.c c.in_ok-message.message (message_at graph (peer_at (map g.N.Node.peer nodes) c.args.p))
     (c.in_ok-message.ensures ∙ message-here g.N.Node.decls g.N.Node.peer graph nodes c.args.p c.index.result.now here.graph c.requires.node c.index.ensures)
     (omega (arith, c.in-Err-NetworkFull.ensures.full (search rules), c.requires.ready.limit))
+
+pub returns-in-Ok-clause-calls : goal.returns-in-Ok-clause-calls
+returns-in-Ok-clause-calls g c = calls-stay g.N.Node.calls c.args.self.now.nodes.items c.args.self.now.nodes.items refl

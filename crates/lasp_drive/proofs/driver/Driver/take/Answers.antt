@@ -1,16 +1,19 @@
-use Rattle.std.proofs.Common.{length, sym, refl, ◌∙◌, subst, ap, map}
+use Rattle.std.proofs.Common.{List, [], ◌∷◌, ◌++◌, length, sym, refl, ◌∙◌, subst, ap, map}
 use Rattle.std.specs.Prelude.{slice_set}
 use Rattle.std.specs.Arc.{arc_value}
 use Rattle.std.proofs.lemmas.List.{length-set}
 use Rattle.model_messages.specs.Message.{Message}
-use Rattle.model_world.specs.World.{delivered, sent_number}
+use Rattle.model_world.specs.World.{Take, delivered, sent_number}
 use Rattle.model_held.specs.Held.{IsSentTo}
 use Rattle.model_held.proofs.SoundLaws.{sound-take}
+use Rattle.model_journal.specs.Entry.{Entry, Deliver}
+use Rattle.model_calls.specs.Calls.{fed, call_of}
 use Rattle.lasp_gossip.specs.Network.{Network}
 use Rattle.lasp_drive.specs.Driver.{run_of, stage_of}
 use Rattle.lasp_drive.specs.declared.driver.Mark.{Mark}
 use Rattle.lasp_drive.proofs.NodeLaws.{node-here, node-stays, nodes-set, held-here, sent-here, sent-read, with_peers, deliver-done, deliver-stops, stopped-delivery}
 use Rattle.lasp_drive.proofs.DriverLaws.{network-done, network-sound}
+use Rattle.lasp_drive.proofs.CallLaws.{calls-set, taken-there, taken-elsewhere}
 use Rattle.lasp_drive.proofs.driver.Driver.take.Goals as goal
 
 pub deliver-requires-clause-held : goal.deliver-requires-clause-held
@@ -65,3 +68,12 @@ returns-in-Err-TooLarge-clause-done g c =
     deliver-stops g.N.Node.decls g.N.Node.peer (run_of g.N.Node.peer g.N.Node.awaited c.args.self.now) (arc_value c.in_ok-message.message) (sent_number c.args.self.now.network.sent c.args.i) nodes c.args.c c.args.p c.in-Err-TooLarge.x c.index_mut.result.now
     here.graph (sent-read c.args.self.now.network.sent c.args.i (arc_value c.in_ok-message.message) c.in_ok-message.ensures.message) c.requires.node c.index_mut.ensures.value
     (stopped-delivery (delivered (g.N.Node.decls c.index_mut.result.now) (arc_value c.in_ok-message.message) (g.N.Node.peer c.index_mut.result.now)) (g.N.Node.peer c.deliver.new.self) c.in-Err-TooLarge.field-0 c.in-Err-TooLarge.x c.in-Err-TooLarge.field-0-is c.in-Err-TooLarge.ensures.done)
+
+pub returns-in-Ok-clause-calls : goal.returns-in-Ok-clause-calls
+returns-in-Ok-clause-calls g c =
+    let run = run_of g.N.Node.peer g.N.Node.awaited c.args.self.now in
+    calls-set g.N.Node.calls c.args.self.now.nodes.items c.args.p c.index_mut.result.now c.deliver.new.self (λ q. call_of run q (Take c.args.p c.args.i)) c.requires.node c.index_mut.ensures.value
+    (c.in-Ok.ensures.calls
+    ∙ ap (λ (m : Message). g.N.Node.calls c.index_mut.result.now ++ fed (Deliver c.args.i m) ∷ []) (sent-read c.args.self.now.network.sent c.args.i (arc_value c.in_ok-message.message) c.in_ok-message.ensures.message)
+    ∙ ap (λ (h : List Entry). g.N.Node.calls c.index_mut.result.now ++ h) (sym (taken-there run c.args.p c.args.i)))
+    (taken-elsewhere run c.args.p c.args.i)

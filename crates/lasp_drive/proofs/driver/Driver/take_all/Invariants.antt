@@ -3,6 +3,8 @@ use Rattle.std.specs.Prelude.{flat_map}
 use Rattle.std.specs.List.{range_with_len}
 use Rattle.model_world.specs.World.{each, takes}
 use Rattle.lasp_drive.specs.Driver.{IsReady, run_of, stage_of}
+use Rattle.model_calls.specs.Calls.{calls_of_acts}
+use Rattle.lasp_drive.proofs.CallLaws.{AreToCome}
 use Rattle.lasp_drive.proofs.driver.Driver.take_all.Given as goal
 
 abbrev pub invariant-loop-p : goal.invariant-loop-p
@@ -10,5 +12,7 @@ invariant-loop-p g l = record {
   within : l.p ≤ length l.fn.self.nodes.items;
   ready : IsReady g.N.Node.decls g.N.Node.number g.N.Node.among g.N.Node.peer g.N.Node.awaited (length l.fn.self.nodes.items) l.c l.self;
   stage : stage_of l.self ≡ stage_of l.fn.self;
+  calls : AreToCome g.N.Node.calls l.fn.self.nodes.items l.self.nodes.items (λ q. calls_of_acts l.c (run_of g.N.Node.peer g.N.Node.awaited l.self) q (flat_map (takes (length l.fn.self.nodes.items) l.i) (drop l.p (range_with_len 0 (length l.fn.self.nodes.items)))))
+      (λ q. calls_of_acts l.c (run_of g.N.Node.peer g.N.Node.awaited l.fn.self) q (flat_map (takes (length l.fn.self.nodes.items) l.i) (range_with_len 0 (length l.fn.self.nodes.items))));
   rest : each l.c (run_of g.N.Node.peer g.N.Node.awaited l.self) (flat_map (takes (length l.fn.self.nodes.items) l.i) (drop l.p (range_with_len 0 (length l.fn.self.nodes.items)))) ≡ each l.c (run_of g.N.Node.peer g.N.Node.awaited l.fn.self) (flat_map (takes (length l.fn.self.nodes.items) l.i) (range_with_len 0 (length l.fn.self.nodes.items)));
 }

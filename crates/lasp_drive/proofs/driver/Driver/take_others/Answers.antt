@@ -1,10 +1,12 @@
 use Rattle.std.proofs.Common.{◌<◌, ◌+◌, length, drop, sym, subst, ap, ◌∙◌, arith}
 use Rattle.std.specs.Prelude.{ℕ}
 use Rattle.std.specs.List.{range_with_len}
-use Rattle.model_world.specs.World.{each, takes}
+use Rattle.model_world.specs.World.{each, takes, Take}
+use Rattle.model_calls.specs.Calls.{calls_of_acts}
 use Rattle.lasp_drive.specs.Driver.{IsReady, run_of, stage_of}
 use Rattle.lasp_drive.specs.declared.driver.Driver.{Driver}
-use Rattle.lasp_drive.proofs.SyncLaws.{halts-as, other-node, own-node, takes_of, take-next, take-own, take-halts, take-end}
+use Rattle.lasp_drive.proofs.SyncLaws.{halts-as, other-node, own-node, takes_of, takes-other, takes-own, takes-end, take-next, take-own, take-halts, take-end}
+use Rattle.lasp_drive.proofs.CallLaws.{AreToCome, come-next, come-as, come-end}
 use Rattle.lasp_drive.proofs.driver.Driver.take_others.Goals as goal
 use Rattle.lasp_drive.proofs.driver.Driver.take_others.Goals.{then-q-p+in-Ok, else-q-p}
 
@@ -23,6 +25,10 @@ loop-q-preserved g c =
         ready = subst (λ (d : Driver g.row.N.Denot g.row.N-Read.Denot). IsReady g.N.Node.decls g.N.Node.number g.N.Node.among g.N.Node.peer g.N.Node.awaited many c.args.c d) (sym w.self-is)
             (subst (λ (k : ℕ). IsReady g.N.Node.decls g.N.Node.number g.N.Node.among g.N.Node.peer g.N.Node.awaited k c.args.c w.take.new.self) c.loop-q.invariant.ready.size w.in-Ok.ensures.ready);
         stage = ap (λ (d : Driver g.row.N.Denot g.row.N-Read.Denot). stage_of d) w.self-is ∙ w.in-Ok.ensures.stage ∙ c.loop-q.invariant.stage;
+        calls = subst (λ (d : Driver g.row.N.Denot g.row.N-Read.Denot). AreToCome g.N.Node.calls c.args.self.now.nodes.items d.nodes.items (λ k. calls_of_acts c.args.c (run_of g.N.Node.peer g.N.Node.awaited d) k (takes_of c.args.i c.args.p (drop (c.loop-q.q + 1) (range_with_len 0 many)))) (λ k. calls_of_acts c.args.c (run_of g.N.Node.peer g.N.Node.awaited c.args.self.now) k (takes many c.args.i c.args.p))) (sym w.self-is)
+            (come-next g.N.Node.calls c.args.self.now.nodes.items c.loop-q.self.nodes.items w.take.new.self.nodes.items c.args.c (run_of g.N.Node.peer g.N.Node.awaited c.loop-q.self) (run_of g.N.Node.peer g.N.Node.awaited w.take.new.self) (Take c.args.p (c.args.i + c.loop-q.q)) (takes_of c.args.i c.args.p (drop (c.loop-q.q + 1) (range_with_len 0 many))) (λ k. calls_of_acts c.args.c (run_of g.N.Node.peer g.N.Node.awaited c.args.self.now) k (takes many c.args.i c.args.p))
+            c.loop-q.invariant.ready.size w.in-Ok.ensures.done w.in-Ok.ensures.calls
+            (come-as g.N.Node.calls c.args.self.now.nodes.items c.loop-q.self.nodes.items c.args.c (run_of g.N.Node.peer g.N.Node.awaited c.loop-q.self) _ _ _ (takes-other many c.args.i c.args.p c.loop-q.q within (other-node c.loop-q.q c.args.p w.if-q-p.true)) c.loop-q.invariant.calls));
         rest = ap (λ (d : Driver g.row.N.Denot g.row.N-Read.Denot). each c.args.c (run_of g.N.Node.peer g.N.Node.awaited d) (takes_of c.args.i c.args.p (drop (c.loop-q.q + 1) (range_with_len 0 many)))) w.self-is
             ∙ sym (take-next c.args.c many c.args.i c.args.p c.loop-q.q (run_of g.N.Node.peer g.N.Node.awaited c.loop-q.self) (run_of g.N.Node.peer g.N.Node.awaited w.take.new.self) within (other-node c.loop-q.q c.args.p w.if-q-p.true) w.in-Ok.ensures.done)
             ∙ c.loop-q.invariant.rest;
@@ -31,6 +37,8 @@ loop-q-preserved g c =
         within = omega (arith, within);
         ready = subst (λ (d : Driver g.row.N.Denot g.row.N-Read.Denot). IsReady g.N.Node.decls g.N.Node.number g.N.Node.among g.N.Node.peer g.N.Node.awaited many c.args.c d) (sym w.self-is) c.loop-q.invariant.ready;
         stage = ap (λ (d : Driver g.row.N.Denot g.row.N-Read.Denot). stage_of d) w.self-is ∙ c.loop-q.invariant.stage;
+        calls = subst (λ (d : Driver g.row.N.Denot g.row.N-Read.Denot). AreToCome g.N.Node.calls c.args.self.now.nodes.items d.nodes.items (λ k. calls_of_acts c.args.c (run_of g.N.Node.peer g.N.Node.awaited d) k (takes_of c.args.i c.args.p (drop (c.loop-q.q + 1) (range_with_len 0 many)))) (λ k. calls_of_acts c.args.c (run_of g.N.Node.peer g.N.Node.awaited c.args.self.now) k (takes many c.args.i c.args.p))) (sym w.self-is)
+            (come-as g.N.Node.calls c.args.self.now.nodes.items c.loop-q.self.nodes.items c.args.c (run_of g.N.Node.peer g.N.Node.awaited c.loop-q.self) _ _ _ (takes-own many c.args.i c.args.p c.loop-q.q within (own-node c.loop-q.q c.args.p w.if-q-p.false)) c.loop-q.invariant.calls);
         rest = ap (λ (d : Driver g.row.N.Denot g.row.N-Read.Denot). each c.args.c (run_of g.N.Node.peer g.N.Node.awaited d) (takes_of c.args.i c.args.p (drop (c.loop-q.q + 1) (range_with_len 0 many)))) w.self-is
             ∙ sym (take-own c.args.c many c.args.i c.args.p c.loop-q.q (run_of g.N.Node.peer g.N.Node.awaited c.loop-q.self) within (own-node c.loop-q.q c.args.p w.if-q-p.false))
             ∙ c.loop-q.invariant.rest;
@@ -43,3 +51,8 @@ returns-clause-done g c =
 
 pub overflow_add-i : goal.overflow_add-i
 overflow_add-i g c = omega (arith, c.loop-q-test.true, c.len-q-end.ensures, c.requires.messages, c.len.ensures.few, c.requires.ready.limit)
+
+pub returns-clause-calls : goal.returns-clause-calls
+returns-clause-calls g c =
+    come-end g.N.Node.calls c.args.self.now.nodes.items c.loop-q.self.nodes.items c.args.c (run_of g.N.Node.peer g.N.Node.awaited c.loop-q.self) _ _
+    (takes-end (length c.args.self.now.nodes.items) c.args.i c.args.p c.loop-q.q (omega (arith, c.loop-q-test.false, c.len-q-end.ensures))) c.loop-q.invariant.calls

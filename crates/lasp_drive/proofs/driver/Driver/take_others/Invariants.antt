@@ -2,7 +2,9 @@ use Rattle.std.proofs.Common.{◌≡◌, ◌≤◌, length, drop}
 use Rattle.std.specs.List.{range_with_len}
 use Rattle.model_world.specs.World.{each, takes}
 use Rattle.lasp_drive.specs.Driver.{IsReady, run_of, stage_of}
+use Rattle.model_calls.specs.Calls.{calls_of_acts}
 use Rattle.lasp_drive.proofs.SyncLaws.{takes_of}
+use Rattle.lasp_drive.proofs.CallLaws.{AreToCome}
 use Rattle.lasp_drive.proofs.driver.Driver.take_others.Given as goal
 
 abbrev pub invariant-loop-q : goal.invariant-loop-q
@@ -10,5 +12,7 @@ invariant-loop-q g l = record {
   within : l.q ≤ length l.fn.self.nodes.items;
   ready : IsReady g.N.Node.decls g.N.Node.number g.N.Node.among g.N.Node.peer g.N.Node.awaited (length l.fn.self.nodes.items) l.c l.self;
   stage : stage_of l.self ≡ stage_of l.fn.self;
+  calls : AreToCome g.N.Node.calls l.fn.self.nodes.items l.self.nodes.items (λ k. calls_of_acts l.c (run_of g.N.Node.peer g.N.Node.awaited l.self) k (takes_of l.i l.p (drop l.q (range_with_len 0 (length l.fn.self.nodes.items)))))
+      (λ k. calls_of_acts l.c (run_of g.N.Node.peer g.N.Node.awaited l.fn.self) k (takes (length l.fn.self.nodes.items) l.i l.p));
   rest : each l.c (run_of g.N.Node.peer g.N.Node.awaited l.self) (takes_of l.i l.p (drop l.q (range_with_len 0 (length l.fn.self.nodes.items)))) ≡ each l.c (run_of g.N.Node.peer g.N.Node.awaited l.fn.self) (takes (length l.fn.self.nodes.items) l.i l.p);
 }

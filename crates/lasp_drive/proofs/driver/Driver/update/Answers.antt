@@ -1,11 +1,14 @@
-use Rattle.std.proofs.Common.{length, refl}
+use Rattle.std.proofs.Common.{length, List, ◌++◌, refl, sym, ap, ◌∙◌}
 use Rattle.std.specs.Arc.{arc_value}
 use Rattle.std.proofs.lemmas.List.{length-set}
-use Rattle.model_world.specs.World.{updated}
+use Rattle.model_world.specs.World.{Update, updated}
 use Rattle.model_held.proofs.SoundLaws.{sound-update}
+use Rattle.model_journal.specs.Entry.{Entry}
+use Rattle.model_calls.specs.Calls.{call_of}
 use Rattle.lasp_state.specs.State.{op_of}
 use Rattle.lasp_drive.specs.Driver.{run_of, stage_of}
 use Rattle.lasp_drive.proofs.NodeLaws.{node-here, node-stays, nodes-set, held-here, update-here, suits-here, room-here, member-here, var-here, update-done, update-stops, stopped-large}
+use Rattle.lasp_drive.proofs.CallLaws.{calls-set, updated-there, updated-elsewhere}
 use Rattle.lasp_drive.proofs.driver.Driver.update.Goals as goal
 
 pub update-requires-clause-held : goal.update-requires-clause-held
@@ -71,3 +74,11 @@ returns-in-Err-TooLarge-clause-done g c =
     let here = node-here g.N.Node.decls g.N.Node.number g.N.Node.among (arc_value c.args.self.now.graph) (length c.args.self.now.nodes.items) c.args.self.now.nodes.items c.args.p c.index_mut.result.now c.requires.ready.nodes c.requires.node c.index_mut.ensures.value in
     update-stops g.N.Node.number g.N.Node.peer (run_of g.N.Node.peer g.N.Node.awaited c.args.self.now) c.args.self.now.nodes.items c.args.c c.args.p c.args.x (op_of c.args.op.now) c.index_mut.result.now here.replica c.requires.node c.index_mut.ensures.value
     (stopped-large (updated (g.N.Node.number c.index_mut.result.now) c.args.x (op_of c.args.op.now) (g.N.Node.peer c.index_mut.result.now)) (g.N.Node.peer c.update.new.self) c.args.x c.in-Err-TooLarge.field-0 c.in-Err-TooLarge.field-0-0 c.in-Err-TooLarge.field-0-is c.in-Err-TooLarge.ensures.done)
+
+pub returns-in-Ok-clause-calls : goal.returns-in-Ok-clause-calls
+returns-in-Ok-clause-calls g c =
+    let run = run_of g.N.Node.peer g.N.Node.awaited c.args.self.now in
+    let op = op_of c.args.op.now in
+    calls-set g.N.Node.calls c.args.self.now.nodes.items c.args.p c.index_mut.result.now c.update.new.self (λ q. call_of run q (Update c.args.p c.args.x op)) c.requires.node c.index_mut.ensures.value
+    (c.in-Ok.ensures.calls ∙ ap (λ (h : List Entry). g.N.Node.calls c.index_mut.result.now ++ h) (sym (updated-there run c.args.p c.args.x op)))
+    (updated-elsewhere run c.args.p c.args.x op)

@@ -1,0 +1,51 @@
+-- The reads of a node: which of them wait, and how many were opened.
+use Rattle.std.specs.Prelude.{◌≡◌, ℕ, ◌+◌, ◌-◌, ◌^◌, ◌==◌, min, Bool, not, if◌then◌else◌, List, [], ◌∷◌, ◌++◌, map, filter, slice_get, slice_set, slice_index_or, Some}
+use Rattle.model_states.specs.Content.{Content}
+use Rattle.model_states.specs.Threshold.{Threshold, meets}
+use Rattle.model_graph.specs.Evaluation.{content_at}
+use Rattle.model_replica.specs.Core.{Read}
+
+-- the reads of a node
+pub record Reads : Type 0 where
+  pub waiting : List Read
+  pub opened : ℕ
+
+abbrev pub no_reads : Reads
+no_reads = record { waiting = []; opened = 0 }
+
+-- one more was opened; the count stands still at the greatest number of 64 bits
+abbrev pub opened_more : ℕ → ℕ
+opened_more opened = min (opened + 1) (2 ^ 64 - 1)
+
+-- the read of a variable that is opened next
+abbrev pub next_read : Reads → ℕ → Threshold → Read
+next_read s x threshold = record { number = s.opened; var = x; threshold = threshold }
+
+-- a read was opened: it waits, unless its variable was at the threshold
+abbrev pub opens : Read → Bool → Reads → Reads
+opens r met s = record { waiting = (if met then s.waiting else s.waiting ++ r ∷ []); opened = opened_more s.opened }
+
+-- the reads of this number wait no more
+abbrev pub closes : ℕ → Reads → Reads
+closes number s = record { waiting = filter (λ r. not (r.number == number)) s.waiting; opened = s.opened }
+
+-- the reads whose variables have come to their thresholds wait no more
+abbrev pub releases : List Content → Reads → Reads
+releases shown s = record { waiting = filter (λ r. not (meets r.threshold (content_at shown r.var))) s.waiting; opened = s.opened }
+
+-- a read was opened and closed again
+abbrev pub looks : Reads → Reads
+looks s = record { waiting = filter (λ r. not (r.number == s.opened)) s.waiting; opened = opened_more s.opened }
+
+-- the reads of node p
+abbrev pub reads_at : {N : Type 0} → (N → Reads) → List N → ℕ → Reads
+reads_at reads nodes p = slice_index_or (map reads nodes) p no_reads
+
+-- a read of variable x was opened at node p, and the reads of all other nodes are as before
+abbrev pub OpensAt : {N : Type 0} → (N → List Content) → (N → Reads) → List N → ℕ → ℕ → Threshold → List N → Type 0
+OpensAt {N} shown reads old p x threshold new =
+    (n : N) → slice_get old p ≡ Some n → map reads new ≡ slice_set (map reads old) p (opens (next_read (reads n) x threshold) (meets threshold (content_at (shown n) x)) (reads n))
+
+-- a read was opened and closed again at node p, and the reads of all other nodes are as before
+abbrev pub LooksAt : {N : Type 0} → (N → Reads) → List N → ℕ → List N → Type 0
+LooksAt reads old p new = map reads new ≡ slice_set (map reads old) p (looks (reads_at reads old p))
