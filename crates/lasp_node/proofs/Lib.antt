@@ -1,2 +1,3 @@
 pub mod SettleLaws
 pub mod NodeLaws
+pub mod CallLaws

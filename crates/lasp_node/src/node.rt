@@ -4,9 +4,11 @@ ghost use Rattle.std.specs.Prelude.{◌≡◌};
 ghost use Rattle.std.specs.Coded.{Coded-set, Π_prop, coded_ℕ};
 ghost use Rattle.model_journal.specs.Journal as journal;
 ghost use Rattle.model_replica.specs.Peer.{peer_of};
+ghost use Rattle.model_calls.specs.Calls.{unbound};
 ghost use Rattle.lasp_drive.specs.Node.{awaits};
 ghost use Rattle.lasp_core.specs.Entries.{read_of};
 ghost use Rattle.lasp_node.specs.Settling.{IsIdle};
+ghost use Rattle.lasp_node.specs.Reads.{reads_of};
 
 use super::message::message_of;
 use super::settling::settle;
@@ -37,9 +39,15 @@ impl Node for CoreNode {
 
     ghost peer = { λ n. peer_of n.core.frame n.core.entries };
 
+    ghost calls = { λ n. unbound n.core.entries };
+
+    ghost reads = { λ n. reads_of n.core };
+
     ghost shown = { λ n. journal.vals n.core.frame n.core.entries };
 
     ghost awaited = { λ r. awaits (read_of r).var (read_of r).threshold };
+
+    ghost number_of = { λ r. (read_of r).number };
 
     fn new(
         alloc: Global,

@@ -7,6 +7,11 @@ use Rattle.model_replica.specs.Peer.{entry, peer_of}
 use Rattle.model_replica.proofs.PeerLaws.{graph-delivered}
 use Rattle.lasp_drive.specs.Node.{Delivers}
 use Rattle.lasp_drive.specs.declared.node.NodeStop.{NodeStop}
+use Rattle.std.specs.Prelude.{◌≡◌, [], ◌∷◌, ◌++◌, OnOk}
+use Rattle.model_calls.specs.Calls.{fed, unbound}
+use Rattle.lasp_drive.specs.Reads.{releases}
+use Rattle.lasp_node.specs.Reads.{reads_of}
+use Rattle.lasp_node.proofs.CallLaws.{entered-calls, entered-reads}
 use Rattle.lasp_node.proofs.NodeLaws.{same-graph, not-wrong, delivered-ok, delivered-large}
 use Rattle.lasp_node.proofs.node.CoreNodeNode.deliver.Goals.{in-Ok, in-Err-TooManyRows, in-Err-Memory}
 use Rattle.lasp_node.proofs.node.CoreNodeNode.deliver.Goals as goal
@@ -34,4 +39,24 @@ returns-clause-done c =
       | in-Err-TooManyRows w ↦ subst (λ (r : Result (Unit {0}) NodeStop). Delivers expected r new) (sym w.result-is)
           (delivered-large core m w.in-Err-TooManyRows.field-0 w.in-Err-TooManyRows.x c.recall.ensures.core.legal w.in-Err-TooManyRows.field-0-is w.in-Err-TooManyRows.ensures.answer)
       | in-Err-Memory w ↦ subst (λ (r : Result (Unit {0}) NodeStop). Delivers expected r new) (sym w.result-is) tt
+    ]
+
+pub returns-clause-calls : goal.returns-clause-calls
+returns-clause-calls c =
+    let core = c.args.self.now.core in
+    let new = c.deliver.new.self in
+    elim c.match-deliver.branch [
+      | in-Ok w ↦ subst (λ (r : Result (Unit {0}) NodeStop). OnOk r (unbound new.entries ≡ unbound core.entries ++ fed (Deliver c.args.i (arc_value c.args.m.now)) ∷ [])) (sym w.result-is) (entered-calls core new (Deliver c.args.i (arc_value c.args.m.now)) refl w.in-Ok.ensures.ok)
+      | in-Err-TooManyRows w ↦ subst (λ (r : Result (Unit {0}) NodeStop). OnOk r (unbound new.entries ≡ unbound core.entries ++ fed (Deliver c.args.i (arc_value c.args.m.now)) ∷ [])) (sym w.result-is) tt
+      | in-Err-Memory w ↦ subst (λ (r : Result (Unit {0}) NodeStop). OnOk r (unbound new.entries ≡ unbound core.entries ++ fed (Deliver c.args.i (arc_value c.args.m.now)) ∷ [])) (sym w.result-is) tt
+    ]
+
+pub returns-clause-reads : goal.returns-clause-reads
+returns-clause-reads c =
+    let core = c.args.self.now.core in
+    let new = c.deliver.new.self in
+    elim c.match-deliver.branch [
+      | in-Ok w ↦ subst (λ (r : Result (Unit {0}) NodeStop). OnOk r (reads_of new ≡ releases (vals new.frame new.entries) (reads_of core))) (sym w.result-is) (entered-reads core new (entry 0 (Deliver c.args.i (arc_value c.args.m.now))) w.in-Ok.ensures.ok)
+      | in-Err-TooManyRows w ↦ subst (λ (r : Result (Unit {0}) NodeStop). OnOk r (reads_of new ≡ releases (vals new.frame new.entries) (reads_of core))) (sym w.result-is) tt
+      | in-Err-Memory w ↦ subst (λ (r : Result (Unit {0}) NodeStop). OnOk r (reads_of new ≡ releases (vals new.frame new.entries) (reads_of core))) (sym w.result-is) tt
     ]

@@ -4,6 +4,7 @@ use Rattle.model_journal.specs.Entry.{Frame}
 use Rattle.model_journal.specs.Journal.{graph}
 use Rattle.lasp_graph.specs.Decl.{decl_of}
 use Rattle.lasp_node.proofs.NodeLaws.{on-ok, last-decl, extended-same, extended-peer}
+use Rattle.lasp_node.proofs.CallLaws.{declared-calls}
 use Rattle.lasp_node.proofs.node.CoreNodeNode.extend.Goals as goal
 
 pub extend-requires-clause-next : goal.extend-requires-clause-next
@@ -28,3 +29,10 @@ returns-clause-peer c d is =
     let last = last-decl (graph core.frame core.entries) (arc_value c.args.graph.now) c.deref.result.now c.deref-2.result.now d (decl_of c.at.result.now) c.len.result
     is c.deref.ensures c.deref-2.ensures c.len.ensures.graph c.len.ensures.count c.at.ensures.decl in
     on-ok c.extend.result (extended-peer core c.extend.new.self 0 (decl_of c.at.result.now) d c.recall.ensures.core.legal last.same) c.extend.ensures.ok
+
+pub returns-clause-calls : goal.returns-clause-calls
+returns-clause-calls c d is =
+    let core = c.args.self.now.core in
+    let last = last-decl (graph core.frame core.entries) (arc_value c.args.graph.now) c.deref.result.now c.deref-2.result.now d (decl_of c.at.result.now) c.len.result
+    is c.deref.ensures c.deref-2.ensures c.len.ensures.graph c.len.ensures.count c.at.ensures.decl in
+    on-ok c.extend.result (declared-calls core c.extend.new.self (decl_of c.at.result.now) d last.same) c.extend.ensures.ok

@@ -1,11 +1,17 @@
 use Rattle.std.proofs.Common.{Result, refl, sym, ap, subst}
 use Rattle.model_journal.specs.Entry.{Update, Frame}
+use Rattle.model_journal.specs.Journal.{vals}
 use Rattle.model_world.specs.World.{updated}
 use Rattle.model_replica.specs.Peer.{entry, peer_of}
 use Rattle.model_replica.proofs.PeerLaws.{graph-updated}
 use Rattle.lasp_state.specs.State.{op_of}
 use Rattle.lasp_drive.specs.Node.{Updates}
 use Rattle.lasp_drive.specs.declared.node.NodeStop.{NodeStop}
+use Rattle.std.specs.Prelude.{◌≡◌, [], ◌∷◌, ◌++◌, OnOk}
+use Rattle.model_calls.specs.Calls.{fed, unbound}
+use Rattle.lasp_drive.specs.Reads.{releases}
+use Rattle.lasp_node.specs.Reads.{reads_of}
+use Rattle.lasp_node.proofs.CallLaws.{entered-calls, entered-reads}
 use Rattle.lasp_node.proofs.NodeLaws.{same-graph, IsFit, updated-ok, updated-large}
 use Rattle.lasp_node.proofs.node.CoreNodeNode.update.Goals.{in-Ok, in-Err-TooManyRows, in-Err-Memory}
 use Rattle.lasp_node.proofs.node.CoreNodeNode.update.Goals as goal
@@ -28,4 +34,24 @@ returns-clause-done c =
       | in-Err-TooManyRows w ↦ subst (λ (r : Result (Unit {0}) NodeStop). Updates expected c.args.x r new) (sym w.result-is)
           (refl, updated-large core c.args.x c.args.op.now fit w.in-Err-TooManyRows.field-0 w.in-Err-TooManyRows.field-0-is w.in-Err-TooManyRows.ensures.answer)
       | in-Err-Memory w ↦ subst (λ (r : Result (Unit {0}) NodeStop). Updates expected c.args.x r new) (sym w.result-is) tt
+    ]
+
+pub returns-clause-calls : goal.returns-clause-calls
+returns-clause-calls c =
+    let core = c.args.self.now.core in
+    let new = c.update.new.self in
+    elim c.match-update.branch [
+      | in-Ok w ↦ subst (λ (r : Result (Unit {0}) NodeStop). OnOk r (unbound new.entries ≡ unbound core.entries ++ fed (Update c.args.x (op_of c.args.op.now)) ∷ [])) (sym w.result-is) (entered-calls core new (Update c.args.x (op_of c.args.op.now)) refl w.in-Ok.ensures.ok)
+      | in-Err-TooManyRows w ↦ subst (λ (r : Result (Unit {0}) NodeStop). OnOk r (unbound new.entries ≡ unbound core.entries ++ fed (Update c.args.x (op_of c.args.op.now)) ∷ [])) (sym w.result-is) tt
+      | in-Err-Memory w ↦ subst (λ (r : Result (Unit {0}) NodeStop). OnOk r (unbound new.entries ≡ unbound core.entries ++ fed (Update c.args.x (op_of c.args.op.now)) ∷ [])) (sym w.result-is) tt
+    ]
+
+pub returns-clause-reads : goal.returns-clause-reads
+returns-clause-reads c =
+    let core = c.args.self.now.core in
+    let new = c.update.new.self in
+    elim c.match-update.branch [
+      | in-Ok w ↦ subst (λ (r : Result (Unit {0}) NodeStop). OnOk r (reads_of new ≡ releases (vals new.frame new.entries) (reads_of core))) (sym w.result-is) (entered-reads core new (entry 0 (Update c.args.x (op_of c.args.op.now))) w.in-Ok.ensures.ok)
+      | in-Err-TooManyRows w ↦ subst (λ (r : Result (Unit {0}) NodeStop). OnOk r (reads_of new ≡ releases (vals new.frame new.entries) (reads_of core))) (sym w.result-is) tt
+      | in-Err-Memory w ↦ subst (λ (r : Result (Unit {0}) NodeStop). OnOk r (reads_of new ≡ releases (vals new.frame new.entries) (reads_of core))) (sym w.result-is) tt
     ]

@@ -1,0 +1,48 @@
+-- The calls and the reads that a node's core has after a call.
+use Rattle.std.proofs.Common.{ℕ, ◌≡◌, Bool, true, false, cond, not, if◌then◌else◌, refl, sym, ap, subst, ◌∙◌}
+use Rattle.std.specs.Prelude.{List, [], ◌∷◌, ◌++◌, filter}
+use Rattle.std.specs.List.{AllByRecursion}
+use Rattle.model_graph.specs.Graph.{Decl}
+use Rattle.model_journal.specs.Entry.{Act, Entry, Extend}
+use Rattle.model_journal.specs.Journal.{vals}
+use Rattle.model_replica.specs.Core.{Core, entered}
+use Rattle.model_replica.specs.Peer.{entry}
+use Rattle.model_calls.specs.Calls.{fed, is_bind, unbound}
+use Rattle.model_calls.proofs.MatchLaws.{append-nothing}
+use Rattle.lasp_core.specs.Core.{declared}
+use Rattle.lasp_drive.specs.Reads.{releases}
+use Rattle.lasp_node.specs.Reads.{reads_of}
+use Rattle.lasp_node.specs.Settling.{IsOwnBind, HasBound}
+
+-- what is no result in one list and in another behind it
+pub unbound-append : (h k : List Entry) → unbound (h ++ k) ≡ unbound h ++ unbound k
+unbound-append [] k = refl
+unbound-append (e ∷ h) k =
+    elim (not (is_bind e.act)) as (λ b. cond b (e ∷ unbound (h ++ k)) (unbound (h ++ k)) ≡ cond b (e ∷ unbound h) (unbound h) ++ unbound k) [
+      | true ↦ λ i. e ∷ unbound-append h k i
+      | false ↦ unbound-append h k
+    ]
+
+-- one entry more that is no result
+pub entered-calls : (old new : Core) (a : Act) → is_bind a ≡ false → new ≡ entered (entry 0 a) old → unbound new.entries ≡ unbound old.entries ++ fed a ∷ []
+entered-calls old new a free is =
+    ap (λ (c : Core). unbound c.entries) is ∙ unbound-append old.entries (entry 0 a ∷ []) ∙ ap (λ (b : Bool). unbound old.entries ++ (if not b then fed a ∷ [] else [])) free
+
+pub declared-calls : (old new : Core) (e d : Decl) → e ≡ d → new ≡ declared (entry 0 (Extend e)) old → unbound new.entries ≡ unbound old.entries ++ fed (Extend d) ∷ []
+declared-calls old new e d same is =
+    ap (λ (c : Core). unbound c.entries) is ∙ unbound-append old.entries (entry 0 (Extend e) ∷ []) ∙ ap (λ (g : Decl). unbound old.entries ++ fed (Extend g) ∷ []) same
+
+pub entered-reads : (old new : Core) (e : Entry) → new ≡ entered e old → reads_of new ≡ releases (vals new.frame new.entries) (reads_of old)
+entered-reads old new e is = subst (λ (c : Core). reads_of c ≡ releases (vals c.frame c.entries) (reads_of old)) (sym is) refl
+
+-- results alone
+none-called : (more : List Entry) → AllByRecursion IsOwnBind more → unbound more ≡ []
+none-called [] all = refl
+none-called (e ∷ more) all = ap (λ (a : Act). if not (is_bind a) then e ∷ unbound more else unbound more) all.0.3 ∙ none-called more all.1
+
+pub settled-calls : (old new : Core) → HasBound old new → unbound new.entries ≡ unbound old.entries
+settled-calls old new bound =
+    ap unbound bound.binds.1 ∙ unbound-append old.entries bound.binds.0 ∙ ap (λ (h : List Entry). unbound old.entries ++ h) (none-called bound.binds.0 bound.binds.2) ∙ append-nothing (unbound old.entries)
+
+pub settled-reads : (old new : Core) → HasBound old new → reads_of new ≡ releases (vals new.frame new.entries) (reads_of old)
+settled-reads old new bound = λ i. record { waiting = bound.parked i; opened = bound.opened i }

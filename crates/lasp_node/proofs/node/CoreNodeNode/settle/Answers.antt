@@ -1,0 +1,8 @@
+use Rattle.lasp_node.proofs.CallLaws.{settled-calls, settled-reads}
+use Rattle.lasp_node.proofs.node.CoreNodeNode.settle.Goals as goal
+
+pub returns-clause-calls : goal.returns-clause-calls
+returns-clause-calls g c = settled-calls c.args.self.now.core c.settle.new.core c.settle.ensures.bound
+
+pub returns-clause-reads : goal.returns-clause-reads
+returns-clause-reads g c = settled-reads c.args.self.now.core c.settle.new.core c.settle.ensures.bound
