@@ -1,3 +1,4 @@
+pub mod CallLaws
 pub mod CheckLaws
 pub mod DirectLaws
 pub mod JoinLaws

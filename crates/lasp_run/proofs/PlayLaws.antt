@@ -51,7 +51,7 @@ play-halts c run commands i k (halt.NetworkFull n) at h = stop-step c run comman
 play-halts c run commands i k (halt.NotReached n) at h = stop-step c run commands i k _ at h
 play-halts c run commands i k halt.Memory at h = tt
 
-drop-past : {X : Type 0} (xs : List X) (i : ℕ) → length xs ≤ i → drop i xs ≡ []
+pub drop-past : {X : Type 0} (xs : List X) (i : ℕ) → length xs ≤ i → drop i xs ≡ []
 drop-past [] zero h = refl
 drop-past [] (suc i) h = refl
 drop-past (x ∷ xs) zero h = absurd (omega (arith, h))

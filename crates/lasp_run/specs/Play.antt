@@ -3,8 +3,11 @@ use Rattle.std.specs.Prelude.{◌≡◌, ℕ, ◌+◌, ◌<◌, ◌≤◌, List,
 use Rattle.model_graph.specs.Graph.{Decl}
 use Rattle.model_world.specs.Command as plain
 use Rattle.model_world.specs.Lawful.{stage_after, MayBeDone}
-use Rattle.model_world.specs.World.{Peer, step}
+use Rattle.model_world.specs.World.{Peer, acts, step}
+use Rattle.model_journal.specs.Entry.{Entry}
+use Rattle.model_calls.specs.Calls.{calls_of_acts}
 use Rattle.lasp_drive.specs.Node.{Awaited}
+use Rattle.lasp_drive.specs.Calls.{GoOnByCalls}
 use Rattle.lasp_drive.specs.Driver.{run_of, stage_of, IsReady, Does}
 use Rattle.lasp_drive.specs.declared.driver.Driver.{Driver}
 use Rattle.lasp_drive.specs.declared.halt.Halt.{Halt}
@@ -22,6 +25,10 @@ pub record Steps {N R A : Type 0} (decls : N → List Decl) (number among : N �
   pub ready : OnOk result (IsReady decls number among peer awaited (length old.nodes.items) (c + 1) new)
   pub stage : OnOk result (stage_of new ≡ stage_after (length old.nodes.items) (stage_of old) k)
   pub done : Does (step c (run_of peer awaited old) k) result (run_of peer awaited new)
+
+-- each node got the calls that the command makes at it
+abbrev pub GoOnByCommand : {N R : Type 0} → (N → List Entry) → (N → Peer) → (R → Awaited) → ℕ → Driver N R → plain.Command → Driver N R → Type 0
+GoOnByCommand calls peer awaited c old k new = GoOnByCalls calls old.nodes.items new.nodes.items (λ p. calls_of_acts c (run_of peer awaited old) p (acts (run_of peer awaited old) k))
 
 -- the mark of a threshold is one of so many
 abbrev pub IsUntilWithin : ℕ → Until → Type 0

@@ -7,7 +7,7 @@ use Rattle.model_graph.specs.Chain.{refusing}
 use Rattle.model_graph.specs.Graph.{Decl}
 use Rattle.model_world.specs.Command.{Script}
 use Rattle.model_world.specs.Lawful.{IsLawful, IsWithinLimits}
-use Rattle.model_world.specs.World.{Run, ended}
+use Rattle.model_world.specs.World.{Peer, Run, ended}
 use Rattle.model_world.specs.declared.stop.Stop.{Stop}
 use Rattle.model_readings.specs.Lawful.{IsGraph, FitsAll}
 use Rattle.model_scripts.specs.Progress.{grown}
@@ -15,7 +15,9 @@ use Rattle.model_program.specs.Follows.{Part}
 use Rattle.model_program.specs.Program.{stopped, opening, scripting}
 use Rattle.model_program.specs.declared.failure.Failure.{Failure}
 use Rattle.model_program.specs.declared.failure.Failure.TheVariants.{Refused, ReadFault, Memory}
-use Rattle.lasp_drive.specs.Driver.{Halts}
+use Rattle.lasp_drive.specs.Node.{Awaited}
+use Rattle.lasp_drive.specs.Driver.{run_of, Halts}
+use Rattle.lasp_drive.specs.declared.driver.Driver.{Driver}
 use Rattle.lasp_drive.specs.declared.halt.Halt.{Halt}
 use Rattle.lasp_run.specs.declared.open.Opened.{Opened}
 
@@ -23,6 +25,11 @@ use Rattle.lasp_run.specs.declared.open.Opened.{Opened}
 abbrev pub Reports : {A : Type 0} → Result Run Stop → (Run → List ℕ) → Result (Vec ℕ A) Halt → Type 0
 Reports expected output (Ok bytes) = (run : Run) × (expected ≡ Ok run) × (bytes.items ≡ output run)
 Reports expected output (Err why) = Halts expected why
+
+-- a driver has come to the run's last world, or the run stopped, or memory was wanting
+abbrev pub ComesTo : {N R : Type 0} → (N → Peer) → (R → Awaited) → Result Run Stop → Result (Driver N R) Halt → Type 0
+ComesTo peer awaited expected (Ok d) = expected ≡ Ok (run_of peer awaited d)
+ComesTo peer awaited expected (Err why) = Halts expected why
 
 -- the failure is how the script's run stopped, or memory was wanting
 abbrev pub IsStop : List Decl → Script → Failure → Type 0

@@ -11,5 +11,5 @@ mod play;
 mod program;
 mod run;
 
-pub use play::{drive_on, export_on};
+pub use play::{drive_on, export_on, run_on};
 pub use program::one_thread;

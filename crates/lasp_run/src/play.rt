@@ -1,19 +1,21 @@
 //! Runs a script over nodes of any engine, command by command.
 
-ghost use Rattle.std.specs.Prelude.{◌≡◌, ◌<◌, ◌≤◌, ◌+◌, ◌∷◌, [], ℕ, length, OnOk};
+ghost use Rattle.std.specs.Prelude.{◌≡◌, ◌<◌, ◌≤◌, ◌+◌, ◌∷◌, [], ℕ, length, IfOk, OnOk};
 ghost use Rattle.std.specs.Arc.{arc_value};
 ghost use Rattle.model_readings.specs.Lawful.{IsGraph, FitsAll};
 ghost use Rattle.model_world.specs.Lawful.{opening_stage, AreLawful, IsLawful, IsWithinLimits};
 ghost use Rattle.model_world.specs.Report.{report_of};
-ghost use Rattle.model_world.specs.World.{ended, play};
+ghost use Rattle.model_world.specs.World.{start, ended, play};
 ghost use Rattle.model_scripts.specs.Progress.{grown};
 ghost use Rattle.model_program.specs.Program.{exported_bytes};
+ghost use Rattle.model_calls.specs.Calls.{calls};
 ghost use Rattle.lasp_graph.specs.Library.{library_of};
 ghost use Rattle.lasp_script.specs.Command.{command_of};
 ghost use Rattle.lasp_drive.specs.Node.{AreSettled};
+ghost use Rattle.lasp_drive.specs.Calls.{calls_at, GoOnByCalls};
 ghost use Rattle.lasp_drive.specs.Driver.{run_of, stage_of, IsReady, Does};
-ghost use Rattle.lasp_run.specs.Run.{Reports};
-ghost use Rattle.lasp_run.specs.Play.{MayStep, Steps};
+ghost use Rattle.lasp_run.specs.Run.{ComesTo, Reports};
+ghost use Rattle.lasp_run.specs.Play.{MayStep, Steps, GoOnByCommand};
 
 mod message;
 mod number;
@@ -44,6 +46,7 @@ fn do_command<N: Node>(
     requires graph { IsGraph (grown (arc_value driver.old.graph) (command_of command.now ∷ [])) }
     requires fits { FitsAll (library_of lib.now) (arc_value driver.old.graph) }
     ensures steps { Steps N.decls N.number N.among N.peer N.awaited c driver.old (command_of command.now) result driver.new }
+    ensures calls { OnOk result (GoOnByCommand N.calls N.peer N.awaited c driver.old (command_of command.now) driver.new) }
 {
     match command {
         Command::Add(p, x, v) => add(driver, alloc, c, *p, *x, v),
@@ -80,6 +83,7 @@ fn play<N: Node>(
     ensures ready { OnOk result ((c : ℕ) × (c ≤ 100000) × IsReady N.decls N.number N.among N.peer N.awaited (length driver.new.nodes.items) c driver.new) }
     ensures size { OnOk result (length driver.new.nodes.items ≡ length driver.old.nodes.items) }
     ensures settled { OnOk result (AreSettled N.decls N.peer N.shown driver.new.nodes.items) }
+    ensures calls { OnOk result (GoOnByCalls N.calls driver.old.nodes.items driver.new.nodes.items (λ p. calls 1 (run_of N.peer N.awaited driver.old) p script.now.commands)) }
     ensures done { Does (play 1 (run_of N.peer N.awaited driver.old) script.now.commands) result (run_of N.peer N.awaited driver.new) }
 {
     let mut c: u32 = 1;
@@ -90,6 +94,30 @@ fn play<N: Node>(
         }
     }
     driver.point(alloc, lib, c)
+}
+
+/// Runs a script against its graph on nodes of one engine. The driver stands at the end of the script, every node is settled, and each has got exactly the calls that the script makes at it, in their order.
+pub fn run_on<N: Node>(
+    alloc: Global,
+    graph: &Arc<Graph>,
+    lib: &Library,
+    script: &Script,
+) -> Result<Driver<N>, Halt>
+    requires lawful { IsLawful (arc_value graph.now) script.now }
+    requires limits { IsWithinLimits script.now }
+    requires graph { IsGraph (grown (arc_value graph.now) script.now.commands) }
+    requires fits { FitsAll (library_of lib.now) (grown (arc_value graph.now) script.now.commands) }
+    ensures size { IfOk result (λ d. length d.nodes.items ≡ script.now.nodes) }
+    ensures ready { IfOk result (λ d. (c : ℕ) × (c ≤ 100000) × IsReady N.decls N.number N.among N.peer N.awaited (length d.nodes.items) c d) }
+    ensures settled { IfOk result (λ d. AreSettled N.decls N.peer N.shown d.nodes.items) }
+    ensures calls { IfOk result (λ d. (p : ℕ) → p < script.now.nodes → calls_at N.calls d.nodes.items p ≡ calls 1 (start (arc_value graph.now) script.now.nodes) p script.now.commands) }
+    ensures done { ComesTo N.peer N.awaited (ended (arc_value graph.now) script.now) result }
+{
+    let mut driver: Driver<N> = Driver::new(alloc, graph, script.nodes())?;
+    match play(&mut driver, alloc, lib, script) {
+        Ok(()) => Ok(driver),
+        Err(halt) => Err(halt),
+    }
 }
 
 /// Runs a script against its graph on nodes of one engine, and writes its report.
@@ -105,9 +133,8 @@ pub fn drive_on<N: Node>(
     requires fits { FitsAll (library_of lib.now) (grown (arc_value graph.now) script.now.commands) }
     ensures reports { Reports (ended (arc_value graph.now) script.now) report_of result }
 {
-    let mut driver: Driver<N> = Driver::new(alloc, graph, script.nodes())?;
-    match play(&mut driver, alloc, lib, script) {
-        Ok(()) => Ok(driver.report()?),
+    match run_on::<N>(alloc, graph, lib, script) {
+        Ok(driver) => Ok(driver.report()?),
         Err(halt) => Err(halt),
     }
 }
@@ -127,9 +154,8 @@ pub fn export_on<N: Node>(
     requires node { node < script.now.nodes }
     ensures reports { Reports (ended (arc_value graph.now) script.now) (exported_bytes node) result }
 {
-    let mut driver: Driver<N> = Driver::new(alloc, graph, script.nodes())?;
-    match play(&mut driver, alloc, lib, script) {
-        Ok(()) => Ok(driver.export(alloc, node)?),
+    match run_on::<N>(alloc, graph, lib, script) {
+        Ok(driver) => Ok(driver.export(alloc, node)?),
         Err(halt) => Err(halt),
     }
 }

@@ -1,8 +1,8 @@
 //! Marks and messages.
 
-ghost use Rattle.std.specs.Prelude.{◌≡◌, length};
+ghost use Rattle.std.specs.Prelude.{◌≡◌, length, OnOk};
 ghost use Rattle.model_world.specs.Command as plain;
-ghost use Rattle.lasp_run.specs.Play.{MayStep, Steps};
+ghost use Rattle.lasp_run.specs.Play.{MayStep, Steps, GoOnByCommand};
 
 use lasp_drive::{Driver, Halt, Node};
 use std::alloc::Global;
@@ -11,6 +11,7 @@ use std::alloc::Global;
 pub fn mark<N: Node>(driver: &mut Driver<N>, c: u32, p: u8, x: u8) -> Result<(), Halt>
     requires may { MayStep N.decls N.number N.among N.peer N.awaited c driver.old (plain.Mark p x) }
     ensures steps { Steps N.decls N.number N.among N.peer N.awaited c driver.old (plain.Mark p x) result driver.new }
+    ensures calls { OnOk result (GoOnByCommand N.calls N.peer N.awaited c driver.old (plain.Mark p x) driver.new) }
 {
     driver.keep(c, p, x)
 }
@@ -19,6 +20,7 @@ pub fn mark<N: Node>(driver: &mut Driver<N>, c: u32, p: u8, x: u8) -> Result<(),
 pub fn send<N: Node>(driver: &mut Driver<N>, alloc: Global, c: u32, p: u8) -> Result<(), Halt>
     requires may { MayStep N.decls N.number N.among N.peer N.awaited c driver.old (plain.Send p) }
     ensures steps { Steps N.decls N.number N.among N.peer N.awaited c driver.old (plain.Send p) result driver.new }
+    ensures calls { OnOk result (GoOnByCommand N.calls N.peer N.awaited c driver.old (plain.Send p) driver.new) }
 {
     driver.post(alloc, c, p)
 }
@@ -33,6 +35,7 @@ pub fn deliver<N: Node>(
 ) -> Result<(), Halt>
     requires may { MayStep N.decls N.number N.among N.peer N.awaited c driver.old (plain.Deliver p i) }
     ensures steps { Steps N.decls N.number N.among N.peer N.awaited c driver.old (plain.Deliver p i) result driver.new }
+    ensures calls { OnOk result (GoOnByCommand N.calls N.peer N.awaited c driver.old (plain.Deliver p i) driver.new) }
 {
     driver.take(alloc, c, p, i)
 }
@@ -41,6 +44,7 @@ pub fn deliver<N: Node>(
 pub fn sync<N: Node>(driver: &mut Driver<N>, alloc: Global, c: u32) -> Result<(), Halt>
     requires may { MayStep N.decls N.number N.among N.peer N.awaited c driver.old (plain.Sync) }
     ensures steps { Steps N.decls N.number N.among N.peer N.awaited c driver.old (plain.Sync) result driver.new }
+    ensures calls { OnOk result (GoOnByCommand N.calls N.peer N.awaited c driver.old (plain.Sync) driver.new) }
 {
     driver.sync(alloc, c)
 }

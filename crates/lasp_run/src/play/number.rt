@@ -1,8 +1,8 @@
 //! Updates by a number or a mark.
 
-ghost use Rattle.std.specs.Prelude.{◌≡◌, length};
+ghost use Rattle.std.specs.Prelude.{◌≡◌, length, OnOk};
 ghost use Rattle.model_world.specs.Command as plain;
-ghost use Rattle.lasp_run.specs.Play.{MayStep, Steps};
+ghost use Rattle.lasp_run.specs.Play.{MayStep, Steps, GoOnByCommand};
 
 use lasp_drive::{Driver, Halt, Node};
 use lasp_state::Op;
@@ -20,6 +20,7 @@ pub fn inc<N: Node>(
 ) -> Result<(), Halt>
     requires may { MayStep N.decls N.number N.among N.peer N.awaited c driver.old (plain.Inc p x by) }
     ensures steps { Steps N.decls N.number N.among N.peer N.awaited c driver.old (plain.Inc p x by) result driver.new }
+    ensures calls { OnOk result (GoOnByCommand N.calls N.peer N.awaited c driver.old (plain.Inc p x by) driver.new) }
 {
     driver.update(alloc, c, p, x, &Op::Inc(by))
 }
@@ -35,6 +36,7 @@ pub fn max<N: Node>(
 ) -> Result<(), Halt>
     requires may { MayStep N.decls N.number N.among N.peer N.awaited c driver.old (plain.Max p x number) }
     ensures steps { Steps N.decls N.number N.among N.peer N.awaited c driver.old (plain.Max p x number) result driver.new }
+    ensures calls { OnOk result (GoOnByCommand N.calls N.peer N.awaited c driver.old (plain.Max p x number) driver.new) }
 {
     driver.update(alloc, c, p, x, &Op::Max(number))
 }
@@ -50,6 +52,7 @@ pub fn bind<N: Node>(
 ) -> Result<(), Halt>
     requires may { MayStep N.decls N.number N.among N.peer N.awaited c driver.old (plain.Bind p x mark) }
     ensures steps { Steps N.decls N.number N.among N.peer N.awaited c driver.old (plain.Bind p x mark) result driver.new }
+    ensures calls { OnOk result (GoOnByCommand N.calls N.peer N.awaited c driver.old (plain.Bind p x mark) driver.new) }
 {
     let state = Arc::try_clone(&driver.marks[mark as usize].state)?;
     driver.update(alloc, c, p, x, &Op::Join(state))

@@ -1,6 +1,6 @@
 //! Commands that are points, and reads.
 
-ghost use Rattle.std.specs.Prelude.{◌≡◌, ◌<◌, length};
+ghost use Rattle.std.specs.Prelude.{◌≡◌, ◌<◌, length, OnOk};
 ghost use Rattle.model_world.specs.Command as plain;
 ghost use Rattle.std.specs.Arc.{arc_value};
 ghost use Rattle.model_graph.specs.Lawful.{variable_limit};
@@ -8,7 +8,7 @@ ghost use Rattle.model_readings.specs.Lawful.{FitsAll, IsNext};
 ghost use Rattle.lasp_graph.specs.Decl.{decl_of};
 ghost use Rattle.lasp_graph.specs.Library.{library_of};
 ghost use Rattle.lasp_script.specs.Command.{until_of};
-ghost use Rattle.lasp_run.specs.Play.{MayStep, Steps};
+ghost use Rattle.lasp_run.specs.Play.{MayStep, Steps, GoOnByCommand};
 
 use super::threshold::threshold_of;
 use lasp_drive::{Driver, Halt, Node};
@@ -27,6 +27,7 @@ pub fn settle<N: Node>(
     requires may { MayStep N.decls N.number N.among N.peer N.awaited c driver.old (plain.Settle) }
     requires fits { FitsAll (library_of lib.now) (arc_value driver.old.graph) }
     ensures steps { Steps N.decls N.number N.among N.peer N.awaited c driver.old (plain.Settle) result driver.new }
+    ensures calls { OnOk result (GoOnByCommand N.calls N.peer N.awaited c driver.old (plain.Settle) driver.new) }
 {
     driver.point(alloc, lib, c)
 }
@@ -43,6 +44,7 @@ pub fn print<N: Node>(
     requires may { MayStep N.decls N.number N.among N.peer N.awaited c driver.old (plain.Print p x) }
     requires fits { FitsAll (library_of lib.now) (arc_value driver.old.graph) }
     ensures steps { Steps N.decls N.number N.among N.peer N.awaited c driver.old (plain.Print p x) result driver.new }
+    ensures calls { OnOk result (GoOnByCommand N.calls N.peer N.awaited c driver.old (plain.Print p x) driver.new) }
 {
     match driver.point(alloc, lib, c) {
         Ok(()) => driver.show(c, p, x),
@@ -63,6 +65,7 @@ pub fn wait<N: Node>(
     requires may { MayStep N.decls N.number N.among N.peer N.awaited c driver.old (plain.Await p x (until_of until.now)) }
     requires fits { FitsAll (library_of lib.now) (arc_value driver.old.graph) }
     ensures steps { Steps N.decls N.number N.among N.peer N.awaited c driver.old (plain.Await p x (until_of until.now)) result driver.new }
+    ensures calls { OnOk result (GoOnByCommand N.calls N.peer N.awaited c driver.old (plain.Await p x (until_of until.now)) driver.new) }
 {
     let threshold = threshold_of(alloc, &driver.marks, until)?;
     match driver.point(alloc, lib, c) {
@@ -84,6 +87,7 @@ pub fn declare<N: Node>(
     requires room { length (arc_value driver.old.graph) < variable_limit }
     requires next { IsNext (arc_value driver.old.graph) (decl_of decl.now) }
     ensures steps { Steps N.decls N.number N.among N.peer N.awaited c driver.old (plain.Declare (decl_of decl.now)) result driver.new }
+    ensures calls { OnOk result (GoOnByCommand N.calls N.peer N.awaited c driver.old (plain.Declare (decl_of decl.now)) driver.new) }
 {
     match driver.point(alloc, lib, c) {
         Ok(()) => driver.extend(alloc, c, decl),
@@ -102,6 +106,7 @@ pub fn read<N: Node>(
 ) -> Result<(), Halt>
     requires may { MayStep N.decls N.number N.among N.peer N.awaited c driver.old (plain.Read p x (until_of until.now)) }
     ensures steps { Steps N.decls N.number N.among N.peer N.awaited c driver.old (plain.Read p x (until_of until.now)) result driver.new }
+    ensures calls { OnOk result (GoOnByCommand N.calls N.peer N.awaited c driver.old (plain.Read p x (until_of until.now)) driver.new) }
 {
     let threshold = threshold_of(alloc, &driver.marks, until)?;
     driver.open(alloc, c, p, x, threshold)

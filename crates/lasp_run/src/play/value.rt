@@ -1,9 +1,9 @@
 //! Updates of sets by a value.
 
-ghost use Rattle.std.specs.Prelude.{◌≡◌, length};
+ghost use Rattle.std.specs.Prelude.{◌≡◌, length, OnOk};
 ghost use Rattle.model_world.specs.Command as plain;
 ghost use Rattle.lasp_value.specs.Value.{val_of};
-ghost use Rattle.lasp_run.specs.Play.{MayStep, Steps};
+ghost use Rattle.lasp_run.specs.Play.{MayStep, Steps, GoOnByCommand};
 
 use lasp_drive::{Driver, Halt, Node};
 use lasp_state::Op;
@@ -22,6 +22,7 @@ pub fn add<N: Node>(
 ) -> Result<(), Halt>
     requires may { MayStep N.decls N.number N.among N.peer N.awaited c driver.old (plain.Add p x (val_of value.now)) }
     ensures steps { Steps N.decls N.number N.among N.peer N.awaited c driver.old (plain.Add p x (val_of value.now)) result driver.new }
+    ensures calls { OnOk result (GoOnByCommand N.calls N.peer N.awaited c driver.old (plain.Add p x (val_of value.now)) driver.new) }
 {
     recall_value(value);
     let op = Op::Add(value.try_clone(alloc)?);
@@ -39,6 +40,7 @@ pub fn remove<N: Node>(
 ) -> Result<(), Halt>
     requires may { MayStep N.decls N.number N.among N.peer N.awaited c driver.old (plain.Remove p x (val_of value.now)) }
     ensures steps { Steps N.decls N.number N.among N.peer N.awaited c driver.old (plain.Remove p x (val_of value.now)) result driver.new }
+    ensures calls { OnOk result (GoOnByCommand N.calls N.peer N.awaited c driver.old (plain.Remove p x (val_of value.now)) driver.new) }
 {
     recall_value(value);
     let op = Op::Remove(value.try_clone(alloc)?);
@@ -56,6 +58,7 @@ pub fn insert<N: Node>(
 ) -> Result<(), Halt>
     requires may { MayStep N.decls N.number N.among N.peer N.awaited c driver.old (plain.Insert p x (val_of value.now)) }
     ensures steps { Steps N.decls N.number N.among N.peer N.awaited c driver.old (plain.Insert p x (val_of value.now)) result driver.new }
+    ensures calls { OnOk result (GoOnByCommand N.calls N.peer N.awaited c driver.old (plain.Insert p x (val_of value.now)) driver.new) }
 {
     recall_value(value);
     let op = Op::Insert(value.try_clone(alloc)?);

@@ -12,7 +12,8 @@ use Rattle.lasp_script.specs.Command.{command_of}
 use Rattle.lasp_drive.specs.Driver.{run_of, stage_of}
 use Rattle.lasp_drive.proofs.SyncLaws.{halts-as}
 use Rattle.lasp_run.proofs.StepLaws.{ready-here}
-use Rattle.lasp_run.proofs.PlayLaws.{drop-at, play-step, play-halts, play-end, graph-so-far, fits-so-far, stage-graph, does-as}
+use Rattle.lasp_run.proofs.CallLaws.{come-command, ok-last}
+use Rattle.lasp_run.proofs.PlayLaws.{drop-at, drop-past, play-step, play-halts, play-end, graph-so-far, fits-so-far, stage-graph, does-as}
 use Rattle.lasp_run.proofs.play.play.Goals as goal
 
 pub do_command-requires-clause-may : goal.do_command-requires-clause-may
@@ -59,6 +60,8 @@ loop-i-preserved g c =
           (subst (λ (s : Stage). AreLawful (length old.nodes.items) s (drop (c.loop-i.i + 1) ks)) (sym steps.stage) lawful.1);
       graph = subst (λ (h : List Decl). IsGraph (grown h (drop (c.loop-i.i + 1) ks))) (sym graph) (subst (λ (rest : List plain.Command). IsGraph (grown (arc_value old.graph) rest)) at c.loop-i.invariant.graph);
       fits = subst (λ (h : List Decl). FitsAll (library_of c.args.lib.now) (grown h (drop (c.loop-i.i + 1) ks))) (sym graph) (subst (λ (rest : List plain.Command). FitsAll (library_of c.args.lib.now) (grown (arc_value old.graph) rest)) at c.loop-i.invariant.fits);
+      calls = come-command g.N.Node.calls c.args.driver.now.nodes.items old.nodes.items new.nodes.items c.loop-i.c (run_of g.N.Node.peer g.N.Node.awaited old) (run_of g.N.Node.peer g.N.Node.awaited new) k _ _ _
+          at c.loop-i.invariant.size steps.done c.in-Ok.ensures.calls c.loop-i.invariant.calls;
       rest = sym (play-step c.loop-i.c (run_of g.N.Node.peer g.N.Node.awaited old) (run_of g.N.Node.peer g.N.Node.awaited new) ks c.loop-i.i k c.at.ensures steps.done) ∙ c.loop-i.invariant.rest;
     }
 
@@ -69,3 +72,8 @@ pub returns-clause-done : goal.returns-clause-done
 returns-clause-done g c =
     does-as (play 1 (run_of g.N.Node.peer g.N.Node.awaited c.args.driver.now) c.args.script.now.commands) (act c.loop-i.c (run_of g.N.Node.peer g.N.Node.awaited c.loop-i.driver) Point) c.point.result (run_of g.N.Node.peer g.N.Node.awaited c.point.new.self)
     (sym c.loop-i.invariant.rest ∙ play-end c.loop-i.c (run_of g.N.Node.peer g.N.Node.awaited c.loop-i.driver) c.args.script.now.commands c.loop-i.i (omega (arith, c.loop-i-test.false, c.len-i-end.ensures))) c.point.ensures.done
+
+pub returns-clause-calls : goal.returns-clause-calls
+returns-clause-calls g c =
+    ok-last g.N.Node.calls c.point.result c.args.driver.now.nodes.items c.loop-i.driver.nodes.items c.point.new.self.nodes.items c.loop-i.c (run_of g.N.Node.peer g.N.Node.awaited c.loop-i.driver) _ _
+    (drop-past c.args.script.now.commands c.loop-i.i (omega (arith, c.loop-i-test.false, c.len-i-end.ensures))) c.loop-i.invariant.size c.point.ensures.calls c.loop-i.invariant.calls

@@ -6,6 +6,8 @@ use Rattle.model_world.specs.Lawful.{AreLawful}
 use Rattle.model_world.specs.World.{play}
 use Rattle.lasp_graph.specs.Library.{library_of}
 use Rattle.lasp_drive.specs.Driver.{IsReady, run_of, stage_of}
+use Rattle.model_calls.specs.Calls.{calls}
+use Rattle.lasp_drive.proofs.CallLaws.{AreToCome}
 use Rattle.lasp_run.proofs.play.play.Given as goal
 
 abbrev pub invariant-loop-i : goal.invariant-loop-i
@@ -17,5 +19,6 @@ invariant-loop-i g l = record {
   lawful : AreLawful (length l.driver.nodes.items) (stage_of l.driver) (drop l.i l.script.commands);
   graph : IsGraph (grown (arc_value l.driver.graph) (drop l.i l.script.commands));
   fits : FitsAll (library_of l.lib) (grown (arc_value l.driver.graph) (drop l.i l.script.commands));
+  calls : AreToCome g.N.Node.calls l.fn.driver.nodes.items l.driver.nodes.items (λ p. calls l.c (run_of g.N.Node.peer g.N.Node.awaited l.driver) p (drop l.i l.script.commands)) (λ p. calls 1 (run_of g.N.Node.peer g.N.Node.awaited l.fn.driver) p l.script.commands);
   rest : play l.c (run_of g.N.Node.peer g.N.Node.awaited l.driver) (drop l.i l.script.commands) ≡ play 1 (run_of g.N.Node.peer g.N.Node.awaited l.fn.driver) l.script.commands;
 }

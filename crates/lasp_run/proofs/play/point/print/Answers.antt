@@ -1,6 +1,7 @@
 use Rattle.std.specs.Prelude.{length}
 use Rattle.model_world.specs.World.{Point, Show}
 use Rattle.lasp_drive.specs.Driver.{run_of, stage_of}
+use Rattle.lasp_run.proofs.CallLaws.{ok-two}
 use Rattle.lasp_run.proofs.StepLaws.{ok-here, ok-stage, does-two}
 use Rattle.lasp_run.proofs.play.point.print.Goals as goal
 
@@ -11,4 +12,6 @@ returns-in-Ok g c = record {
     stage = ok-stage c.show.result (stage_of c.show.new.self) (stage_of c.point.new.self) (stage_of c.args.driver.now) c.in-Ok.ensures.stage c.show.ensures.stage;
     done = does-two c.args.c (run_of g.N.Node.peer g.N.Node.awaited c.args.driver.now) (run_of g.N.Node.peer g.N.Node.awaited c.point.new.self) Point (Show c.args.p c.args.x) c.show.result (run_of g.N.Node.peer g.N.Node.awaited c.show.new.self) c.in-Ok.ensures.done c.show.ensures.done;
   };
+  calls = ok-two g.N.Node.calls c.show.result c.args.driver.now.nodes.items c.point.new.self.nodes.items c.show.new.self.nodes.items c.args.c (run_of g.N.Node.peer g.N.Node.awaited c.args.driver.now) (run_of g.N.Node.peer g.N.Node.awaited c.point.new.self) (run_of g.N.Node.peer g.N.Node.awaited c.show.new.self) Point (Show c.args.p c.args.x)
+      c.in-Ok.ensures.ready.size c.in-Ok.ensures.done c.in-Ok.ensures.calls c.show.ensures.done c.show.ensures.calls;
 }

@@ -1,0 +1,8 @@
+use Rattle.model_world.specs.World.{Keep}
+use Rattle.lasp_drive.specs.Driver.{run_of}
+use Rattle.lasp_run.proofs.CallLaws.{ok-one}
+use Rattle.lasp_run.proofs.play.message.mark.Goals as goal
+
+pub returns-clause-calls : goal.returns-clause-calls
+returns-clause-calls g c =
+    ok-one g.N.Node.calls c.keep.result c.args.driver.now.nodes.items c.keep.new.self.nodes.items c.args.c (run_of g.N.Node.peer g.N.Node.awaited c.args.driver.now) (run_of g.N.Node.peer g.N.Node.awaited c.keep.new.self) (Keep c.args.p c.args.x) c.keep.ensures.done c.keep.ensures.calls

@@ -1,0 +1,8 @@
+use Rattle.model_world.specs.World.{Post}
+use Rattle.lasp_drive.specs.Driver.{run_of}
+use Rattle.lasp_run.proofs.CallLaws.{ok-one}
+use Rattle.lasp_run.proofs.play.message.send.Goals as goal
+
+pub returns-clause-calls : goal.returns-clause-calls
+returns-clause-calls g c =
+    ok-one g.N.Node.calls c.post.result c.args.driver.now.nodes.items c.post.new.self.nodes.items c.args.c (run_of g.N.Node.peer g.N.Node.awaited c.args.driver.now) (run_of g.N.Node.peer g.N.Node.awaited c.post.new.self) (Post c.args.p) c.post.ensures.done c.post.ensures.calls

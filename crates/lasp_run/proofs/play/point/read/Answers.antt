@@ -1,0 +1,14 @@
+use Rattle.std.proofs.Common.{rules, ◌≡◌, List, map, ap, ◌∙◌}
+use Rattle.model_world.specs.World.{Open, threshold_of}
+use Rattle.lasp_script.specs.Command.{until_of}
+use Rattle.lasp_drive.specs.Driver.{marked_of, run_of}
+use Rattle.lasp_drive.specs.declared.driver.Mark.{Mark}
+use Rattle.lasp_run.proofs.CallLaws.{ok-one}
+use Rattle.lasp_run.proofs.play.point.read.Goals as goal
+
+pub returns-clause-calls : goal.returns-clause-calls
+returns-clause-calls g c =
+    let marks : c.deref.result.now ≡ c.args.driver.now.marks.items = search rules in
+    let until = until_of c.args.until.now in
+    ok-one g.N.Node.calls c.open.result c.args.driver.now.nodes.items c.open.new.self.nodes.items c.args.c (run_of g.N.Node.peer g.N.Node.awaited c.args.driver.now) (run_of g.N.Node.peer g.N.Node.awaited c.open.new.self) (Open c.args.p c.args.x until)
+    (c.open.ensures.done until (c.in_ok-threshold.ensures ∙ ap (λ (ms : List Mark). threshold_of (map marked_of ms) until) marks)) (c.open.ensures.calls until)
