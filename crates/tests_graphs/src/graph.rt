@@ -9,16 +9,22 @@ use lasp_graph::{Decl, Graph, GraphRefused, GraphWhy, read_graph};
 use std::alloc::{AllocError, Global};
 use std::test::Fail;
 
-/// A declaration's name, its inputs, and `s` where it is a source, `d` where it is derived.
-fn spell_decl(out: &mut String, d: &Decl) -> Result<(), AllocError> {
-    out.push_str(d.name.as_str())?;
-    out.push_str(if d.kind.is_source() { " s" } else { " d" })?;
-    if d.kind.is_set() {
-        out.push_str(" set")?;
+/// Whether a declaration is of a source, `s`, or derived, `d`, and whether it is of a set.
+fn kind_of(d: &Decl) -> &'static str {
+    match (d.kind.is_source(), d.kind.is_set()) {
+        (true, true) => "s set",
+        (true, false) => "s",
+        (false, true) => "d set",
+        (false, false) => "d",
     }
+}
+
+/// A declaration's name, its kind and its inputs.
+fn spell_decl(out: &mut String, d: &Decl) -> Result<(), AllocError> {
+    let kind = kind_of(d);
     match d.kind.inputs() {
-        Some((x, y)) => write!(out, " of {x} {y}"),
-        None => Ok(()),
+        Some((x, y)) => write!(out, "{} {kind} of {x} {y}", d.name.as_str()),
+        None => write!(out, "{} {kind}", d.name.as_str()),
     }
 }
 
@@ -44,13 +50,21 @@ p d set of 4 0 2
 i d set of 5 4 3
 ";
 
+/// The graph of a text that names no functions.
+fn read(alloc: Global, text: &str) -> Result<Graph, GraphRefused> {
+    read_graph(alloc, text.as_bytes(), &Library::new(alloc))
+}
+
+/// Whether a graph is spelled so, and its variables are found by their names alone.
+fn is_told(alloc: Global, g: &Graph, expected: &str) -> Result<bool, AllocError> {
+    let are_found = g.find("b_2") == Some(1) && g.find("e") == None;
+    Ok(are_found && spell(alloc, g)?.as_str() == expected)
+}
+
 #[test]
 fn sources_and_processes_are_read(rt: HostRuntime) -> Result<(), Fail> {
-    let alloc = rt.alloc();
-    let graph = read_graph(alloc, GRAPH.as_bytes(), &Library::new(alloc))?;
-    assert_eq!(rt; spell(alloc, &graph)?.as_str(), SPELLED);
-    assert_eq!(rt; graph.find("b_2"), Some(1));
-    assert_eq!(rt; graph.find("e"), None);
+    let told = is_told(rt.alloc(), &read(rt.alloc(), GRAPH)?, SPELLED);
+    assert!(rt; told?);
     Ok(())
 }
 
@@ -140,11 +154,17 @@ const REFUSED: [(&str, u32, GraphWhy); 30] = [
 const TOO_WIDE: &str =
     r#"[["a","orset"],["p2","product","a","a"],["p4","product","p2","p2"],["p8","product","p4","p4"],["p16","product","p8","p8"],["q","product","p16","a"]]"#;
 
+fn is_refused(alloc: Global, text: &str, expected: u32, cause: GraphWhy) -> bool {
+    match read(alloc, text) {
+        Err(GraphRefused::At { number, why }) => number == expected && why == cause,
+        _ => false,
+    }
+}
+
 /// The first text that isn't refused as its row says.
 fn first_other<'a>(alloc: Global, rows: &'a [(&'a str, u32, GraphWhy)]) -> Option<&'a str> {
-    let lib = Library::new(alloc);
     for (text, number, why) in rows {
-        if !is_refused(read_graph(alloc, text.as_bytes(), &lib), *number, *why) {
+        if !is_refused(alloc, text, *number, *why) {
             return Some(text);
         }
     }
@@ -157,20 +177,23 @@ fn each_bad_graph_is_refused_by_its_number_and_cause(rt: HostRuntime) -> Result<
     Ok(())
 }
 
+/// How many variables the graph of a text has, if it is read.
+fn variables(alloc: Global, text: &str) -> Option<u64> {
+    match read(alloc, text) {
+        Ok(graph) => Some(graph.len()),
+        Err(_) => None,
+    }
+}
+
 /// Whether a graph of so many sources is read.
 fn are_read(alloc: Global, count: u32) -> Result<bool, AllocError> {
-    let text = sources(alloc, count)?;
-    match read_graph(alloc, text.as_bytes(), &Library::new(alloc)) {
-        Ok(graph) => Ok(graph.len() == count as u64),
-        Err(_) => Ok(false),
-    }
+    Ok(variables(alloc, sources(alloc, count)?.as_str()) == Some(count as u64))
 }
 
 /// Whether a graph of so many sources is refused at this one, which is one too many.
 fn are_too_many(alloc: Global, count: u32, number: u32) -> Result<bool, AllocError> {
     let text = sources(alloc, count)?;
-    let read = read_graph(alloc, text.as_bytes(), &Library::new(alloc));
-    Ok(is_refused(read, number, GraphWhy::TooMany))
+    Ok(is_refused(alloc, text.as_str(), number, GraphWhy::TooMany))
 }
 
 #[test]
@@ -178,13 +201,6 @@ fn a_graph_has_room_for_64_variables(rt: HostRuntime) -> Result<(), Fail> {
     assert!(rt; are_read(rt.alloc(), 64)?);
     assert!(rt; are_too_many(rt.alloc(), 66, 64)?);
     Ok(())
-}
-
-fn is_refused(read: Result<Graph, GraphRefused>, expected: u32, cause: GraphWhy) -> bool {
-    match read {
-        Err(GraphRefused::At { number, why }) => number == expected && why == cause,
-        _ => false,
-    }
 }
 
 /// The text of a graph of so many sources, `v0`, `v1` and so on.

@@ -1,6 +1,6 @@
 //! How states of each kind behave, against texts and answers written by hand.
 
-ghost use Rattle.std.specs.Prelude.{◌≡◌, IfOk};
+ghost use Rattle.std.specs.Prelude.{◌≡◌, IfOk, IfSome};
 ghost use Rattle.model_states.specs.Threshold.{fold};
 ghost use Rattle.lasp_state.specs.State.{shape_of, IsOpOf};
 
@@ -36,79 +36,169 @@ fn pair(alloc: Global, first: i64, second: Value) -> Result<Value, AllocError> {
     ))
 }
 
-#[test]
-fn a_set_shows_what_was_added_and_not_removed(rt: HostRuntime) -> Result<(), Fail> {
-    let alloc = rt.alloc();
-    let mut s = State::empty_set(alloc);
-    assert!(rt; shows(alloc, &s, "[]")?);
-    assert!(rt; update(alloc, &mut s, &Op::Add(Value::Int(-3)), 1)?);
-    assert!(rt; !update(alloc, &mut s, &Op::Add(Value::Int(-3)), 1)?);
-    assert!(rt; update(alloc, &mut s, &Op::Add(text(alloc, "q\"\\\n\u{1}é")?), 2)?);
-    assert!(rt;
-        update(
-            alloc,
-            &mut s,
-            &Op::Add(pair(alloc, 4, text(alloc, "x")?)?),
-            3
-        )?
-    );
-    assert!(rt; shows(alloc, &s, "[-3,\"q\\\"\\\\\\n\\u0001é\",[4,\"x\"]]")?);
-    assert!(rt; update(alloc, &mut s, &Op::Remove(Value::Int(-3)), 4)?);
-    assert!(rt; !update(alloc, &mut s, &Op::Remove(Value::Int(9)), 5)?);
-    assert!(rt; shows(alloc, &s, "[\"q\\\"\\\\\\n\\u0001é\",[4,\"x\"]]")?);
-    assert_eq!(rt; s.size(), 3);
-    assert!(rt;
-        shows(
-            alloc,
-            &s.try_clone()?,
-            "[\"q\\\"\\\\\\n\\u0001é\",[4,\"x\"]]"
-        )?
-    );
-    Ok(())
+/// A value as plain data.
+#[derive(Clone, Copy)]
+enum Plain<'a> {
+    Number(i64),
+    Word(&'a str),
+    NumberAndWord(i64, &'a str),
 }
 
-/// The same, and none where the state then shows another text.
-fn rises(alloc: Global, s: &mut State, op: &Op, text: &str) -> Result<Option<bool>, AllocError>
-    requires { IsOpOf op.now 1 (shape_of s.old) }
-    ensures { shape_of s.new ≡ shape_of s.old }
-{
-    let grew = update(alloc, s, op, 1)?;
-    if shows(alloc, s, text)? {
-        Ok(Some(grew))
-    } else {
-        Ok(None)
+fn value_of(alloc: Global, plain: &Plain) -> Result<Value, AllocError> {
+    match plain {
+        Plain::Number(n) => Ok(Value::Int(*n)),
+        Plain::Word(s) => text(alloc, s),
+        Plain::NumberAndWord(n, s) => pair(alloc, *n, text(alloc, s)?),
     }
 }
 
+/// What a state is told.
+#[derive(Clone, Copy)]
+enum Told<'a> {
+    Add(Plain<'a>),
+    Remove(Plain<'a>),
+    Insert(i64),
+    Inc(u32),
+    Max(i64),
+}
+
+/// The operation of replica 1, where the state takes it.
+fn op_for(alloc: Global, told: &Told, s: &State) -> Result<Option<Op>, AllocError>
+    ensures { IfOk result (λ o. IfSome o (λ op. IsOpOf op 1 (shape_of s.now))) }
+{
+    match (told, s) {
+        (Told::Add(plain), State::Set(_)) => Ok(Some(Op::Add(value_of(alloc, plain)?))),
+        (Told::Remove(plain), State::Set(_)) => Ok(Some(Op::Remove(value_of(alloc, plain)?))),
+        (Told::Insert(n), State::Grow(_)) => Ok(Some(Op::Insert(Value::Int(*n)))),
+        (Told::Inc(by), State::Count(counts)) if counts.nodes() > 1 => Ok(Some(Op::Inc(*by))),
+        (Told::Max(n), State::Max(_)) => Ok(Some(Op::Max(*n))),
+        (_, _) => Ok(None),
+    }
+}
+
+/// What a state is told, the number of its token, whether it grows, and what it then shows.
+type Step<'a> = (Told<'a>, u64, bool, &'a str);
+
+/// Whether a state that is told something goes so.
+fn goes_so(alloc: Global, s: &mut State, step: &Step) -> Result<bool, AllocError> {
+    let (told, k, grew, shown) = step;
+    match op_for(alloc, told, s)? {
+        Some(op) => Ok(update(alloc, s, &op, *k)? == *grew && shows(alloc, s, shown)?),
+        None => Ok(false),
+    }
+}
+
+/// The first step that goes otherwise.
+fn first_step(alloc: Global, s: &mut State, steps: &[Step]) -> Result<Option<u64>, AllocError> {
+    let mut at = 0u64;
+    for step in steps {
+        if !goes_so(alloc, s, step)? {
+            return Ok(Some(at));
+        }
+        at = at.saturating_add(1);
+    }
+    Ok(None)
+}
+
+/// Whether a state has so many rows, and its clone shows this.
+fn is_cloned(alloc: Global, s: &State, size: u64, shown: &str) -> Result<bool, AllocError> {
+    Ok(s.size() == size && shows(alloc, &s.try_clone()?, shown)?)
+}
+
+/// Whether a state shows the first text, goes by these steps, and is left with so many rows and the last text.
+fn passes(
+    alloc: Global,
+    mut s: State,
+    texts: (&str, &str),
+    steps: &[Step],
+    size: u64,
+) -> Result<bool, AllocError> {
+    Ok(
+        shows(alloc, &s, texts.0)?
+            && first_step(alloc, &mut s, steps)? == None
+            && is_cloned(alloc, &s, size, texts.1)?,
+    )
+}
+
+/// What is left of the additions to a set.
+const LEFT: &str = "[\"q\\\"\\\\\\n\\u0001é\",[4,\"x\"]]";
+
+const ADDITIONS_AND_REMOVALS: [Step; 6] = [
+    (Told::Add(Plain::Number(-3)), 1, true, "[-3]"),
+    (Told::Add(Plain::Number(-3)), 1, false, "[-3]"),
+    (
+        Told::Add(Plain::Word("q\"\\\n\u{1}é")),
+        2,
+        true,
+        "[-3,\"q\\\"\\\\\\n\\u0001é\"]",
+    ),
+    (
+        Told::Add(Plain::NumberAndWord(4, "x")),
+        3,
+        true,
+        "[-3,\"q\\\"\\\\\\n\\u0001é\",[4,\"x\"]]",
+    ),
+    (Told::Remove(Plain::Number(-3)), 4, true, LEFT),
+    (Told::Remove(Plain::Number(9)), 5, false, LEFT),
+];
+
 #[test]
-fn elements_are_kept_once_in_ascending_order(rt: HostRuntime) -> Result<(), Fail> {
-    let alloc = rt.alloc();
-    let mut elements = State::no_elements(alloc);
-    assert!(rt; rises(alloc, &mut elements, &Op::Insert(Value::Int(7)), "[7]")? == Some(true));
-    assert!(rt; rises(alloc, &mut elements, &Op::Insert(Value::Int(-1)), "[-1,7]")? == Some(true));
-    assert!(rt; rises(alloc, &mut elements, &Op::Insert(Value::Int(7)), "[-1,7]")? == Some(false));
-    assert_eq!(rt; elements.size(), 2);
+fn a_set_shows_what_was_added_and_not_removed(rt: HostRuntime) -> Result<(), Fail> {
+    let set = State::empty_set(rt.alloc());
+    assert!(rt; passes(rt.alloc(), set, ("[]", LEFT), &ADDITIONS_AND_REMOVALS, 3)?);
     Ok(())
 }
+
+const INSERTIONS: [Step; 3] = [
+    (Told::Insert(7), 1, true, "[7]"),
+    (Told::Insert(-1), 1, true, "[-1,7]"),
+    (Told::Insert(7), 1, false, "[-1,7]"),
+];
+
+#[test]
+fn elements_are_kept_once_in_ascending_order(rt: HostRuntime) -> Result<(), Fail> {
+    let elements = State::no_elements(rt.alloc());
+    assert!(rt; passes(rt.alloc(), elements, ("[]", "[-1,7]"), &INSERTIONS, 2)?);
+    Ok(())
+}
+
+const NUMBERS: [Step; 2] = [
+    (Told::Max(-5), 1, true, "-5"),
+    (Told::Max(-9), 1, false, "-5"),
+];
 
 #[test]
 fn a_register_keeps_the_greatest_number(rt: HostRuntime) -> Result<(), Fail> {
-    let alloc = rt.alloc();
-    let mut register = State::no_number();
-    assert!(rt; shows(alloc, &register, "null")?);
-    assert!(rt; rises(alloc, &mut register, &Op::Max(-5), "-5")? == Some(true));
-    assert!(rt; rises(alloc, &mut register, &Op::Max(-9), "-5")? == Some(false));
+    assert!(rt; passes(rt.alloc(), State::no_number(), ("null", "-5"), &NUMBERS, 0)?);
     Ok(())
 }
 
+const INCREMENTS: [Step; 2] = [
+    (Told::Inc(41), 1, true, "41"),
+    (Told::Inc(4_294_967_295), 1, true, "4294967336"),
+];
+
 #[test]
 fn a_counter_counts_what_each_update_says(rt: HostRuntime) -> Result<(), Fail> {
-    let alloc = rt.alloc();
-    let mut counter = State::zero_count(alloc, 3)?;
-    assert!(rt; rises(alloc, &mut counter, &Op::Inc(41), "41")? == Some(true));
-    assert!(rt; rises(alloc, &mut counter, &Op::Inc(4_294_967_295), "4294967336")? == Some(true));
-    assert_eq!(rt; counter.size(), 0);
+    let counter = State::zero_count(rt.alloc(), 3)?;
+    assert!(rt; passes(rt.alloc(), counter, ("0", "4294967336"), &INCREMENTS, 0)?);
     Ok(())
+}
+
+/// Joins the addition of a number under a token in, or its removal.
+fn tell(
+    alloc: Global,
+    set: &mut OrSet,
+    n: i64,
+    k: u64,
+    is_removal: bool,
+) -> Result<bool, AllocError> {
+    let value = Value::Int(n);
+    if is_removal {
+        set.join_in(&set.remove_delta(&value)?)
+    } else {
+        set.join_in(&add_delta(alloc, &value, 0, k)?)
+    }
 }
 
 /// A fold with this number over a set to which the values were added in this order.
@@ -118,7 +208,7 @@ fn fold_of(alloc: Global, values: &[i64], number: i128) -> Result<State, AllocEr
     let mut set = OrSet::new(alloc);
     let mut k = 1u64;
     for n in values {
-        set.join_in(&add_delta(alloc, &Value::Int(*n), 0, k)?)?;
+        tell(alloc, &mut set, *n, k, false)?;
         k = k.saturating_add(1);
     }
     Ok(State::Fold(set, number))
@@ -155,13 +245,19 @@ const TAKINGS: [Taking; 5] = [
     (&[3], 3, &[5], 5, None, "3"),
 ];
 
+/// Whether a fold takes another so.
+fn is_taken(alloc: Global, row: &Taking) -> Result<bool, AllocError> {
+    let (values, number, others, theirs, grew, shown) = row;
+    let mut mine = fold_of(alloc, values, *number)?;
+    let other = fold_of(alloc, others, *theirs)?;
+    Ok(take(&mut mine, &other)? == *grew && shows(alloc, &mine, shown)?)
+}
+
 /// The first row by which a fold takes another otherwise.
 fn first_taken(alloc: Global, rows: &[Taking]) -> Result<Option<u64>, AllocError> {
     let mut at = 0u64;
-    for (values, number, others, theirs, grew, shown) in rows {
-        let mut mine = fold_of(alloc, values, *number)?;
-        let other = fold_of(alloc, others, *theirs)?;
-        if take(&mut mine, &other)? != *grew || !shows(alloc, &mine, shown)? {
+    for row in rows {
+        if !is_taken(alloc, row)? {
             return Ok(Some(at));
         }
         at = at.saturating_add(1);
@@ -186,8 +282,13 @@ fn asked(threshold: &Threshold, s: &State) -> Option<bool> {
     }
 }
 
-/// What a threshold answers of each state: `y` where it is met, `n` where it isn't, `-` where it doesn't suit.
-fn answers(alloc: Global, threshold: &Threshold, states: &[State]) -> Result<String, AllocError> {
+/// Whether a threshold answers so of each state: `y` where it is met, `n` where it isn't, `-` where it doesn't suit.
+fn answers(
+    alloc: Global,
+    threshold: &Threshold,
+    states: &[State],
+    expected: &str,
+) -> Result<bool, AllocError> {
     let mut out = String::new(alloc);
     for s in states {
         let answer = match asked(threshold, s) {
@@ -197,7 +298,7 @@ fn answers(alloc: Global, threshold: &Threshold, states: &[State]) -> Result<Str
         };
         out.push(answer)?;
     }
-    Ok(out)
+    Ok(out.as_str() == expected)
 }
 
 fn values(alloc: Global, numbers: &[i64]) -> Result<Values, AllocError> {
@@ -208,14 +309,15 @@ fn values(alloc: Global, numbers: &[i64]) -> Result<Values, AllocError> {
     Ok(all)
 }
 
+/// Numbers with their tokens, and whether each is removed and not added.
+const MIXED: [(i64, u64, bool); 4] = [(1, 1, false), (2, 2, false), (2, 0, true), (2, 3, false)];
+
 /// A set that was told to add 1, 2 and 2 again, and to remove 2 in between.
 fn mixed(alloc: Global) -> Result<OrSet, AllocError> {
     let mut set = OrSet::new(alloc);
-    set.join_in(&add_delta(alloc, &Value::Int(1), 0, 1)?)?;
-    set.join_in(&add_delta(alloc, &Value::Int(2), 0, 2)?)?;
-    let removal = set.remove_delta(&Value::Int(2))?;
-    set.join_in(&removal)?;
-    set.join_in(&add_delta(alloc, &Value::Int(2), 0, 3)?)?;
+    for (n, k, is_removal) in &MIXED {
+        tell(alloc, &mut set, *n, *k, *is_removal)?;
+    }
     Ok(set)
 }
 
@@ -225,47 +327,91 @@ fn counted(alloc: Global, by: u32) -> Result<State, AllocError> {
     Ok(State::Count(counter.inc_delta(1, by)?))
 }
 
+fn insert(alloc: Global, set: &mut GSet, n: i64) -> Result<bool, AllocError> {
+    let delta = GSet::insert_delta(alloc, &Value::Int(n))?;
+    set.unite(&delta)
+}
+
 fn with_elements(alloc: Global, numbers: &[i64]) -> Result<State, AllocError> {
     let mut set = GSet::new(alloc);
     for n in numbers {
-        set.unite(&GSet::insert_delta(alloc, &Value::Int(*n))?)?;
+        insert(alloc, &mut set, *n)?;
     }
     Ok(State::Grow(set))
 }
 
-/// A set, a fold that covers the same, elements, a counter and a register.
-fn all_kinds(alloc: Global) -> Result<Vec<State>, AllocError> {
+/// A state as plain data.
+#[derive(Clone, Copy)]
+enum Sort<'a> {
+    /// The set of the mixed additions and removals.
+    Mixed,
+    /// A fold with this number over the same set.
+    MixedFold(i128),
+    NoRows,
+    Fold(&'a [i64], i128),
+    Elements(&'a [i64]),
+    /// A counter of two nodes with this count.
+    Count(u32),
+    /// A counter of so many nodes with no count.
+    NoCount(u8),
+    NoNumber,
+}
+
+fn state_of(alloc: Global, sort: &Sort) -> Result<State, AllocError> {
+    match sort {
+        Sort::Mixed => Ok(State::Set(mixed(alloc)?)),
+        Sort::MixedFold(number) => Ok(State::Fold(mixed(alloc)?, *number)),
+        Sort::NoRows => Ok(State::empty_set(alloc)),
+        Sort::Fold(values, number) => fold_of(alloc, values, *number),
+        Sort::Elements(numbers) => with_elements(alloc, numbers),
+        Sort::Count(by) => counted(alloc, *by),
+        Sort::NoCount(nodes) => State::zero_count(alloc, *nodes),
+        Sort::NoNumber => Ok(State::no_number()),
+    }
+}
+
+fn states_of(alloc: Global, sorts: &[Sort]) -> Result<Vec<State>, AllocError> {
     let mut states = Vec::new(alloc);
-    states.push(State::Set(mixed(alloc)?))?;
-    states.push(State::Fold(mixed(alloc)?, 3))?;
-    states.push(with_elements(alloc, &[1, 2, 1])?)?;
-    states.push(counted(alloc, 2)?)?;
-    states.push(State::no_number())?;
+    for sort in sorts {
+        states.push(state_of(alloc, sort)?)?;
+    }
     Ok(states)
 }
 
-/// Values with what each of these states answers to their addition and to their removal.
-const VALUES: [(&[i64], &str, &str); 5] = [
-    (&[], "yyy--", "yy---"),
-    (&[1], "yyy--", "nn---"),
-    (&[2], "yyy--", "yy---"),
-    (&[2, 1], "yyy--", "nn---"),
-    (&[1, 2, 3], "nnn--", "nn---"),
-];
+/// A threshold as plain data.
+#[derive(Clone, Copy)]
+enum Bound<'a> {
+    Added(&'a [i64]),
+    Removed(&'a [i64]),
+    Count(u64),
+    AtLeast(Sort<'a>),
+    Above(Sort<'a>),
+}
 
-/// The first row that is answered otherwise.
-fn first_values(
+fn share(alloc: Global, sort: &Sort) -> Result<Arc<State>, AllocError> {
+    Ok(Arc::new(alloc, state_of(alloc, sort)?)?)
+}
+
+fn threshold_of(alloc: Global, bound: &Bound) -> Result<Threshold, AllocError> {
+    match bound {
+        Bound::Added(numbers) => Ok(Threshold::Added(values(alloc, numbers)?)),
+        Bound::Removed(numbers) => Ok(Threshold::Removed(values(alloc, numbers)?)),
+        Bound::Count(count) => Ok(Threshold::Count(*count)),
+        Bound::AtLeast(sort) => Ok(Threshold::AtLeast(share(alloc, sort)?)),
+        Bound::Above(sort) => Ok(Threshold::Above(share(alloc, sort)?)),
+    }
+}
+
+/// The first threshold that answers otherwise of these states than its row says.
+fn first_other(
     alloc: Global,
-    states: &[State],
-    rows: &[(&[i64], &str, &str)],
+    sorts: &[Sort],
+    rows: &[(Bound, &str)],
 ) -> Result<Option<u64>, AllocError> {
+    let states = states_of(alloc, sorts)?;
     let mut at = 0u64;
-    for (numbers, added, removed) in rows {
-        let addition = Threshold::Added(values(alloc, numbers)?);
-        let removal = Threshold::Removed(values(alloc, numbers)?);
-        if answers(alloc, &addition, states)?.as_str() != *added
-            || answers(alloc, &removal, states)?.as_str() != *removed
-        {
+    for (bound, expected) in rows {
+        if !answers(alloc, &threshold_of(alloc, bound)?, &states, expected)? {
             return Ok(Some(at));
         }
         at = at.saturating_add(1);
@@ -273,81 +419,78 @@ fn first_values(
     Ok(None)
 }
 
+/// A set, a fold that covers the same, elements, a counter and a register.
+const ALL_SORTS: [Sort; 5] = [
+    Sort::Mixed,
+    Sort::MixedFold(3),
+    Sort::Elements(&[1, 2, 1]),
+    Sort::Count(2),
+    Sort::NoNumber,
+];
+
+/// Values with what each of these states answers to their addition and to their removal.
+const VALUES: [(Bound, &str); 10] = [
+    (Bound::Added(&[]), "yyy--"),
+    (Bound::Removed(&[]), "yy---"),
+    (Bound::Added(&[1]), "yyy--"),
+    (Bound::Removed(&[1]), "nn---"),
+    (Bound::Added(&[2]), "yyy--"),
+    (Bound::Removed(&[2]), "yy---"),
+    (Bound::Added(&[2, 1]), "yyy--"),
+    (Bound::Removed(&[2, 1]), "nn---"),
+    (Bound::Added(&[1, 2, 3]), "nnn--"),
+    (Bound::Removed(&[1, 2, 3]), "nn---"),
+];
+
 #[test]
 fn thresholds_of_values_ask_rows_and_elements(rt: HostRuntime) -> Result<(), Fail> {
-    let states = all_kinds(rt.alloc())?;
-    assert_eq!(rt; first_values(rt.alloc(), &states, &VALUES)?, None);
+    assert_eq!(rt; first_other(rt.alloc(), &ALL_SORTS, &VALUES)?, None);
     Ok(())
 }
 
-/// A count with what each of the states of all kinds answers to it.
-const COUNTS: [(u64, &str); 4] = [
-    (0, "--yy-"),
-    (2, "--yy-"),
-    (3, "--nn-"),
-    (u64::MAX, "--nn-"),
+/// Counts with what each of these states answers.
+const COUNTS: [(Bound, &str); 4] = [
+    (Bound::Count(0), "--yy-"),
+    (Bound::Count(2), "--yy-"),
+    (Bound::Count(3), "--nn-"),
+    (Bound::Count(u64::MAX), "--nn-"),
 ];
-
-/// The first count that is answered otherwise.
-fn first_count(
-    alloc: Global,
-    states: &[State],
-    rows: &[(u64, &str)],
-) -> Result<Option<u64>, AllocError> {
-    for (count, expected) in rows {
-        if answers(alloc, &Threshold::Count(*count), states)?.as_str() != *expected {
-            return Ok(Some(*count));
-        }
-    }
-    Ok(None)
-}
 
 #[test]
 fn counts_are_met_from_the_number_on(rt: HostRuntime) -> Result<(), Fail> {
-    let states = all_kinds(rt.alloc())?;
-    assert_eq!(rt; first_count(rt.alloc(), &states, &COUNTS)?, None);
+    assert_eq!(rt; first_other(rt.alloc(), &ALL_SORTS, &COUNTS)?, None);
     Ok(())
 }
 
 /// Counters of two nodes with 3, 2 and 1, a counter of three, and a register.
-fn counters(alloc: Global) -> Result<Vec<State>, AllocError> {
-    let mut states = Vec::new(alloc);
-    states.push(counted(alloc, 3)?)?;
-    states.push(counted(alloc, 2)?)?;
-    states.push(counted(alloc, 1)?)?;
-    states.push(State::zero_count(alloc, 3)?)?;
-    states.push(State::no_number())?;
-    Ok(states)
-}
+const COUNTERS: [Sort; 5] = [
+    Sort::Count(3),
+    Sort::Count(2),
+    Sort::Count(1),
+    Sort::NoCount(3),
+    Sort::NoNumber,
+];
+
+/// What they answer to being at least a counter, and to being above it.
+const BOUNDS_OF_COUNTERS: [(Bound, &str); 2] = [
+    (Bound::AtLeast(Sort::Count(2)), "yyn--"),
+    (Bound::Above(Sort::Count(2)), "ynn--"),
+];
 
 /// Folds of one and of two values, and a set.
-fn folds(alloc: Global) -> Result<Vec<State>, AllocError> {
-    let mut states = Vec::new(alloc);
-    states.push(fold_of(alloc, &[1], 7)?)?;
-    states.push(fold_of(alloc, &[1, 2], 1)?)?;
-    states.push(State::empty_set(alloc))?;
-    Ok(states)
-}
+const FOLDS: [Sort; 3] = [Sort::Fold(&[1], 7), Sort::Fold(&[1, 2], 1), Sort::NoRows];
 
-/// What the states answer to being at least this one, and to being above it.
-fn bounded(alloc: Global, states: &[State], least: State) -> Result<(String, String), AllocError> {
-    let least = Arc::new(alloc, least)?;
-    let at_least = Threshold::AtLeast(Arc::try_clone(&least)?);
-    let above = Threshold::Above(least);
-    Ok((
-        answers(alloc, &at_least, states)?,
-        answers(alloc, &above, states)?,
-    ))
-}
+const BOUNDS_OF_FOLDS: [(Bound, &str); 2] = [
+    (Bound::AtLeast(Sort::Fold(&[1], 1)), "yy-"),
+    (Bound::Above(Sort::Fold(&[1], 1)), "ny-"),
+];
 
 #[test]
 fn a_state_is_met_from_it_on_and_strictly_above_it(rt: HostRuntime) -> Result<(), Fail> {
-    let alloc = rt.alloc();
-    let (at_least, above) = bounded(alloc, &counters(alloc)?, counted(alloc, 2)?)?;
-    assert_eq!(rt; at_least.as_str(), "yyn--");
-    assert_eq!(rt; above.as_str(), "ynn--");
-    let (at_least, above) = bounded(alloc, &folds(alloc)?, fold_of(alloc, &[1], 1)?)?;
-    assert_eq!(rt; at_least.as_str(), "yy-");
-    assert_eq!(rt; above.as_str(), "ny-");
+    assert_eq!(rt;
+        first_other(rt.alloc(), &COUNTERS, &BOUNDS_OF_COUNTERS)?,
+        None
+    );
+    assert_eq!(rt; first_other(rt.alloc(), &FOLDS, &BOUNDS_OF_FOLDS)?, None);
     Ok(())
 }

@@ -12,7 +12,7 @@ ghost use Rattle.lasp_state.specs.State.{content_of, shape_of};
 ghost use Rattle.lasp_graph.specs.Library.{library_of};
 ghost use Rattle.lasp_graph.specs.Evaluated as evaluated;
 
-use super::made::{even, itself, map_of};
+use super::made::{even, itself, library_of_map, map_of};
 use lasp_fns::{Library, MapOp, StepLib};
 use lasp_graph::{EvalRefused, Graph, Inputs, eval_node, node_delta, read_graph};
 use lasp_orset::{Entry, OrSet};
@@ -56,15 +56,28 @@ fn state_of(
     Ok(Arc::new(alloc, State::Set(set))?)
 }
 
-/// Shares of two states.
-fn inputs_of(first: &Arc<State>, second: &Arc<State>) -> Result<Inputs, AllocError>
-    ensures first { IfOk result (λ i. arc_value i.first ≡ arc_value first.now) }
-    ensures second { IfOk result (λ i. evaluated.second_of i ≡ arc_value second.now) }
+/// Rows, and more of them.
+type Rows<'a> = (&'a [(i64, u64, bool)], &'a [(i64, u64, bool)]);
+
+/// This set and one of these rows.
+fn beside(alloc: Global, first: Arc<State>, second: Rows) -> Result<Inputs, AllocError>
+    ensures first { IfOk result (λ i. arc_value i.first ≡ arc_value first) }
+    ensures second { IfOk result (λ i. shape_of (evaluated.second_of i) ≡ set) }
 {
+    let second = state_of(alloc, second.0, second.1)?;
     Ok(Inputs {
-        first: Arc::try_clone(first)?,
-        second: Some(Arc::try_clone(second)?),
+        first,
+        second: Some(second),
     })
+}
+
+/// Two sets of rows.
+fn inputs_of(alloc: Global, first: Rows, second: Rows) -> Result<Inputs, AllocError>
+    ensures sets { IfOk result (λ i. (shape_of (arc_value i.first) ≡ set) × (shape_of (evaluated.second_of i) ≡ set)) }
+    ensures width { IfOk result (λ i. HasWidth 16 (content_of (arc_value i.first))) }
+    ensures small { IfOk result (λ i. size_of (content_of (arc_value i.first)) ≤ row_limit) }
+{
+    beside(alloc, state_of(alloc, first.0, first.1)?, second)
 }
 
 /// The second input, or the first one where there is no second.
@@ -163,21 +176,6 @@ const CHANGES: [Change; 6] = [
     ],
 ];
 
-/// The inputs before a change and after it.
-fn change_of(alloc: Global, change: &Change) -> Result<(Inputs, Inputs), AllocError>
-    ensures sets { IfOk result (λ both. ((shape_of (arc_value both.0.first) ≡ set) × (shape_of (evaluated.second_of both.0) ≡ set)) × ((shape_of (arc_value both.1.first) ≡ set) × (shape_of (evaluated.second_of both.1) ≡ set))) }
-    ensures width { IfOk result (λ both. HasWidth 16 (content_of (arc_value both.0.first)) × HasWidth 16 (content_of (arc_value both.1.first))) }
-    ensures small { IfOk result (λ both. (size_of (content_of (arc_value both.0.first)) ≤ row_limit) × (size_of (content_of (arc_value both.1.first)) ≤ row_limit)) }
-{
-    let [rows, more, others, more_others] = change;
-    let first = state_of(alloc, rows, &[])?;
-    let second = state_of(alloc, others, &[])?;
-    let base = inputs_of(&first, &second)?;
-    let first = state_of(alloc, rows, more)?;
-    let second = state_of(alloc, others, more_others)?;
-    Ok((base, inputs_of(&first, &second)?))
-}
-
 /// The first variable that has another state by the changed rows than from scratch, or calls a function for more rows than changed.
 fn first_variable(
     alloc: Global,
@@ -187,11 +185,13 @@ fn first_variable(
 ) -> Result<Option<u64>, Fail>
     requires { FitsAll (library_of lib.now) graph.now }
 {
-    let (base, inputs) = change_of(alloc, change)?;
+    let [rows, more, others, more_others] = *change;
+    let base = inputs_of(alloc, (rows, &[]), (others, &[]))?;
+    let inputs = inputs_of(alloc, (rows, more), (others, more_others))?;
     for var in 0..graph.len() {
         let mut counted = StepLib::new(lib);
         if !is_followed(alloc, graph, lib, &mut counted, var as u8, &base, &inputs)?
-            || counted.ticks() > change[1].len() as u64
+            || counted.ticks() > more.len() as u64
         {
             return Ok(Some(var));
         }
@@ -199,18 +199,16 @@ fn first_variable(
     Ok(None)
 }
 
-/// The first change after which a variable is otherwise.
+/// The first change after which a variable of a graph that fits is otherwise.
 fn first_other(
     alloc: Global,
     graph: &Graph,
     lib: &Library,
     changes: &[Change],
-) -> Result<Option<u64>, Fail>
-    requires { FitsAll (library_of lib.now) graph.now }
-{
+) -> Result<Option<u64>, Fail> {
     let mut at = 0u64;
     for change in changes {
-        if first_variable(alloc, graph, lib, change)?.is_some() {
+        if !graph.fits(lib) || first_variable(alloc, graph, lib, change)?.is_some() {
             return Ok(Some(at));
         }
         at = at.saturating_add(1);
@@ -218,16 +216,27 @@ fn first_other(
     Ok(None)
 }
 
+/// A library with a map, a predicate and a lift. One that finds no memory is missed where a graph is read.
+fn library_of_three(alloc: Global) -> Result<Library, AllocError> {
+    let map = map_of(alloc, MapOp::Abs)?;
+    let pred = even(alloc)?;
+    let lift = itself(alloc)?;
+    let mut lib = Library::new(alloc);
+    let _ = lib.add_map("abs", map);
+    let _ = lib.add_pred("even", pred);
+    let _ = lib.add_lift("itself", lift);
+    Ok(lib)
+}
+
 #[test]
 fn a_variable_by_its_changed_rows_is_the_same_as_from_scratch(rt: HostRuntime) -> Result<(), Fail> {
     let alloc = rt.alloc();
-    let mut lib = Library::new(alloc);
-    lib.add_map("abs", map_of(alloc, MapOp::Abs)?)?;
-    lib.add_pred("even", even(alloc)?)?;
-    lib.add_lift("itself", itself(alloc)?)?;
-    let graph = read_graph(alloc, GRAPH.as_bytes(), &lib)?;
-    assert!(rt; graph.fits(&lib));
-    assert_eq!(rt; first_other(alloc, &graph, &lib, &CHANGES)?, None);
+    let other = {
+        let lib = library_of_three(alloc)?;
+        let graph = read_graph(alloc, GRAPH.as_bytes(), &lib)?;
+        first_other(alloc, &graph, &lib, &CHANGES)
+    };
+    assert_eq!(rt; other?, None);
     Ok(())
 }
 
@@ -245,19 +254,14 @@ fn calls_of_change(
     alloc: Global,
     graph: &Graph,
     lib: &Library,
-    before: &Arc<State>,
-    after: &Arc<State>,
-) -> Result<Option<u64>, Fail>
-    requires fits { FitsAll (library_of lib.now) graph.now }
-    requires sets { (shape_of (arc_value before.now) ≡ set) × (shape_of (arc_value after.now) ≡ set) }
-    requires width { HasWidth 16 (content_of (arc_value before.now)) × HasWidth 16 (content_of (arc_value after.now)) }
-    requires small { (size_of (content_of (arc_value before.now)) ≤ row_limit) × (size_of (content_of (arc_value after.now)) ≤ row_limit) }
-{
-    if graph.len() < 2 {
+    before: Rows,
+    after: Rows,
+) -> Result<Option<u64>, Fail> {
+    if graph.len() < 2 || !graph.fits(lib) {
         return Ok(None);
     }
-    let base = inputs_of(before, before)?;
-    let inputs = inputs_of(after, after)?;
+    let base = inputs_of(alloc, before, before)?;
+    let inputs = inputs_of(alloc, after, after)?;
     let mut counted = StepLib::new(lib);
     if is_followed(alloc, graph, lib, &mut counted, 1, &base, &inputs)? {
         Ok(Some(counted.ticks()))
@@ -267,31 +271,26 @@ fn calls_of_change(
 }
 
 /// The calls for a hundred additions at once, for one more, and for its removal.
-fn calls_of_three(alloc: Global, graph: &Graph, lib: &Library) -> Result<[Option<u64>; 3], Fail>
-    requires { FitsAll (library_of lib.now) graph.now }
-{
+fn calls_of_three(alloc: Global, graph: &Graph, lib: &Library) -> Result<[Option<u64>; 3], Fail> {
     let rows = rows_up_to(alloc, 100)?;
-    let none = state_of(alloc, &[], &[])?;
-    let hundred = state_of(alloc, &rows, &[])?;
-    let more = state_of(alloc, &rows, &[(1000, 100, false)])?;
-    let less = state_of(alloc, &rows, &[(1000, 100, true)])?;
+    let hundred = rows.as_slice();
+    let more = (hundred, [(1000, 100, false)].as_slice());
+    let less = (hundred, [(1000, 100, true)].as_slice());
     Ok([
-        calls_of_change(alloc, graph, lib, &none, &hundred)?,
-        calls_of_change(alloc, graph, lib, &hundred, &more)?,
-        calls_of_change(alloc, graph, lib, &more, &less)?,
+        calls_of_change(alloc, graph, lib, (&[], &[]), (hundred, &[]))?,
+        calls_of_change(alloc, graph, lib, (hundred, &[]), more)?,
+        calls_of_change(alloc, graph, lib, more, less)?,
     ])
 }
 
 #[test]
 fn a_function_is_called_once_for_each_changed_row(rt: HostRuntime) -> Result<(), Fail> {
     let alloc = rt.alloc();
-    let mut lib = Library::new(alloc);
-    lib.add_map("abs", map_of(alloc, MapOp::Abs)?)?;
-    let graph = read_graph(alloc, br#"[["a","orset"],["m","map","a","abs"]]"#, &lib)?;
-    assert!(rt; graph.fits(&lib));
-    assert_eq!(rt;
-        calls_of_three(alloc, &graph, &lib)?,
-        [Some(100), Some(1), Some(1)]
-    );
+    let calls = {
+        let lib = library_of_map(alloc, "abs", map_of(alloc, MapOp::Abs)?)?;
+        let graph = read_graph(alloc, br#"[["a","orset"],["m","map","a","abs"]]"#, &lib)?;
+        calls_of_three(alloc, &graph, &lib)
+    };
+    assert_eq!(rt; calls?, [Some(100), Some(1), Some(1)]);
     Ok(())
 }

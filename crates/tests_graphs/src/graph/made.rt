@@ -1,4 +1,4 @@
-//! A library of three functions, made of closures.
+//! Functions made of closures, and a library of one of them.
 
 ghost use Rattle.std.specs.Prelude.{◌≡◌};
 ghost use Rattle.model_values.specs.Size.{IsSized};
@@ -9,8 +9,8 @@ ghost use Rattle.lasp_value.specs.Value.{val_of};
 ghost use Rattle.lasp_fns.specs.Answers.{Answers};
 
 use lasp_fns::{
-    LiftOp, MapOp, MapOps, PredOp, PredOps, StoredLift, StoredMap, StoredPred, apply_lift,
-    apply_map, apply_pred,
+    Library, LibraryRefused, LiftOp, MapOp, MapOps, PredOp, PredOps, StoredLift, StoredMap,
+    StoredPred, apply_lift, apply_map, apply_pred,
 };
 use lasp_value::Value;
 use std::alloc::{AllocError, Global};
@@ -25,6 +25,13 @@ pub fn map_of(alloc: Global, step: MapOp) -> Result<StoredMap, AllocError> {
         ensures { Answers mine (val_of v.entry.now) result }
     { apply_map(alloc, &mine, v) };
     Ok(StoredMap::new(steps, Box::new(alloc, f)?))
+}
+
+/// A library of one map, that is made before it so that little is let go where memory ends.
+pub fn library_of_map(alloc: Global, name: &str, f: StoredMap) -> Result<Library, LibraryRefused> {
+    let mut lib = Library::new(alloc);
+    lib.add_map(name, f)?;
+    Ok(lib)
 }
 
 /// The predicate that even numbers pass.
