@@ -61,69 +61,197 @@ fn spells(alloc: Global, set: &OrSet, rows: &str) -> Result<bool, AllocError> {
     Ok(spell(alloc, set)?.as_str() == rows)
 }
 
-/// One number added, and the same one removed and another added.
-fn added_and_removed(alloc: Global) -> Result<(OrSet, OrSet), AllocError> {
-    let x = add_delta(alloc, &Value::Int(1), 0, 1)?;
-    let mut y = x.try_clone()?;
-    y.join_in(&y.remove_delta(&Value::Int(1))?)?;
-    y.join_in(&add_delta(alloc, &Value::Int(2), 0, 2)?)?;
-    Ok((x, y))
+/// Rows of numbers.
+type Rows<'a> = &'a [(i64, u64, bool)];
+
+fn sets_of(alloc: Global, tables: &[Rows]) -> Result<Vec<OrSet>, AllocError> {
+    let mut sets = Vec::new(alloc);
+    for table in tables {
+        sets.push(rows(alloc, table)?)?;
+    }
+    Ok(sets)
 }
+
+/// A process of two sets.
+#[derive(Clone, Copy)]
+enum Process {
+    Union,
+    Product,
+    Intersection,
+}
+
+fn combine(alloc: Global, process: &Process, x: &OrSet, y: &OrSet) -> Result<OrSet, SetRefused> {
+    match process {
+        Process::Union => union_sets(x, y),
+        Process::Product => product_sets(alloc, x, y),
+        Process::Intersection => intersect_sets(alloc, x, y),
+    }
+}
+
+/// What a process makes of two sets.
+fn combined(alloc: Global, process: &Process, tables: &[Rows]) -> Result<OrSet, SetRefused> {
+    match sets_of(alloc, tables)?.as_slice() {
+        [x, y] => combine(alloc, process, x, y),
+        _ => Err(SetRefused::TooManyRows),
+    }
+}
+
+/// What a process makes of what it made before, as its sets and their changes say.
+fn increment(
+    alloc: Global,
+    process: &Process,
+    old: &OrSet,
+    sets: &[OrSet],
+) -> Result<OrSet, SetRefused> {
+    match (process, sets) {
+        (Process::Union, [_, x_change, _, y_change]) => union_increment(old, x_change, y_change),
+        (Process::Product, [x, x_change, y, y_change]) => {
+            product_increment(alloc, old, x, x_change, y, y_change)
+        }
+        (Process::Intersection, [x, x_change, y, y_change]) => {
+            intersect_increment(alloc, old, x, x_change, y, y_change)
+        }
+        (_, _) => Err(SetRefused::TooManyRows),
+    }
+}
+
+/// A process, its two sets, and the rows of what it makes.
+type Making<'a> = (Process, [Rows<'a>; 2], &'a str);
+
+/// Each of the two sets after a change, with the change, and the rows of what is made then.
+type Following<'a> = ([Rows<'a>; 4], &'a str);
+
+/// Whether a process makes these rows.
+fn makes(alloc: Global, row: &Making) -> Result<bool, SetRefused> {
+    let (process, tables, expected) = row;
+    Ok(spells(alloc, &combined(alloc, process, tables)?, expected)?)
+}
+
+/// Whether it makes these of them after a change.
+fn follows(alloc: Global, before: &Making, row: &Following) -> Result<bool, SetRefused> {
+    let (tables, expected) = row;
+    let old = combined(alloc, &before.0, &before.1)?;
+    let sets = sets_of(alloc, tables)?;
+    Ok(spells(alloc, &increment(alloc, &before.0, &old, &sets)?, expected)?)
+}
+
+/// Joins the addition of a number under a token in, or its removal.
+fn tell(
+    alloc: Global,
+    set: &mut OrSet,
+    n: i64,
+    k: u64,
+    is_removal: bool,
+) -> Result<bool, AllocError> {
+    let value = Value::Int(n);
+    if is_removal {
+        set.join_in(&set.remove_delta(&value)?)
+    } else {
+        set.join_in(&add_delta(alloc, &value, 0, k)?)
+    }
+}
+
+/// Whether a set that is told to add numbers under tokens, or to remove them, has these rows.
+fn is_told(alloc: Global, steps: Rows, expected: &str) -> Result<bool, AllocError> {
+    let mut set = OrSet::new(alloc);
+    for (n, k, is_removal) in steps {
+        tell(alloc, &mut set, *n, *k, *is_removal)?;
+    }
+    spells(alloc, &set, expected)
+}
+
+/// One number added, and the same one removed and another added.
+const ADDED_AND_REMOVED: [(i64, u64, bool); 3] = [(1, 1, false), (1, 0, true), (2, 2, false)];
+
+/// The sets of the first step and of all.
+const UNION: Making = (
+    Process::Union,
+    [&[(1, 1, false)], &[(1, 1, true), (2, 2, false)]],
+    "1@0.1x 2@0.2 ",
+);
+
+const GROWN_UNION: Following = (
+    [&[], &[], &[], &[(2, 2, true), (3, 3, false)]],
+    "1@0.1x 2@0.2x 3@0.3 ",
+);
 
 #[test]
 fn a_union_shows_what_either_shows_unless_the_same_addition_was_removed(
     rt: HostRuntime,
 ) -> Result<(), Fail> {
-    let alloc = rt.alloc();
-    let (x, y) = added_and_removed(alloc)?;
-    let union = union_sets(&x, &y)?;
-    assert!(rt; spells(alloc, &union, "1@0.1x 2@0.2 ")?);
-    let change = rows(alloc, &[(2, 2, true), (3, 3, false)])?;
-    let grown = union_increment(&union, &OrSet::new(alloc), &change)?;
-    assert!(rt; spells(alloc, &grown, "1@0.1x 2@0.2x 3@0.3 ")?);
+    assert!(rt; is_told(rt.alloc(), &ADDED_AND_REMOVED[..1], "1@0.1 ")?);
+    assert!(rt; is_told(rt.alloc(), &ADDED_AND_REMOVED, UNION.2)?);
+    assert!(rt; makes(rt.alloc(), &UNION)? && follows(rt.alloc(), &UNION, &GROWN_UNION)?);
     Ok(())
 }
+
+const PRODUCT: Making = (
+    Process::Product,
+    [&[(1, 1, false), (2, 2, true)], &[(5, 3, false)]],
+    "[1,5]@0.1+0.3 [2,5]@0.2+0.3x ",
+);
+
+const PRODUCT_WITH_NONE: Making = (Process::Product, [&[(1, 1, false), (2, 2, true)], &[]], "");
 
 #[test]
 fn a_product_is_dead_where_either_row_is(rt: HostRuntime) -> Result<(), Fail> {
-    let alloc = rt.alloc();
-    let x = rows(alloc, &[(1, 1, false), (2, 2, true)])?;
-    let product = product_sets(alloc, &x, &rows(alloc, &[(5, 3, false)])?)?;
-    assert!(rt; spells(alloc, &product, "[1,5]@0.1+0.3 [2,5]@0.2+0.3x ")?);
-    assert!(rt; product_sets(alloc, &x, &OrSet::new(alloc))?.rows() == 0);
+    assert!(rt; makes(rt.alloc(), &PRODUCT)? && makes(rt.alloc(), &PRODUCT_WITH_NONE)?);
     Ok(())
 }
+
+const GROWN_PRODUCT: Following = (
+    [
+        &[(1, 1, false), (2, 2, true)],
+        &[],
+        &[(5, 3, false), (6, 4, false)],
+        &[(6, 4, false)],
+    ],
+    "[1,5]@0.1+0.3 [1,6]@0.1+0.4 [2,5]@0.2+0.3x [2,6]@0.2+0.4x ",
+);
 
 #[test]
 fn a_product_follows_an_addition(rt: HostRuntime) -> Result<(), Fail> {
-    let alloc = rt.alloc();
-    let x = rows(alloc, &[(1, 1, false), (2, 2, true)])?;
-    let product = product_sets(alloc, &x, &rows(alloc, &[(5, 3, false)])?)?;
-    let change = rows(alloc, &[(6, 4, false)])?;
-    let after = rows(alloc, &[(5, 3, false), (6, 4, false)])?;
-    let grown = product_increment(alloc, &product, &x, &OrSet::new(alloc), &after, &change)?;
-    let expected = "[1,5]@0.1+0.3 [1,6]@0.1+0.4 [2,5]@0.2+0.3x [2,6]@0.2+0.4x ";
-    assert!(rt; spells(alloc, &grown, expected)?);
+    assert!(rt; follows(rt.alloc(), &PRODUCT, &GROWN_PRODUCT)?);
     Ok(())
 }
 
-/// Whether the increments of the intersection, by a change of its second set and of its first, have these rows.
-fn meets_after(alloc: Global, meeting: &OrSet, x: &OrSet) -> Result<bool, Fail> {
-    let removal = rows(alloc, &[(3, 2, true), (3, 4, false)])?;
-    let after = rows(alloc, &[(3, 2, true), (3, 4, false), (9, 6, false)])?;
-    let none = OrSet::new(alloc);
-    let grown = intersect_increment(alloc, meeting, x, &none, &after, &removal)?;
-    let turned = intersect_increment(alloc, meeting, &after, &removal, x, &none)?;
-    Ok(turned.rows() == 3 && spells(alloc, &grown, "3@0.1+0.2x 3@0.1+0.4 ")?)
-}
+const INTERSECTION: Making = (
+    Process::Intersection,
+    [
+        &[(3, 1, false), (4, 5, false)],
+        &[(3, 2, false), (9, 6, false)],
+    ],
+    "3@0.1+0.2 ",
+);
+
+/// After a change of the second set, and after the same change of the first.
+const GROWN_INTERSECTIONS: [Following; 2] = [
+    (
+        [
+            &[(3, 1, false), (4, 5, false)],
+            &[],
+            &[(3, 2, true), (3, 4, false), (9, 6, false)],
+            &[(3, 2, true), (3, 4, false)],
+        ],
+        "3@0.1+0.2x 3@0.1+0.4 ",
+    ),
+    (
+        [
+            &[(3, 2, true), (3, 4, false), (9, 6, false)],
+            &[(3, 2, true), (3, 4, false)],
+            &[(3, 1, false), (4, 5, false)],
+            &[],
+        ],
+        "3@0.1+0.2 3@0.2+0.1x 3@0.4+0.1 ",
+    ),
+];
 
 #[test]
 fn an_intersection_follows_a_removal(rt: HostRuntime) -> Result<(), Fail> {
     let alloc = rt.alloc();
-    let x = rows(alloc, &[(3, 1, false), (4, 5, false)])?;
-    let meeting = intersect_sets(alloc, &x, &rows(alloc, &[(3, 2, false), (9, 6, false)])?)?;
-    assert!(rt; spells(alloc, &meeting, "3@0.1+0.2 ")?);
-    assert!(rt; meets_after(alloc, &meeting, &x)?);
+    assert!(rt; makes(alloc, &INTERSECTION)?);
+    assert!(rt; follows(alloc, &INTERSECTION, &GROWN_INTERSECTIONS[0])?);
+    assert!(rt; follows(alloc, &INTERSECTION, &GROWN_INTERSECTIONS[1])?);
     Ok(())
 }
 
@@ -136,23 +264,32 @@ fn grows_by(union: &OrSet, change: &OrSet) -> Result<bool, SetRefused> {
     }
 }
 
+/// Whether a set is at the limit of rows: it takes no row more.
+fn is_full(alloc: Global, set: &OrSet) -> Result<bool, SetRefused> {
+    Ok(
+        set.rows() == 65_536
+            && grows_by(set, &numbers(alloc, 0)?)?
+            && !grows_by(set, &numbers(alloc, 1)?)?,
+    )
+}
+
 #[test]
 fn a_product_has_as_many_rows_as_the_limit(rt: HostRuntime) -> Result<(), Fail> {
     let x = numbers(rt.alloc(), 256)?;
-    let product = product_sets(rt.alloc(), &x, &x)?;
-    assert!(rt; product.rows() == 65_536);
-    assert!(rt; grows_by(&product, &OrSet::new(rt.alloc()))?);
-    assert!(rt; !grows_by(&product, &numbers(rt.alloc(), 1)?)?);
+    assert!(rt; is_full(rt.alloc(), &product_sets(rt.alloc(), &x, &x)?)?);
     Ok(())
+}
+
+/// Whether a process of two sets has too many rows.
+fn has_too_many(alloc: Global, process: Process, x: &OrSet, y: &OrSet) -> bool {
+    matches!(combine(alloc, &process, x, y), Err(SetRefused::TooManyRows))
 }
 
 #[test]
 fn no_set_has_more_rows_than_the_limit(rt: HostRuntime) -> Result<(), Fail> {
     let alloc = rt.alloc();
     let many = numbers(alloc, 65_537)?;
-    let product = product_sets(alloc, &many, &numbers(alloc, 1)?);
-    assert!(rt; matches!(product, Err(SetRefused::TooManyRows)));
-    let meeting = intersect_sets(alloc, &many, &many);
-    assert!(rt; matches!(meeting, Err(SetRefused::TooManyRows)));
+    assert!(rt; has_too_many(alloc, Process::Product, &many, &numbers(alloc, 1)?));
+    assert!(rt; has_too_many(alloc, Process::Intersection, &many, &many));
     Ok(())
 }

@@ -18,9 +18,8 @@ fn makes(stored: &StoredMap, n: i64, made: i64) -> Result<bool, AllocError> {
 #[test]
 fn a_map_function_is_called_through_its_closure(rt: HostRuntime) -> Result<(), Fail> {
     let calls = no_calls(rt.alloc())?;
-    let stored = map_of(rt.alloc(), MapOp::Abs, &calls)?;
-    assert!(rt; makes(&stored, -5, 5)?);
-    assert!(rt; calls.load(Ordering::SeqCst) == 1);
+    let is_made = makes(&map_of(rt.alloc(), MapOp::Abs, &calls)?, -5, 5)?;
+    assert!(rt; is_made && calls.load(Ordering::SeqCst) == 1);
     Ok(())
 }
 
@@ -33,16 +32,16 @@ fn a_closure_that_finds_no_memory_is_answered_so(rt: HostRuntime) -> Result<(), 
     Ok(())
 }
 
-fn passes(stored: &StoredPred, n: i64) -> bool {
-    stored.call(&Value::Int(n))
+/// Whether a predicate takes -4 and not 5.
+fn tells_apart(stored: &StoredPred) -> bool {
+    stored.call(&Value::Int(-4)) && !stored.call(&Value::Int(5))
 }
 
 #[test]
 fn a_predicate_is_called_through_its_closure(rt: HostRuntime) -> Result<(), Fail> {
     let calls = no_calls(rt.alloc())?;
-    let stored = even(rt.alloc(), &calls)?;
-    assert!(rt; passes(&stored, -4) && !passes(&stored, 5));
-    assert!(rt; calls.load(Ordering::SeqCst) == 2);
+    let are_told = tells_apart(&even(rt.alloc(), &calls)?);
+    assert!(rt; are_told && calls.load(Ordering::SeqCst) == 2);
     Ok(())
 }
 
@@ -61,9 +60,9 @@ fn brings(library: &Library, n: i64) -> bool
 #[test]
 fn a_lift_is_called_through_its_closure_and_counted(rt: HostRuntime) -> Result<(), Fail> {
     let calls = no_calls(rt.alloc())?;
-    let library = library_of_lift(rt.alloc(), "itself", itself(rt.alloc(), &calls)?)?;
-    assert!(rt; brings(&library, -5));
-    assert!(rt; calls.load(Ordering::SeqCst) == 1);
+    let lift = itself(rt.alloc(), &calls)?;
+    let is_brought = brings(&library_of_lift(rt.alloc(), "itself", lift)?, -5);
+    assert!(rt; is_brought && calls.load(Ordering::SeqCst) == 1);
     Ok(())
 }
 
@@ -86,11 +85,14 @@ fn refuses_another(library: &mut Library, other: StoredMap) -> bool
 
 #[test]
 fn a_kind_takes_a_name_once(rt: HostRuntime) -> Result<(), Fail> {
-    let calls = no_calls(rt.alloc())?;
-    let abs = map_of(rt.alloc(), MapOp::Abs, &calls)?;
-    let mut library = library_of_map(rt.alloc(), "abs", abs)?;
-    assert!(rt; answers(&library));
-    assert!(rt; refuses_another(&mut library, map_of(rt.alloc(), MapOp::Neg, &calls)?));
+    let told = {
+        let calls = no_calls(rt.alloc())?;
+        let other = map_of(rt.alloc(), MapOp::Neg, &calls)?;
+        let abs = map_of(rt.alloc(), MapOp::Abs, &calls)?;
+        let mut library = library_of_map(rt.alloc(), "abs", abs)?;
+        (answers(&library), refuses_another(&mut library, other))
+    };
+    assert!(rt; told == (true, true));
     Ok(())
 }
 
@@ -112,10 +114,14 @@ fn takes_even(library: &Library, name: &str) -> bool
 #[test]
 fn each_kind_has_names_of_its_own(rt: HostRuntime) -> Result<(), Fail> {
     let alloc = rt.alloc();
-    let map = map_of(alloc, MapOp::Abs, &no_calls(alloc)?)?;
-    let mut library = library_of_map(alloc, "all", map)?;
-    add_test(&mut library, "all", even(alloc, &no_calls(alloc)?)?)?;
-    assert!(rt; takes_even(&library, "all"));
+    let is_taken = {
+        let test = even(alloc, &no_calls(alloc)?)?;
+        let map = map_of(alloc, MapOp::Abs, &no_calls(alloc)?)?;
+        let mut library = library_of_map(alloc, "all", map)?;
+        add_test(&mut library, "all", test)?;
+        takes_even(&library, "all")
+    };
+    assert!(rt; is_taken);
     Ok(())
 }
 

@@ -1,13 +1,13 @@
 //! Map and filter through stored closures, which count their calls.
 
-ghost use Rattle.std.specs.Prelude.{◌<◌, length};
+ghost use Rattle.std.specs.Prelude.{◌<◌, IfOk, length};
 ghost use Rattle.lasp_fns.specs.Library.{maps_of, predicates_of};
 ghost use Rattle.lasp_fns.specs.Steps.{library_of};
 ghost use Rattle.lasp_setops.specs.Width.{IsSetOfWidth};
 
-use super::{rows, spells};
+use super::{Rows, rows, spells};
 use crate::made::{even, library_of_map, library_of_test, library_of_two, map_of, no_calls};
-use lasp_fns::{Library, MapOp, MapOps, StepLib, StoredMap};
+use lasp_fns::{Library, LibraryRefused, MapOp, MapOps, StepLib, StoredMap, StoredPred};
 use lasp_orset::OrSet;
 use lasp_setops::{
     filter_counted, filter_increment, filter_set, map_counted, map_increment, map_set,
@@ -24,14 +24,27 @@ const SIGNED: [(i64, u64, bool); 4] = [(-1, 7, true), (1, 7, false), (1, 8, fals
 /// The rows of their absolute numbers.
 const ABSOLUTE: &str = "1@0.7x 1@0.8 2@0.9 ";
 
+/// Whether a map makes these rows of others.
+fn maps_to(
+    alloc: Global,
+    stored: &StoredMap,
+    table: Rows,
+    expected: &str,
+) -> Result<bool, AllocError> {
+    let x = rows(alloc, table)?;
+    spells(alloc, &map_set(alloc, stored, &x)?, expected)
+}
+
 #[test]
 fn values_that_a_map_makes_one_are_dead_where_any_was(rt: HostRuntime) -> Result<(), Fail> {
     let calls = no_calls(rt.alloc())?;
-    let stored = map_of(rt.alloc(), MapOp::Abs, &calls)?;
-    let x = rows(rt.alloc(), &SIGNED)?;
-    let mapped = map_set(rt.alloc(), &stored, &x)?;
-    assert!(rt; spells(rt.alloc(), &mapped, ABSOLUTE)?);
-    assert!(rt; calls.load(Ordering::SeqCst) == 4);
+    let is_mapped = maps_to(
+        rt.alloc(),
+        &map_of(rt.alloc(), MapOp::Abs, &calls)?,
+        &SIGNED,
+        ABSOLUTE,
+    )?;
+    assert!(rt; is_mapped && calls.load(Ordering::SeqCst) == 4);
     Ok(())
 }
 
@@ -60,26 +73,57 @@ fn maps(
     )
 }
 
+/// Rows with what is made of them, and a change with what is made then.
+type Following<'a> = (Rows<'a>, &'a str, Rows<'a>, &'a str);
+
+/// The same of rows as plain data.
+fn maps_rows(alloc: Global, library: &Library, row: &Following) -> Result<bool, AllocError>
+    requires place { 0 < length (maps_of library.now) }
+{
+    let (table, mapped, more, grown) = row;
+    let x = rows(alloc, table)?;
+    let change = rows(alloc, more)?;
+    maps(alloc, library, &x, mapped, &change, grown)
+}
+
+fn library_of_abs(alloc: Global) -> Result<Library, LibraryRefused>
+    ensures { IfOk result (λ l. 0 < length (maps_of l)) }
+{
+    let abs = map_of(alloc, MapOp::Abs, &no_calls(alloc)?)?;
+    library_of_map(alloc, "abs", abs)
+}
+
+const MAPPED: Following = (&SIGNED, ABSOLUTE, &[(-2, 9, true)], "1@0.7x 1@0.8 2@0.9x ");
+
 #[test]
 fn a_map_follows_a_change_by_calls_that_are_counted(rt: HostRuntime) -> Result<(), Fail> {
-    let alloc = rt.alloc();
-    let abs = map_of(alloc, MapOp::Abs, &no_calls(alloc)?)?;
-    let library = library_of_map(alloc, "abs", abs)?;
-    let x = rows(alloc, &SIGNED)?;
-    let change = rows(alloc, &[(-2, 9, true)])?;
-    let grown = "1@0.7x 1@0.8 2@0.9x ";
-    assert!(rt; maps(alloc, &library, &x, ABSOLUTE, &change, grown)?);
+    let library = library_of_abs(rt.alloc())?;
+    assert!(rt; maps_rows(rt.alloc(), &library, &MAPPED)?);
     Ok(())
+}
+
+/// Rows of even numbers and of an odd one.
+const MIXED: [(i64, u64, bool); 3] = [(-2, 1, false), (1, 2, true), (2, 3, true)];
+
+/// Those of the even ones.
+const EVEN: &str = "-2@0.1 2@0.3x ";
+
+/// Whether a test keeps these rows of others.
+fn keeps(
+    alloc: Global,
+    stored: &StoredPred,
+    table: Rows,
+    expected: &str,
+) -> Result<bool, AllocError> {
+    let x = rows(alloc, table)?;
+    spells(alloc, &filter_set(stored, &x)?, expected)
 }
 
 #[test]
 fn a_filter_keeps_live_and_dead_rows_alike(rt: HostRuntime) -> Result<(), Fail> {
     let calls = no_calls(rt.alloc())?;
-    let stored = even(rt.alloc(), &calls)?;
-    let x = rows(rt.alloc(), &[(-2, 1, false), (1, 2, true), (2, 3, true)])?;
-    let kept = filter_set(&stored, &x)?;
-    assert!(rt; spells(rt.alloc(), &kept, "-2@0.1 2@0.3x ")?);
-    assert!(rt; calls.load(Ordering::SeqCst) == 3);
+    let is_filtered = keeps(rt.alloc(), &even(rt.alloc(), &calls)?, &MIXED, EVEN)?;
+    assert!(rt; is_filtered && calls.load(Ordering::SeqCst) == 3);
     Ok(())
 }
 
@@ -106,14 +150,34 @@ fn filters(
     )
 }
 
+/// The same of rows as plain data.
+fn filters_rows(alloc: Global, library: &Library, row: &Following) -> Result<bool, AllocError>
+    requires place { 0 < length (predicates_of library.now) }
+{
+    let (table, kept, more, grown) = row;
+    let x = rows(alloc, table)?;
+    let change = rows(alloc, more)?;
+    filters(alloc, library, &x, kept, &change, grown)
+}
+
+fn library_of_even(alloc: Global) -> Result<Library, LibraryRefused>
+    ensures { IfOk result (λ l. 0 < length (predicates_of l)) }
+{
+    let stored = even(alloc, &no_calls(alloc)?)?;
+    library_of_test(alloc, "even", stored)
+}
+
+const FILTERED: Following = (
+    &MIXED,
+    EVEN,
+    &[(-2, 1, true), (3, 4, false)],
+    "-2@0.1x 2@0.3x ",
+);
+
 #[test]
 fn a_filter_follows_a_change_by_calls_that_are_counted(rt: HostRuntime) -> Result<(), Fail> {
-    let alloc = rt.alloc();
-    let library = library_of_test(alloc, "even", even(alloc, &no_calls(alloc)?)?)?;
-    let x = rows(alloc, &[(-2, 1, false), (1, 2, true), (2, 3, true)])?;
-    let change = rows(alloc, &[(-2, 1, true), (3, 4, false)])?;
-    let grown = "-2@0.1x 2@0.3x ";
-    assert!(rt; filters(alloc, &library, &x, "-2@0.1 2@0.3x ", &change, grown)?);
+    let library = library_of_even(rt.alloc())?;
+    assert!(rt; filters_rows(rt.alloc(), &library, &FILTERED)?);
     Ok(())
 }
 
