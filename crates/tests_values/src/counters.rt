@@ -25,7 +25,7 @@ fn shows(counter: &GCount, counts: [u64; 3]) -> bool {
 }
 
 /// Counts, others that are joined in, what they give, and whether that grew.
-const JOINS: [([u64; 3], [u64; 3], [u64; 3], bool); 4] = [
+static JOINS: [([u64; 3], [u64; 3], [u64; 3], bool); 4] = [
     ([0, 0, 0], [0, 0, 0], [0, 0, 0], false),
     ([1, 0, 2], [1, 0, 1], [1, 0, 2], false),
     ([1, 0, 2], [0, 3, 1], [1, 3, 2], true),
@@ -74,7 +74,7 @@ fn a_join_takes_the_larger_count_of_each_node(rt: HostRuntime) -> Result<(), Fai
 }
 
 /// A count, what is added, and what is held then.
-const HELD: [(u64, u32, u64); 5] = [
+static HELD: [(u64, u32, u64); 5] = [
     (0, 7, 7),
     (41, 1, 42),
     (COUNT_MAX - 3, 3, COUNT_MAX),
@@ -107,16 +107,20 @@ fn a_count_is_held_at_the_most(rt: HostRuntime) -> Result<(), Fail> {
     Ok(())
 }
 
+/// Whether the clone of a counter has these counts, and the least counter none.
+fn is_copied(counter: &GCount, counts: [u64; 3]) -> Result<bool, AllocError> {
+    Ok(shows(&counter.try_clone()?, counts) && shows(&counter.bottom_like()?, [0, 0, 0]))
+}
+
 #[test]
 fn a_clone_has_the_counts_and_the_least_counter_none(rt: HostRuntime) -> Result<(), Fail> {
-    let counter = counted(rt.alloc(), [8, 0, 9])?;
-    assert!(rt; shows(&counter.try_clone()?, [8, 0, 9]));
-    assert!(rt; shows(&counter.bottom_like()?, [0, 0, 0]));
+    let told = is_copied(&counted(rt.alloc(), [8, 0, 9])?, [8, 0, 9]);
+    assert!(rt; told?);
     Ok(())
 }
 
 /// A register, another that is joined in, what they give, and whether that grew.
-const REGISTERS: [(Option<i64>, Option<i64>, Option<i64>, bool); 6] = [
+static REGISTERS: [(Option<i64>, Option<i64>, Option<i64>, bool); 6] = [
     (None, None, None, false),
     (None, Some(-5), Some(-5), true),
     (Some(-5), None, Some(-5), false),
@@ -155,10 +159,15 @@ fn a_register_keeps_the_greatest_number(rt: HostRuntime) -> Result<(), Fail> {
     Ok(())
 }
 
+fn insert(alloc: Global, set: &mut GSet, n: i64) -> Result<bool, AllocError> {
+    let delta = GSet::insert_delta(alloc, &Value::Int(n))?;
+    set.unite(&delta)
+}
+
 fn inserted(alloc: Global, numbers: &[i64]) -> Result<GSet, AllocError> {
     let mut set = GSet::new(alloc);
     for n in numbers {
-        set.unite(&GSet::insert_delta(alloc, &Value::Int(*n))?)?;
+        insert(alloc, &mut set, *n)?;
     }
     Ok(set)
 }
@@ -170,8 +179,7 @@ fn prints(alloc: Global, set: &GSet, text: &str, len: u64) -> Result<bool, Alloc
     Ok(out.as_str() == text && set.len() == len)
 }
 
-/// Numbers, others that are joined in, the text and the count of what they give, and whether that grew.
-const UNIONS: [(&[i64], &[i64], &str, u64, bool); 5] = [
+static UNIONS: [Union; 5] = [
     (&[], &[], "[]", 0, false),
     (&[1], &[], "[1]", 1, false),
     (&[], &[4, -2], "[-2,4]", 2, true),
@@ -190,14 +198,19 @@ fn unites(set: &mut GSet, other: &GSet, len: u64, grew: bool) -> Result<bool, Al
     )
 }
 
-fn all_unite(
-    alloc: Global,
-    table: &[(&[i64], &[i64], &str, u64, bool)],
-) -> Result<bool, AllocError> {
-    for (mine, theirs, united, len, grew) in table {
-        let mut set = inserted(alloc, mine)?;
-        let is_united = unites(&mut set, &inserted(alloc, theirs)?, *len, *grew)?;
-        if !is_united || !prints(alloc, &set, united, *len)? {
+/// Numbers, others that are joined in, the text and the count of what they give, and whether that grew.
+type Union<'a> = (&'a [i64], &'a [i64], &'a str, u64, bool);
+
+fn is_united(alloc: Global, row: &Union) -> Result<bool, AllocError> {
+    let (mine, theirs, united, len, grew) = row;
+    let other = inserted(alloc, theirs)?;
+    let mut set = inserted(alloc, mine)?;
+    Ok(unites(&mut set, &other, *len, *grew)? && prints(alloc, &set, united, *len)?)
+}
+
+fn all_unite(alloc: Global, table: &[Union]) -> Result<bool, AllocError> {
+    for row in table {
+        if !is_united(alloc, row)? {
             return Ok(false);
         }
     }
@@ -228,8 +241,7 @@ fn counted_up(set: &GSet) -> i64 {
 fn scattered(alloc: Global) -> Result<GSet, AllocError> {
     let mut set = GSet::new(alloc);
     for k in 0..300u64 {
-        let n = (k * 7919 % 300) as i64;
-        set.unite(&GSet::insert_delta(alloc, &Value::Int(n))?)?;
+        insert(alloc, &mut set, (k * 7919 % 300) as i64)?;
     }
     Ok(set)
 }
@@ -247,26 +259,42 @@ fn has(set: &GSet, n: i64) -> bool {
     set.has(&Value::Int(n))
 }
 
+/// Whether a set is of the numbers below 300.
+fn are_the_first_300(set: &GSet) -> bool {
+    set.len() == 300
+        && counted_up(set) == 300
+        && has(set, 299)
+        && !has(set, 300)
+        && are_at_their_places(set, &[0, 1, 128, 299])
+}
+
 #[test]
 fn values_stand_in_order_however_they_came(rt: HostRuntime) -> Result<(), Fail> {
-    let set = scattered(rt.alloc())?;
-    assert!(rt; set.len() == 300 && counted_up(&set) == 300);
-    assert!(rt; has(&set, 299) && !has(&set, 300));
-    assert!(rt; are_at_their_places(&set, &[0, 1, 128, 299]));
+    assert!(rt; are_the_first_300(&scattered(rt.alloc())?));
     Ok(())
 }
 
 fn with(alloc: Global, set: &GSet, n: i64) -> Result<GSet, AllocError> {
     let mut more = set.try_clone()?;
-    more.unite(&GSet::insert_delta(alloc, &Value::Int(n))?)?;
+    insert(alloc, &mut more, n)?;
     Ok(more)
+}
+
+/// Whether numbers stay as they print while their clone has one more.
+fn stays(
+    alloc: Global,
+    numbers: &[i64],
+    text: &str,
+    n: i64,
+    grown: &str,
+) -> Result<bool, AllocError> {
+    let snapshot = inserted(alloc, numbers)?;
+    let set = with(alloc, &snapshot, n)?;
+    Ok(prints(alloc, &snapshot, text, 1)? && prints(alloc, &set, grown, 2)?)
 }
 
 #[test]
 fn a_snapshot_stays_while_its_clone_goes_on(rt: HostRuntime) -> Result<(), Fail> {
-    let snapshot = inserted(rt.alloc(), &[4])?;
-    let set = with(rt.alloc(), &snapshot, -1)?;
-    assert!(rt; prints(rt.alloc(), &snapshot, "[4]", 1)?);
-    assert!(rt; prints(rt.alloc(), &set, "[-1,4]", 2)?);
+    assert!(rt; stays(rt.alloc(), &[4], "[4]", -1, "[-1,4]")?);
     Ok(())
 }

@@ -7,7 +7,7 @@ use lasp_edge::{
 use std::alloc::{AllocError, Global};
 use std::io::{ErrorKind, Read, Write};
 use std::test::Fail;
-use std::{env, fs, io, process};
+use std::{env, fs, io, process, rt};
 
 /// Gives one byte a read. The read at `fails_at` bytes fails.
 #[derive(Drop)]
@@ -74,7 +74,7 @@ fn is_answer(got: &Result<Vec<u8>, Fetch>, want: Result<&[u8], Fetch>) -> bool {
 }
 
 /// The limit and where the reader fails; the answer's bytes or error, the bytes taken and the faults.
-const READS: [(u64, usize, Result<&[u8], Fetch>, usize, u64); 10] = [
+static READS: [(u64, usize, Result<&[u8], Fetch>, usize, u64); 10] = [
     (6, NEVER, Ok(b"abcde"), 5, 0),
     (5, NEVER, Ok(b"abcde"), 5, 0),
     (4, NEVER, Err(Fetch::TooLong), 5, 0),
@@ -125,7 +125,7 @@ fn a_file_is_read_byte_by_byte_up_to_the_limit(rt: HostRuntime) -> Result<(), Fa
 }
 
 /// Where the writer fails and where it takes nothing; the answer, the bytes taken and the faults.
-const WRITES: [(usize, usize, Result<(), Failed>, &[u8], u64); 5] = [
+static WRITES: [(usize, usize, Result<(), Failed>, &[u8], u64); 5] = [
     (NEVER, NEVER, Ok(()), b"abcde", 0),
     (0, NEVER, Err(Failed), b"", 1),
     (4, NEVER, Err(Failed), b"abcd", 1),
@@ -195,7 +195,7 @@ fn fetches_as_told<F: Files>(files: &mut F, alloc: Global, rows: &[Fetching]) ->
 }
 
 /// Fetches one after the other of files in memory, of which the second and the last but one are set to fail.
-const FETCHES: [Fetching; 7] = [
+static FETCHES: [Fetching; 7] = [
     ("g", 5, Ok(b"graph")),
     ("g", 5, Err(Fetch::Failed)),
     ("g", 4, Err(Fetch::TooLong)),
@@ -205,23 +205,31 @@ const FETCHES: [Fetching; 7] = [
     ("g", 9, Ok(b"graph")),
 ];
 
-fn files_in_memory(alloc: Global) -> Result<MemFiles, AllocError> {
+/// Files, of which the later of one name stands in the place of the earlier.
+static FILES: [(&str, &[u8]); 3] = [("g", b"old"), ("g", b"graph"), ("s", b"")];
+
+fn files_in_memory(
+    alloc: Global,
+    told: &[(&str, &[u8])],
+    failing: &[u64],
+) -> Result<MemFiles, AllocError> {
     let mut files = MemFiles::new(alloc);
-    files.put_file(alloc, "g", b"old")?;
-    files.put_file(alloc, "g", b"graph")?;
-    files.put_file(alloc, "s", b"")?;
-    files.fail_at(1)?;
-    files.fail_at(5)?;
+    for (name, bytes) in told {
+        files.put_file(alloc, name, bytes)?;
+    }
+    for call in failing {
+        files.fail_at(*call)?;
+    }
     Ok(files)
 }
 
 #[test]
 fn reads_in_memory_fail_where_they_are_set_to(rt: HostRuntime) -> Result<(), Fail> {
-    let mut files = files_in_memory(rt.alloc())?;
-    assert_eq!(rt;
-        fetches_as_told(&mut files, rt.alloc(), &FETCHES),
-        FETCHES.len()
-    );
+    let told = {
+        let mut files = files_in_memory(rt.alloc(), &FILES, &[1, 5])?;
+        fetches_as_told(&mut files, rt.alloc(), &FETCHES)
+    };
+    assert_eq!(rt; told, FETCHES.len());
     Ok(())
 }
 
@@ -235,7 +243,7 @@ type Putting<'a> = (
     &'a [u8],
 );
 
-const PUTS: [Putting; 7] = [
+static PUTS: [Putting; 7] = [
     (6, 9, 0, Ok(()), Ok(()), b"abcdef"),
     (5, 9, 0, Ok(()), Err(Failed), b"abcde"),
     (2, 9, 0, Err(Failed), Err(Failed), b"ab"),
@@ -288,7 +296,7 @@ fn writes_in_memory_fail_where_they_are_set_to_or_the_room_ends(
 }
 
 /// Fetches of sure files.
-const SURE_FETCHES: [Fetching; 3] = [
+static SURE_FETCHES: [Fetching; 3] = [
     ("g", 5, Ok(b"graph")),
     ("h", 0, Ok(b"")),
     ("g", 4, Err(Fetch::TooLong)),
@@ -296,33 +304,59 @@ const SURE_FETCHES: [Fetching; 3] = [
 
 #[test]
 fn sure_files_and_sinks_never_fail(rt: HostRuntime) -> Result<(), Fail> {
-    let mut files = SureFiles::new(rt.alloc());
-    files.put_file(rt.alloc(), "g", b"graph")?;
-    assert_eq!(rt;
-        fetches_as_told(&mut files, rt.alloc(), &SURE_FETCHES),
-        SURE_FETCHES.len()
-    );
+    let told = {
+        let mut files = SureFiles::new(rt.alloc());
+        files.put_file(rt.alloc(), "g", b"graph")?;
+        fetches_as_told(&mut files, rt.alloc(), &SURE_FETCHES)
+    };
+    assert_eq!(rt; told, SURE_FETCHES.len());
     assert!(rt; SureSink.put(b"abc").is_ok());
     Ok(())
+}
+
+/// Fetches of a real file of this name with these bytes, up to its length and to one byte less.
+fn fetched<R: rt::Files>(
+    handle: &R,
+    alloc: Global,
+    name: &str,
+    bytes: &[u8],
+) -> Result<usize, io::Error> {
+    fs::write(handle, name, bytes)?;
+    let most = bytes.len() as u64;
+    let there = [
+        (name, most, Ok(bytes)),
+        (name, most.saturating_sub(1), Err(Fetch::TooLong)),
+    ];
+    Ok(fetches_as_told(&mut DirFiles::new(handle), alloc, &there))
+}
+
+/// The same of the name once the file is removed.
+fn fetched_after<R: rt::Files>(handle: &R, alloc: Global, name: &str) -> Result<usize, io::Error> {
+    fs::remove_file(handle, name)?;
+    let gone = [(name, 20000, Err(Fetch::Failed))];
+    Ok(fetches_as_told(&mut DirFiles::new(handle), alloc, &gone))
+}
+
+/// The fetches of a real file while it is there and once it is gone.
+fn fetched_both<R: rt::Files>(
+    handle: &R,
+    alloc: Global,
+    name: &str,
+) -> Result<(usize, usize), Fail> {
+    let long = vec![in alloc; b'x'; 20000]?;
+    let there = fetched(handle, alloc, name, long.as_slice())?;
+    Ok((there, fetched_after(handle, alloc, name)?))
 }
 
 #[test]
 fn real_files_are_read_up_to_the_limit(rt: HostRuntime) -> Result<(), Fail> {
     let alloc = rt.alloc();
-    let file = format!(in alloc; "lasp_edge_{}.txt", process::id(rt.process()))?;
-    let path = env::temp_dir(&rt)?.join(alloc, file.as_str())?;
-    let name = path.to_str().ok_or("the path is no text")?;
-    let long = vec![in alloc; b'x'; 20000]?;
-    fs::write(&rt, name, long.as_slice())?;
-    let mut files = DirFiles::new(&rt);
-    let there = [
-        (name, 20000, Ok(long.as_slice())),
-        (name, 19999, Err(Fetch::TooLong)),
-    ];
-    assert_eq!(rt; fetches_as_told(&mut files, alloc, &there), there.len());
-    fs::remove_file(&rt, name)?;
-    let gone = [(name, 20000, Err(Fetch::Failed))];
-    assert_eq!(rt; fetches_as_told(&mut files, alloc, &gone), gone.len());
+    let told = {
+        let file = format!(in alloc; "lasp_edge_{}.txt", process::id(rt.process()))?;
+        let path = env::temp_dir(&rt)?.join(alloc, file.as_str())?;
+        fetched_both(&rt, alloc, path.to_str().ok_or("the path is no text")?)?
+    };
+    assert!(rt; told == (2, 1));
     Ok(())
 }
 
@@ -345,7 +379,6 @@ fn errors_say_what_went_wrong(rt: HostRuntime) -> Result<(), Fail> {
     assert!(rt; is_said(alloc, Fetch::Failed, "the file can't be read")?);
     assert!(rt; is_said(alloc, Fetch::TooLong, "the file is too long")?);
     assert!(rt; is_said(alloc, Fetch::Memory, "out of memory")?);
-    let text = format!(in alloc; "{}", Failed)?;
-    assert!(rt; text.as_str() == "the output can't be written");
+    assert!(rt; format!(in alloc; "{}", Failed)?.as_str() == "the output can't be written");
     Ok(())
 }

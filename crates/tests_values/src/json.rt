@@ -31,7 +31,7 @@ fn of_length(alloc: Global, length: u32) -> Result<String, Fail> {
 }
 
 /// Texts of values, and how each value is printed.
-const VALUES: [(&str, &str); 8] = [
+static VALUES: [(&str, &str); 8] = [
     ("0", "0"),
     (" -9223372036854775808 ", "-9223372036854775808"),
     ("9223372036854775807", "9223372036854775807"),
@@ -43,7 +43,7 @@ const VALUES: [(&str, &str); 8] = [
 ];
 
 /// Texts of no values, and why.
-const REFUSED: [(&str, &str); 20] = [
+static REFUSED: [(&str, &str); 20] = [
     ("null", "NotAValue"),
     ("true", "NotAValue"),
     ("{}", "NotAValue"),

@@ -57,13 +57,25 @@ fn grows_to(
     Ok(grew && shows(alloc, &all, text, rows)?)
 }
 
+/// Whether each of two sets grows by the other to what prints so and has so many rows.
+fn both_grow_to(
+    alloc: Global,
+    x: &OrSet,
+    y: &OrSet,
+    text: &str,
+    rows: u64,
+) -> Result<bool, AllocError> {
+    Ok(grows_to(alloc, x, y, text, rows)? && grows_to(alloc, y, x, text, rows)?)
+}
+
 #[test]
 fn a_concurrent_add_survives_a_remove(rt: HostRuntime) -> Result<(), Fail> {
-    let alloc = rt.alloc();
-    let here = set_of(alloc, &[(1, 1), (1, 2)])?;
-    let there = removed(set_of(alloc, &[(1, 1)])?, 1)?;
-    assert!(rt; grows_to(alloc, &here, &there, "[1]", 2)?);
-    assert!(rt; grows_to(alloc, &there, &here, "[1]", 2)?);
+    let told = {
+        let here = set_of(rt.alloc(), &[(1, 1), (1, 2)])?;
+        let there = removed(set_of(rt.alloc(), &[(1, 1)])?, 1)?;
+        both_grow_to(rt.alloc(), &here, &there, "[1]", 2)
+    };
+    assert!(rt; told?);
     Ok(())
 }
 
@@ -75,26 +87,44 @@ fn tells(set: &OrSet, n: i64, is_visible: bool, has_row: bool, has_dead: bool) -
         && set.has_row(&value, true) == has_dead
 }
 
+/// Whether the set of -5 and 7 hides the first of them once it is removed, and keeps its row.
+fn hides_the_removed(alloc: Global, mut set: OrSet) -> Result<bool, AllocError> {
+    let was_visible = tells(&set, -5, true, true, false);
+    let is_removed_once = remove(&mut set, -5)? && !remove(&mut set, -5)?;
+    Ok(
+        was_visible
+            && is_removed_once
+            && tells(&set, -5, false, true, true)
+            && tells(&set, 7, true, true, false)
+            && tells(&set, 3, false, false, false)
+            && is_left(alloc, &set)?,
+    )
+}
+
+/// Whether 7 alone is visible, beside another row.
+fn is_left(alloc: Global, set: &OrSet) -> Result<bool, AllocError> {
+    Ok(shows(alloc, set, "[7]", 2)? && set.visible()?.len() == 1)
+}
+
 #[test]
 fn a_removed_value_is_hidden_and_its_row_stays(rt: HostRuntime) -> Result<(), Fail> {
-    let alloc = rt.alloc();
-    let mut set = set_of(alloc, &[(-5, 1), (7, 2)])?;
-    assert!(rt; tells(&set, -5, true, true, false));
-    assert!(rt; remove(&mut set, -5)? && !remove(&mut set, -5)?);
-    assert!(rt; tells(&set, -5, false, true, true));
-    assert!(rt; tells(&set, 7, true, true, false) && tells(&set, 3, false, false, false));
-    assert!(rt; shows(alloc, &set, "[7]", 2)? && set.visible()?.len() == 1);
+    let set = set_of(rt.alloc(), &[(-5, 1), (7, 2)])?;
+    assert!(rt; hides_the_removed(rt.alloc(), set)?);
     Ok(())
+}
+
+/// Whether a snapshot of the set of 3 stays as it is while the set goes on.
+fn stays(alloc: Global, mut set: OrSet) -> Result<bool, AllocError> {
+    let before = set.try_clone()?;
+    add(alloc, &mut set, 4, 2)?;
+    let is_below = before.le(&set) && !set.le(&before);
+    Ok(is_below && shows(alloc, &before, "[3]", 1)? && shows(alloc, &set, "[3,4]", 2)?)
 }
 
 #[test]
 fn a_snapshot_stays_while_the_set_goes_on(rt: HostRuntime) -> Result<(), Fail> {
-    let alloc = rt.alloc();
-    let mut set = set_of(alloc, &[(3, 1)])?;
-    let before = set.try_clone()?;
-    add(alloc, &mut set, 4, 2)?;
-    assert!(rt; shows(alloc, &before, "[3]", 1)? && shows(alloc, &set, "[3,4]", 2)?);
-    assert!(rt; before.le(&set) && !set.le(&before));
+    let set = set_of(rt.alloc(), &[(3, 1)])?;
+    assert!(rt; stays(rt.alloc(), set)?);
     Ok(())
 }
 
@@ -126,13 +156,20 @@ fn scattered(alloc: Global) -> Result<OrSet, AllocError> {
     Ok(set)
 }
 
+/// Whether a set of 300 rows ascends, and is the same once it is joined into none.
+fn is_in_order(alloc: Global, set: &OrSet) -> Result<bool, AllocError> {
+    Ok(
+        set.rows() == 300
+            && are_rising(set)
+            && makes(&OrSet::new(alloc), set, set)?
+            && !makes(set, set, set)?,
+    )
+}
+
 #[test]
 fn rows_that_come_in_any_order_stand_in_theirs(rt: HostRuntime) -> Result<(), Fail> {
-    let alloc = rt.alloc();
-    let set = scattered(alloc)?;
-    assert!(rt; set.rows() == 300 && are_rising(&set));
-    assert!(rt; makes(&OrSet::new(alloc), &set, &set)?);
-    assert!(rt; !makes(&set, &set, &set)?);
+    let told = is_in_order(rt.alloc(), &scattered(rt.alloc())?);
+    assert!(rt; told?);
     Ok(())
 }
 
@@ -176,29 +213,49 @@ fn rows_stand_at_their_places(rt: HostRuntime) -> Result<(), Fail> {
     Ok(())
 }
 
+/// Whether two sets of 200 and of 60 rows have 210 together.
+fn are_joined(alloc: Global, mut here: OrSet, there: &OrSet) -> Result<bool, AllocError> {
+    let are_told = here.joined_rows(there) == 210
+        && there.joined_rows(&here) == 210
+        && here.joined_rows(&OrSet::new(alloc)) == 200;
+    let grew = Lattice::join_in(&mut here, there)?;
+    let is_joined = here.rows() == 210 && Lattice::le(there, &here);
+    Ok(are_told && grew && is_joined && here.bottom_like()?.le(there))
+}
+
 #[test]
 fn a_join_has_the_rows_of_either_once(rt: HostRuntime) -> Result<(), Fail> {
-    let alloc = rt.alloc();
-    let mut here = numbers(alloc, 0, 200)?;
-    let there = removed(numbers(alloc, 150, 210)?, 160)?;
-    assert!(rt; here.joined_rows(&there) == 210 && there.joined_rows(&here) == 210);
-    assert!(rt; here.joined_rows(&OrSet::new(alloc)) == 200);
-    assert!(rt; Lattice::join_in(&mut here, &there)?);
-    assert!(rt; here.rows() == 210 && Lattice::le(&there, &here));
-    assert!(rt; here.bottom_like()?.le(&there));
+    let told = {
+        let there = removed(numbers(rt.alloc(), 150, 210)?, 160)?;
+        are_joined(rt.alloc(), numbers(rt.alloc(), 0, 200)?, &there)
+    };
+    assert!(rt; told?);
     Ok(())
+}
+
+/// A set with 5 removed and 300 added.
+fn changed_set(alloc: Global, before: &OrSet) -> Result<OrSet, AllocError> {
+    let mut after = removed(before.try_clone()?, 5)?;
+    add(alloc, &mut after, 300, 201)?;
+    Ok(after)
+}
+
+/// Whether the delta between the two is what was added and what died, and makes one of the other.
+fn has_changed(alloc: Global, before: &OrSet, after: &OrSet) -> Result<bool, AllocError> {
+    let are_counted = changed_rows(before, before) == 0 && changed_rows(before, after) == 2;
+    let delta = changed(alloc, before, after)?;
+    let is_told = are_counted && tells(&delta, 5, false, true, true);
+    Ok(is_told && shows(alloc, &delta, "[300]", 2)? && makes(before, &delta, after)?)
 }
 
 #[test]
 fn what_changed_is_what_was_added_and_what_died(rt: HostRuntime) -> Result<(), Fail> {
-    let alloc = rt.alloc();
-    let before = numbers(alloc, 0, 200)?;
-    let mut after = removed(before.try_clone()?, 5)?;
-    add(alloc, &mut after, 300, 201)?;
-    assert!(rt; changed_rows(&before, &before) == 0 && changed_rows(&before, &after) == 2);
-    let delta = changed(alloc, &before, &after)?;
-    assert!(rt; shows(alloc, &delta, "[300]", 2)? && tells(&delta, 5, false, true, true));
-    assert!(rt; makes(&before, &delta, &after)?);
+    let told = {
+        let before = numbers(rt.alloc(), 0, 200)?;
+        let after = changed_set(rt.alloc(), &before)?;
+        has_changed(rt.alloc(), &before, &after)
+    };
+    assert!(rt; told?);
     Ok(())
 }
 

@@ -1,9 +1,30 @@
-//! Passes of one thread.
+//! Passes of one thread. What is told is compared once the lock and its passes are gone, so that no comparison has to let them go.
+ghost use Rattle.std.specs.Prelude.{◌≡◌, false, IfOk};
 
 use super::callers::{misses, write};
 use super::notes::Notes;
-use lasp_histlock::{Held, HistLock};
+use lasp_histlock::{Held, HistLock, Pass};
+use std::alloc::{AllocError, Global};
 use std::test::Fail;
+
+/// A lock of a new list of notes, and its first pass.
+fn opened(alloc: Global) -> Result<(HistLock<Notes>, Pass<Notes>), AllocError>
+    ensures lock { IfOk result (λ made. made.1.lock ≡ made.0) }
+    ensures first { IfOk result (λ made. (made.1.number ≡ 0) × (made.1.made ≡ 1) × (made.1.turn ≡ false)) }
+{
+    HistLock::new(alloc, Notes::about(alloc, 7))
+}
+
+/// The same with a second pass.
+fn opened_twice(alloc: Global) -> Result<(HistLock<Notes>, Pass<Notes>, Pass<Notes>), AllocError>
+    ensures locks { IfOk result (λ made. (made.1.lock ≡ made.0) × (made.2.lock ≡ made.0)) }
+    ensures first { IfOk result (λ made. (made.1.number ≡ 0) × (made.1.turn ≡ false)) }
+    ensures second { IfOk result (λ made. made.2.turn ≡ false) }
+{
+    let (lock, mut first) = opened(alloc)?;
+    let second = lock.split(&mut first)?;
+    Ok((lock, first, second))
+}
 
 fn has_one_note(notes: &Notes) -> bool {
     match notes.entries.as_slice() {
@@ -12,79 +33,104 @@ fn has_one_note(notes: &Notes) -> bool {
     }
 }
 
+/// Whether a lock closes on the one note.
+fn closes_on_one_note(lock: HistLock<Notes>, first: Pass<Notes>) -> bool
+    requires { (first.lock ≡ lock) × (first.number ≡ 0) }
+{
+    match lock.close(first) {
+        Some(value) => has_one_note(&value),
+        None => false,
+    }
+}
+
 #[test]
 fn a_given_entry_is_counted(rt: HostRuntime) -> Result<(), Fail> {
-    let (lock, mut first) = HistLock::new(rt.alloc(), Notes::about(rt.alloc(), 7))?;
-    let before = lock.length(&mut first);
-    write(&rt, &lock, &mut first, 5)?;
-    first.known();
-    let after = lock.length(&mut first);
-    let value = lock
-        .close(first)
-        .ok_or("a lock with one pass didn't close")?;
-    assert!(rt; before == 0 && after == 1 && has_one_note(&value));
+    let told = {
+        let (lock, mut first) = opened(rt.alloc())?;
+        let before = lock.length(&mut first);
+        let is_written = write(&rt, &lock, &mut first, 5).is_ok();
+        first.known();
+        let after = lock.length(&mut first);
+        (before, is_written, after, closes_on_one_note(lock, first))
+    };
+    assert!(rt; told == (0, true, 1, true));
     Ok(())
 }
 
 #[test]
 fn a_second_pass_misses_while_the_first_has_the_turn(rt: HostRuntime) -> Result<(), Fail> {
-    let (lock, mut first) = HistLock::new(rt.alloc(), Notes::about(rt.alloc(), 7))?;
-    let mut second = lock.split(&mut first)?;
-    let held = lock.take(&rt, &mut first);
-    let missed = misses(&lock, &mut second);
-    let length = lock.length(&mut second);
-    lock.give(&mut first, held);
-    assert!(rt; missed && length == 0 && !misses(&lock, &mut second));
+    let told = {
+        let (lock, mut first, mut second) = opened_twice(rt.alloc())?;
+        let held = lock.take(&rt, &mut first);
+        let missed = misses(&lock, &mut second);
+        let length = lock.length(&mut second);
+        lock.give(&mut first, held);
+        (missed, length, misses(&lock, &mut second))
+    };
+    assert!(rt; told == (true, 0, false));
     Ok(())
 }
 
 #[test]
 fn a_lock_whose_passes_came_back_closes(rt: HostRuntime) -> Result<(), Fail> {
-    let (lock, mut first) = HistLock::new(rt.alloc(), Notes::about(rt.alloc(), 7))?;
-    let mut second = lock.split(&mut first)?;
-    let are_two = second.number() == 1 && first.made() == 2;
-    write(&rt, &lock, &mut first, 5)?;
-    let length = lock.length(&mut second);
-    lock.rejoin(&mut first, second);
-    let value = lock
-        .close(first)
-        .ok_or("a lock whose passes came back didn't close")?;
-    assert!(rt; are_two && length == 1 && has_one_note(&value));
+    let told = {
+        let (lock, mut first, mut second) = opened_twice(rt.alloc())?;
+        let numbers = (second.number(), first.made());
+        let is_written = write(&rt, &lock, &mut first, 5).is_ok();
+        let length = lock.length(&mut second);
+        lock.rejoin(&mut first, second);
+        (numbers, is_written, length, closes_on_one_note(lock, first))
+    };
+    assert!(rt; told == ((1, 2), true, 1, true));
     Ok(())
+}
+
+/// Whether a lock doesn't close where its value was taken out, which has no notes.
+fn stays_open(lock: HistLock<Notes>, first: Pass<Notes>, value: Notes) -> bool
+    requires { (first.lock ≡ lock) × (first.number ≡ 0) }
+{
+    lock.close(first).is_none() && value.entries.is_empty()
 }
 
 #[test]
 fn a_lock_whose_value_is_out_does_not_close(rt: HostRuntime) -> Result<(), Fail> {
-    let (lock, mut first) = HistLock::new(rt.alloc(), Notes::about(rt.alloc(), 7))?;
+    let (lock, mut first) = opened(rt.alloc())?;
     let Held { value, taken: _ } = lock.take(&rt, &mut first);
-    assert!(rt; lock.close(first).is_none() && value.entries.is_empty());
+    let is_open = stays_open(lock, first, value);
+    assert!(rt; is_open);
     Ok(())
 }
 
 #[test]
 fn a_lock_does_not_close_while_another_pass_has_the_turn(rt: HostRuntime) -> Result<(), Fail> {
-    let (lock, mut first) = HistLock::new(rt.alloc(), Notes::about(rt.alloc(), 7))?;
-    let mut second = lock.split(&mut first)?;
-    let Held { value, taken: _ } = lock.take(&rt, &mut second);
-    assert!(rt; lock.close(first).is_none() && value.entries.is_empty());
+    let is_open = {
+        let (lock, first, mut second) = opened_twice(rt.alloc())?;
+        let Held { value, taken: _ } = lock.take(&rt, &mut second);
+        stays_open(lock, first, value)
+    };
+    assert!(rt; is_open);
     Ok(())
 }
 
 #[test]
 fn a_lock_closes_beside_a_pass_without_a_turn(rt: HostRuntime) -> Result<(), Fail> {
-    let (lock, mut first) = HistLock::new(rt.alloc(), Notes::about(rt.alloc(), 7))?;
-    let second = lock.split(&mut first)?;
-    assert!(rt; lock.close(first).is_some() && second.number() == 1);
+    let told = {
+        let (lock, first, second) = opened_twice(rt.alloc())?;
+        (lock.close(first).is_some(), second.number())
+    };
+    assert!(rt; told == (true, 1));
     Ok(())
 }
 
 #[test]
 fn a_pass_that_comes_back_in_its_turn_shuts_the_lock_for_good(rt: HostRuntime) -> Result<(), Fail> {
-    let (lock, mut first) = HistLock::new(rt.alloc(), Notes::about(rt.alloc(), 7))?;
-    let mut second = lock.split(&mut first)?;
-    let Held { value, taken: _ } = lock.take(&rt, &mut second);
-    lock.rejoin(&mut first, second);
-    assert!(rt; misses(&lock, &mut first));
-    assert!(rt; lock.close(first).is_none() && value.entries.is_empty());
+    let told = {
+        let (lock, mut first, mut second) = opened_twice(rt.alloc())?;
+        let Held { value, taken: _ } = lock.take(&rt, &mut second);
+        lock.rejoin(&mut first, second);
+        let missed = misses(&lock, &mut first);
+        (missed, stays_open(lock, first, value))
+    };
+    assert!(rt; told == (true, true));
     Ok(())
 }

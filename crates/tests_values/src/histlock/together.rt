@@ -79,17 +79,29 @@ fn notes_by(value: &Notes, by: u64) -> usize {
     value.entries.iter().filter(|note| note.by == by).count()
 }
 
+/// Whether of four numbers all but the first wrote 500 notes, and no one else wrote any.
+fn has_500_of_three(value: &Notes) -> bool {
+    value.entries.len() == 2000
+        && notes_by(value, 0) == 0
+        && notes_by(value, 1) == 500
+        && notes_by(value, 2) == 500
+        && notes_by(value, 3) == 500
+}
+
+/// The value, where the lock closes on all passes.
+fn closed(lock: HistLock<Notes>, passes: Vec<Pass<Notes>>) -> Option<Notes>
+    requires { All (λ p. (p.lock ≡ lock) × (p.turn ≡ false)) passes.items }
+{
+    let first = rejoin_all(&lock, passes)?;
+    lock.close(first)
+}
+
 #[test]
 fn four_threads_write_while_passes_come_and_go(rt: HostRuntime) -> Result<(), Fail> {
     let (lock, first) = HistLock::new(rt.alloc(), Notes::about(rt.alloc(), 7))?;
     let mut passes = split_three(rt.alloc(), &lock, first)?;
     work_together(&rt, &lock, passes.as_mut_slice());
-    let first = rejoin_all(&lock, passes).ok_or("the first pass is gone")?;
-    let value = lock
-        .close(first)
-        .ok_or("a lock whose passes all came back didn't close")?;
-    assert!(rt; value.entries.len() == 2000);
-    assert!(rt; notes_by(&value, 0) == 0 && notes_by(&value, 1) == 500);
-    assert!(rt; notes_by(&value, 2) == 500 && notes_by(&value, 3) == 500);
+    let value = closed(lock, passes).ok_or("a lock whose passes all came back didn't close")?;
+    assert!(rt; has_500_of_three(&value));
     Ok(())
 }
