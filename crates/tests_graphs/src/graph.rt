@@ -69,7 +69,7 @@ fn sources_and_processes_are_read(rt: HostRuntime) -> Result<(), Fail> {
 }
 
 /// Each text with the declaration that is to blame, and why.
-const REFUSED: [(&str, u32, GraphWhy); 30] = [
+static REFUSED: [(&str, u32, GraphWhy); 30] = [
     ("", 0, GraphWhy::NotJson),
     (r#"[["a","orset"]"#, 0, GraphWhy::NotJson),
     ("[] []", 0, GraphWhy::NotJson),

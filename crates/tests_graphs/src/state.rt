@@ -123,7 +123,7 @@ fn passes(
 /// What is left of the additions to a set.
 const LEFT: &str = "[\"q\\\"\\\\\\n\\u0001é\",[4,\"x\"]]";
 
-const ADDITIONS_AND_REMOVALS: [Step; 6] = [
+static ADDITIONS_AND_REMOVALS: [Step; 6] = [
     (Told::Add(Plain::Number(-3)), 1, true, "[-3]"),
     (Told::Add(Plain::Number(-3)), 1, false, "[-3]"),
     (
@@ -149,7 +149,7 @@ fn a_set_shows_what_was_added_and_not_removed(rt: HostRuntime) -> Result<(), Fai
     Ok(())
 }
 
-const INSERTIONS: [Step; 3] = [
+static INSERTIONS: [Step; 3] = [
     (Told::Insert(7), 1, true, "[7]"),
     (Told::Insert(-1), 1, true, "[-1,7]"),
     (Told::Insert(7), 1, false, "[-1,7]"),
@@ -162,7 +162,7 @@ fn elements_are_kept_once_in_ascending_order(rt: HostRuntime) -> Result<(), Fail
     Ok(())
 }
 
-const NUMBERS: [Step; 2] = [
+static NUMBERS: [Step; 2] = [
     (Told::Max(-5), 1, true, "-5"),
     (Told::Max(-9), 1, false, "-5"),
 ];
@@ -173,7 +173,7 @@ fn a_register_keeps_the_greatest_number(rt: HostRuntime) -> Result<(), Fail> {
     Ok(())
 }
 
-const INCREMENTS: [Step; 2] = [
+static INCREMENTS: [Step; 2] = [
     (Told::Inc(41), 1, true, "41"),
     (Told::Inc(4_294_967_295), 1, true, "4294967336"),
 ];
@@ -230,7 +230,7 @@ fn take(mine: &mut State, other: &State) -> Result<Option<bool>, AllocError>
 /// The values and the number of a fold, those of another, whether the first grows where it takes the other, and what it then shows.
 type Taking<'a> = (&'a [i64], i128, &'a [i64], i128, Option<bool>, &'a str);
 
-const TAKINGS: [Taking; 5] = [
+static TAKINGS: [Taking; 5] = [
     (&[], 0, &[3], 3, Some(true), "3"),
     (&[3], 3, &[], 0, Some(false), "3"),
     (&[3], -7, &[3], 9, Some(false), "-7"),
@@ -310,7 +310,7 @@ fn values(alloc: Global, numbers: &[i64]) -> Result<Values, AllocError> {
 }
 
 /// Numbers with their tokens, and whether each is removed and not added.
-const MIXED: [(i64, u64, bool); 4] = [(1, 1, false), (2, 2, false), (2, 0, true), (2, 3, false)];
+static MIXED: [(i64, u64, bool); 4] = [(1, 1, false), (2, 2, false), (2, 0, true), (2, 3, false)];
 
 /// A set that was told to add 1, 2 and 2 again, and to remove 2 in between.
 fn mixed(alloc: Global) -> Result<OrSet, AllocError> {
@@ -420,7 +420,7 @@ fn first_other(
 }
 
 /// A set, a fold that covers the same, elements, a counter and a register.
-const ALL_SORTS: [Sort; 5] = [
+static ALL_SORTS: [Sort; 5] = [
     Sort::Mixed,
     Sort::MixedFold(3),
     Sort::Elements(&[1, 2, 1]),
@@ -429,7 +429,7 @@ const ALL_SORTS: [Sort; 5] = [
 ];
 
 /// Values with what each of these states answers to their addition and to their removal.
-const VALUES: [(Bound, &str); 10] = [
+static VALUES: [(Bound, &str); 10] = [
     (Bound::Added(&[]), "yyy--"),
     (Bound::Removed(&[]), "yy---"),
     (Bound::Added(&[1]), "yyy--"),
@@ -449,7 +449,7 @@ fn thresholds_of_values_ask_rows_and_elements(rt: HostRuntime) -> Result<(), Fai
 }
 
 /// Counts with what each of these states answers.
-const COUNTS: [(Bound, &str); 4] = [
+static COUNTS: [(Bound, &str); 4] = [
     (Bound::Count(0), "--yy-"),
     (Bound::Count(2), "--yy-"),
     (Bound::Count(3), "--nn-"),
@@ -463,7 +463,7 @@ fn counts_are_met_from_the_number_on(rt: HostRuntime) -> Result<(), Fail> {
 }
 
 /// Counters of two nodes with 3, 2 and 1, a counter of three, and a register.
-const COUNTERS: [Sort; 5] = [
+static COUNTERS: [Sort; 5] = [
     Sort::Count(3),
     Sort::Count(2),
     Sort::Count(1),
@@ -472,15 +472,15 @@ const COUNTERS: [Sort; 5] = [
 ];
 
 /// What they answer to being at least a counter, and to being above it.
-const BOUNDS_OF_COUNTERS: [(Bound, &str); 2] = [
+static BOUNDS_OF_COUNTERS: [(Bound, &str); 2] = [
     (Bound::AtLeast(Sort::Count(2)), "yyn--"),
     (Bound::Above(Sort::Count(2)), "ynn--"),
 ];
 
 /// Folds of one and of two values, and a set.
-const FOLDS: [Sort; 3] = [Sort::Fold(&[1], 7), Sort::Fold(&[1, 2], 1), Sort::NoRows];
+static FOLDS: [Sort; 3] = [Sort::Fold(&[1], 7), Sort::Fold(&[1, 2], 1), Sort::NoRows];
 
-const BOUNDS_OF_FOLDS: [(Bound, &str); 2] = [
+static BOUNDS_OF_FOLDS: [(Bound, &str); 2] = [
     (Bound::AtLeast(Sort::Fold(&[1], 1)), "yy-"),
     (Bound::Above(Sort::Fold(&[1], 1)), "ny-"),
 ];

@@ -78,7 +78,7 @@ fn first_other(alloc: Global, g: &Graph, rows: &[(&str, &str)]) -> Result<Option
     Ok(None)
 }
 
-const DECLARATIONS: [(&str, &str); 4] = [
+static DECLARATIONS: [(&str, &str); 4] = [
     (r#"["u","union","a","a"]"#, "u d set of 0 0"),
     (r#"["b","gset"]"#, "b s"),
     (r#"["a","gset"]"#, "NameTaken"),
@@ -139,7 +139,7 @@ fn united(alloc: Global, g: &Graph, lib: &Library, count: u32) -> Result<Option<
 }
 
 /// Sizes of a set, and how many rows its union with an empty set has.
-const UNITED: [(u32, Option<u64>); 2] = [(65_536, Some(65_536)), (65_537, None)];
+static UNITED: [(u32, Option<u64>); 2] = [(65_536, Some(65_536)), (65_537, None)];
 
 /// The first size at which the union has other rows.
 fn first_united(

@@ -141,7 +141,7 @@ const GRAPH: &str =
 /// The rows of the first input and what is joined into them, and the same of the second.
 type Change<'a> = [&'a [(i64, u64, bool)]; 4];
 
-const CHANGES: [Change; 6] = [
+static CHANGES: [Change; 6] = [
     // nothing changes
     [&[(-1, 1, false), (2, 2, false)], &[], &[(2, 3, false)], &[]],
     // both were empty
