@@ -84,7 +84,7 @@ type Change<'a> = (
     u64,
 );
 
-const CHANGES: [Change; 5] = [
+static CHANGES: [Change; 5] = [
     (&[], &[(-1, 1, false), (5, 2, false)], (4, -6, 0), 12),
     // a second token counts nothing, and the value goes with its last one
     (&[(7, 1, false)], &[(7, 2, false)], (7, 7, 3), 0),

@@ -161,7 +161,7 @@ fn is_told(alloc: Global, steps: Rows, expected: &str) -> Result<bool, AllocErro
 }
 
 /// One number added, and the same one removed and another added.
-const ADDED_AND_REMOVED: [(i64, u64, bool); 3] = [(1, 1, false), (1, 0, true), (2, 2, false)];
+static ADDED_AND_REMOVED: [(i64, u64, bool); 3] = [(1, 1, false), (1, 0, true), (2, 2, false)];
 
 /// The sets of the first step and of all.
 const UNION: Making = (
@@ -225,7 +225,7 @@ const INTERSECTION: Making = (
 );
 
 /// After a change of the second set, and after the same change of the first.
-const GROWN_INTERSECTIONS: [Following; 2] = [
+static GROWN_INTERSECTIONS: [Following; 2] = [
     (
         [
             &[(3, 1, false), (4, 5, false)],

@@ -87,7 +87,7 @@ fn made_as_told(alloc: Global, rows: &[Making]) -> Result<usize, AllocError> {
     Ok(at)
 }
 
-const NUMBERS: [Making; 15] = [
+static NUMBERS: [Making; 15] = [
     (&[MapOp::Add(1)], Plain::Number(6), "7"),
     (
         &[MapOp::Add(1)],
@@ -139,7 +139,7 @@ fn numbers_are_held_at_both_ends(rt: HostRuntime) -> Result<(), Fail> {
     Ok(())
 }
 
-const TEXTS: [Making; 7] = [
+static TEXTS: [Making; 7] = [
     (&[MapOp::Length], Plain::Word(""), "0"),
     (&[MapOp::Length], Plain::Word("aé€"), "6"),
     (&[MapOp::Lower], Plain::Word("@AZ[`az{"), "\"@az[`az{\""),
@@ -160,7 +160,7 @@ fn texts_are_measured_in_bytes_and_only_latin_capitals_become_small(
 /// The pair of [1,2] and -3.
 const PAIR: Plain = Plain::Nested(1, 2, -3);
 
-const PAIRS: [Making; 8] = [
+static PAIRS: [Making; 8] = [
     (&[MapOp::First, MapOp::First], PAIR, "1"),
     (&[MapOp::First, MapOp::Second], PAIR, "2"),
     (&[MapOp::Second, MapOp::First], PAIR, "-3"),
@@ -230,7 +230,7 @@ fn passed_as_told(alloc: Global, rows: &[Passing]) -> Result<usize, AllocError> 
     Ok(at)
 }
 
-const NUMBERS_THAT_PASS: [Passing; 10] = [
+static NUMBERS_THAT_PASS: [Passing; 10] = [
     (&[Condition::Even], Plain::Number(-2), true),
     (&[Condition::Even], Plain::Number(i64::MIN), true),
     (&[Condition::Even], Plain::Number(-1), false),
@@ -252,7 +252,7 @@ fn numbers_pass_strictly_above_and_below(rt: HostRuntime) -> Result<(), Fail> {
     Ok(())
 }
 
-const STARTS: [Passing; 5] = [
+static STARTS: [Passing; 5] = [
     (
         &[Condition::IsText, Condition::StartsWith("#")],
         Plain::Word("#tag"),
@@ -286,7 +286,7 @@ fn a_text_starts_with_itself_and_with_no_bytes(rt: HostRuntime) -> Result<(), Fa
     Ok(())
 }
 
-const KEYS: [Passing; 6] = [
+static KEYS: [Passing; 6] = [
     (&[Condition::KeyMatch], Plain::Nested(7, 8, 7), true),
     (&[Condition::KeyMatch], Plain::Nested(7, 8, 8), false),
     (&[Condition::KeyMatch], Plain::Numbers(7, 7), false),
@@ -317,7 +317,7 @@ fn brought_as_told(alloc: Global, rows: &[(LiftOp, Plain, i64)]) -> Result<usize
     Ok(at)
 }
 
-const LIFTS: [(LiftOp, Plain, i64); 7] = [
+static LIFTS: [(LiftOp, Plain, i64); 7] = [
     (LiftOp::Itself, Plain::Number(i64::MIN), i64::MIN),
     (LiftOp::Length, Plain::Number(i64::MIN), 0),
     (LiftOp::First, Plain::Number(i64::MIN), 0),

@@ -76,14 +76,26 @@ fn maps(
 /// Rows with what is made of them, and a change with what is made then.
 type Following<'a> = (Rows<'a>, &'a str, Rows<'a>, &'a str);
 
-/// The same of rows as plain data.
+/// The same of a change as plain data.
+fn maps_after(
+    alloc: Global,
+    library: &Library,
+    x: &OrSet,
+    row: &Following,
+) -> Result<bool, AllocError>
+    requires place { 0 < length (maps_of library.now) }
+    requires width { IsSetOfWidth 16 x.now }
+{
+    let change = rows(alloc, row.2)?;
+    maps(alloc, library, x, row.1, &change, row.3)
+}
+
+/// The same of rows and a change as plain data.
 fn maps_rows(alloc: Global, library: &Library, row: &Following) -> Result<bool, AllocError>
     requires place { 0 < length (maps_of library.now) }
 {
-    let (table, mapped, more, grown) = row;
-    let x = rows(alloc, table)?;
-    let change = rows(alloc, more)?;
-    maps(alloc, library, &x, mapped, &change, grown)
+    let x = rows(alloc, row.0)?;
+    maps_after(alloc, library, &x, row)
 }
 
 fn library_of_abs(alloc: Global) -> Result<Library, LibraryRefused>
@@ -150,14 +162,26 @@ fn filters(
     )
 }
 
-/// The same of rows as plain data.
+/// The same of a change as plain data.
+fn filters_after(
+    alloc: Global,
+    library: &Library,
+    x: &OrSet,
+    row: &Following,
+) -> Result<bool, AllocError>
+    requires place { 0 < length (predicates_of library.now) }
+    requires width { IsSetOfWidth 16 x.now }
+{
+    let change = rows(alloc, row.2)?;
+    filters(alloc, library, x, row.1, &change, row.3)
+}
+
+/// The same of rows and a change as plain data.
 fn filters_rows(alloc: Global, library: &Library, row: &Following) -> Result<bool, AllocError>
     requires place { 0 < length (predicates_of library.now) }
 {
-    let (table, kept, more, grown) = row;
-    let x = rows(alloc, table)?;
-    let change = rows(alloc, more)?;
-    filters(alloc, library, &x, kept, &change, grown)
+    let x = rows(alloc, row.0)?;
+    filters_after(alloc, library, &x, row)
 }
 
 fn library_of_even(alloc: Global) -> Result<Library, LibraryRefused>
@@ -223,18 +247,33 @@ fn calls_the_second(
     Ok(second && !first)
 }
 
-/// Whether only the second of two maps is called, where this one counts its calls.
-fn are_told_apart(alloc: Global, calls: &Arc<AtomicU64>) -> Result<bool, Fail> {
+/// Two maps of one operation, of which the second counts its calls here.
+fn library_of_counted(alloc: Global, calls: &Arc<AtomicU64>) -> Result<Library, LibraryRefused>
+    ensures first { IfOk result (λ l. 0 < length (maps_of l)) }
+    ensures second { IfOk result (λ l. 1 < length (maps_of l)) }
+{
     let one = map_of(alloc, MapOp::Abs, &no_calls(alloc)?)?;
-    let library = library_of_two(alloc, one, map_of(alloc, MapOp::Abs, calls)?)?;
+    library_of_two(alloc, one, map_of(alloc, MapOp::Abs, calls)?)
+}
+
+/// Whether only the second of two maps is called for some rows.
+fn are_told_apart(
+    alloc: Global,
+    library: &Library,
+    calls: &Arc<AtomicU64>,
+) -> Result<bool, AllocError>
+    requires first { 0 < length (maps_of library.now) }
+    requires second { 1 < length (maps_of library.now) }
+{
     let x = rows(alloc, &SIGNED)?;
-    Ok(calls_the_second(alloc, &library, &x, calls)?)
+    calls_the_second(alloc, library, &x, calls)
 }
 
 #[test]
 fn maps_of_equal_operations_are_told_apart_by_their_closures(rt: HostRuntime) -> Result<(), Fail> {
     let calls = no_calls(rt.alloc())?;
-    assert!(rt; are_told_apart(rt.alloc(), &calls)?);
+    let told = are_told_apart(rt.alloc(), &library_of_counted(rt.alloc(), &calls)?, &calls);
+    assert!(rt; told?);
     Ok(())
 }
 
