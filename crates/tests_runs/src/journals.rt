@@ -1,16 +1,46 @@
 //! Stories of journals: binds that come late or out of order, deliveries that come twice, what is clean after each, and what each process shows.
 //! A row is spelled as its value, its token after `@`, and `x` where it is dead; a count as its number.
 
-use lasp_value::{Token, Value, print_into};
+use crate::sets::{shown, spell_rows};
+use lasp_value::{Token, Value, Values, print_into};
 use plain_journals::{
     Act, Condition, Content, Decl, Entry, Frame, Journal, Kind, MapStep, Message, Op, Refused, Sent,
 };
-use plain_sets::{Row, join, visible};
+use plain_sets::Row;
 use std::alloc::{AllocError, Global};
 use std::test::Fail;
 
-/// A journal without entries over these variables.
-fn started(alloc: Global, nodes: usize, kinds: &[(u8, Kind)]) -> Result<Journal, AllocError> {
+/// What a journal takes, or what it is asked.
+#[derive(Clone, Copy)]
+enum Step {
+    /// Adds a number to a set.
+    Add(usize, i64),
+    /// Removes a number from a set.
+    Remove(usize, i64),
+    /// Counts so many more.
+    Count(usize, u64),
+    /// Takes in what another replica sent.
+    Deliver,
+    /// Takes in that this replica made so many updates.
+    Know(u64),
+    /// A caller binds a variable to what stood after so many entries.
+    Bind(u64, usize, usize),
+    /// Declares a variable.
+    Declare(u8, Kind),
+    /// What a variable holds.
+    Holds(usize),
+    /// The values that a variable shows.
+    Shows(usize),
+    /// Whether a variable is clean.
+    Clean(usize),
+    /// How many updates of each replica are known.
+    Known,
+    /// How many entries there are.
+    Length,
+}
+
+/// The declarations of these variables.
+fn decls(alloc: Global, kinds: &[(u8, Kind)]) -> Result<Vec<Decl>, AllocError> {
     let mut opening = Vec::new(alloc);
     for (name, kind) in kinds {
         opening.push(Decl {
@@ -18,23 +48,61 @@ fn started(alloc: Global, nodes: usize, kinds: &[(u8, Kind)]) -> Result<Journal,
             kind: *kind,
         })?;
     }
+    Ok(opening)
+}
+
+/// A journal without entries over these variables.
+fn started(alloc: Global, nodes: usize, kinds: &[(u8, Kind)]) -> Result<Journal, AllocError> {
     let frame = Frame {
-        opening,
+        opening: decls(alloc, kinds)?,
         replica: 0,
         nodes,
     };
     Journal::start(alloc, &frame)
 }
 
-/// The set 0, the set 1, their union 2, and the counter 3.
-fn opened(alloc: Global, nodes: usize) -> Result<Journal, AllocError> {
-    let kinds = [
-        (b'a', Kind::OrSet),
-        (b'b', Kind::OrSet),
-        (b'c', Kind::Union(0, 1)),
-        (b'd', Kind::Counter),
-    ];
-    started(alloc, nodes, &kinds)
+/// A source in a message.
+fn source(name: u8, kind: Kind, content: Content) -> Sent {
+    Sent {
+        decl: Decl { name, kind },
+        content,
+    }
+}
+
+/// The set of replica 1 after it added 7.
+fn added(alloc: Global) -> Result<Content, AllocError> {
+    let row = Row::new(Value::Int(7), Token::Base(1, 1), false);
+    Ok(Content::of_rows(alloc, vec![in alloc; row]?))
+}
+
+/// The counter of replica 1 after it counted 4 more.
+fn counted(alloc: Global) -> Result<Content, AllocError> {
+    Ok(Content::of_counts(alloc, vec![in alloc; 0, 4]?))
+}
+
+/// The sources of replica 1 after both.
+fn sources(alloc: Global) -> Result<Vec<Sent>, AllocError> {
+    let set = source(b'a', Kind::OrSet, added(alloc)?);
+    let counter = source(b'd', Kind::Counter, counted(alloc)?);
+    let empty = source(b'b', Kind::OrSet, Content::empty(alloc));
+    Ok(vec![in alloc; set, empty, counter]?)
+}
+
+/// What replica 1 sends after both.
+fn sent_by_another(alloc: Global) -> Result<Message, AllocError> {
+    let sources = sources(alloc)?;
+    Ok(Message {
+        counts: vec![in alloc; 0, 2]?,
+        sources,
+    })
+}
+
+/// A message that knows of so many updates, and has no sources.
+fn sent_count(alloc: Global, count: u64) -> Result<Message, AllocError> {
+    Ok(Message {
+        counts: vec![in alloc; count]?,
+        sources: Vec::new(alloc),
+    })
 }
 
 /// Takes an entry, and answers whether the replica had an update left for it.
@@ -46,26 +114,26 @@ fn take(journal: &mut Journal, alloc: Global, by: u64, act: Act) -> Result<bool,
     }
 }
 
-fn add(journal: &mut Journal, alloc: Global, x: usize, n: i64) -> Result<bool, AllocError> {
-    take(journal, alloc, 0, Act::Update(x, Op::Add(Value::Int(n))))
-}
-
-fn remove(journal: &mut Journal, alloc: Global, x: usize, n: i64) -> Result<bool, AllocError> {
-    let op = Op::Remove(Value::Int(n));
+fn update(journal: &mut Journal, alloc: Global, x: usize, op: Op) -> Result<bool, AllocError> {
     take(journal, alloc, 0, Act::Update(x, op))
 }
 
-fn spell_rows(out: &mut String, rows: &[Row]) -> Result<(), AllocError> {
-    for row in rows {
-        print_into(out, row.value())?;
-        out.push('@')?;
-        match row.token() {
-            Token::Base(replica, k) => write!(out, "{replica}.{k}")?,
-            Token::Both(_, _) => out.push('?')?,
-        }
-        out.push_str(if row.is_dead() { "x " } else { " " })?;
+fn deliver(journal: &mut Journal, alloc: Global, message: Message) -> Result<bool, AllocError> {
+    take(journal, alloc, 0, Act::Deliver(0, message))
+}
+
+/// Takes the entry of a step, where it has one.
+fn enter(journal: &mut Journal, alloc: Global, step: Step) -> Result<bool, AllocError> {
+    match step {
+        Step::Add(x, n) => update(journal, alloc, x, Op::Add(Value::Int(n))),
+        Step::Remove(x, n) => update(journal, alloc, x, Op::Remove(Value::Int(n))),
+        Step::Count(x, by) => update(journal, alloc, x, Op::Inc(by)),
+        Step::Deliver => deliver(journal, alloc, sent_by_another(alloc)?),
+        Step::Know(count) => deliver(journal, alloc, sent_count(alloc, count)?),
+        Step::Bind(by, y, read) => take(journal, alloc, by, Act::Bind(y, read)),
+        Step::Declare(name, kind) => take(journal, alloc, 0, Act::Extend(Decl { name, kind })),
+        _ => Ok(true),
     }
-    Ok(())
 }
 
 fn spell_counts(out: &mut String, counts: &[u64]) -> Result<(), AllocError> {
@@ -75,236 +143,312 @@ fn spell_counts(out: &mut String, counts: &[u64]) -> Result<(), AllocError> {
     Ok(())
 }
 
-/// What variable x holds.
-fn shown(journal: &Journal, alloc: Global, x: usize) -> Result<String, AllocError> {
-    let mut out = String::new(alloc);
-    match journal.contents().get(x) {
-        Some(content) => {
-            spell_rows(&mut out, content.rows())?;
-            spell_counts(&mut out, content.counts())?;
-        }
-        None => out.push_str("none")?,
+fn spell_content(out: &mut String, content: &Content) -> Result<(), AllocError> {
+    spell_rows(out, content.rows())?;
+    spell_counts(out, content.counts())
+}
+
+fn spell_values(out: &mut String, values: &Values) -> Result<(), AllocError> {
+    for i in 0..values.len() {
+        print_into(out, values.at(i))?;
+        out.push(' ')?;
     }
-    Ok(out)
+    Ok(())
 }
 
-/// The values that variable x shows.
-fn values(journal: &Journal, alloc: Global, x: usize) -> Result<String, AllocError> {
-    let mut out = String::new(alloc);
-    if let Some(content) = journal.contents().get(x) {
-        let rows = join(alloc, content.rows(), &[])?;
-        let values = visible(alloc, &rows)?;
-        for i in 0..values.len() {
-            print_into(&mut out, values.at(i))?;
-            out.push(' ')?;
-        }
+/// Tells of a variable what it holds, or else what it shows.
+fn spell_variable(
+    out: &mut String,
+    alloc: Global,
+    variable: Option<&Content>,
+    is_whole: bool,
+) -> Result<(), AllocError> {
+    match variable {
+        Some(content) if is_whole => spell_content(out, content),
+        Some(content) => spell_values(out, &shown(alloc, content.rows(), &[])?),
+        None => out.push_str("none"),
     }
-    Ok(out)
 }
 
-fn known(journal: &Journal, alloc: Global) -> Result<String, AllocError> {
+/// Makes a step, and tells what it asks, or that its entry wasn't taken.
+fn tell(
+    out: &mut String,
+    journal: &mut Journal,
+    alloc: Global,
+    step: Step,
+) -> Result<(), AllocError> {
+    match step {
+        Step::Holds(x) => spell_variable(out, alloc, journal.contents().get(x), true),
+        Step::Shows(x) => spell_variable(out, alloc, journal.contents().get(x), false),
+        Step::Clean(x) => out.push(if journal.is_clean(alloc, x) { 'y' } else { 'n' }),
+        Step::Known => spell_counts(out, journal.counts()),
+        Step::Length => write!(out, "{}", journal.len()),
+        _ if enter(journal, alloc, step)? => Ok(()),
+        _ => out.push_str("full"),
+    }
+}
+
+/// Whether a step tells this.
+fn tells(
+    journal: &mut Journal,
+    alloc: Global,
+    step: Step,
+    wanted: &str,
+) -> Result<bool, AllocError> {
     let mut out = String::new(alloc);
-    spell_counts(&mut out, journal.counts())?;
-    Ok(out)
+    tell(&mut out, journal, alloc, step)?;
+    Ok(out.as_str() == wanted)
 }
 
-/// What replica 1 sends after it added 7 to the set 0 and counted 4 more.
-fn sent_by_another(alloc: Global) -> Result<Message, AllocError> {
-    let mut counts = Vec::new(alloc);
-    counts.push(0)?;
-    counts.push(2)?;
-    let mut rows = Vec::new(alloc);
-    rows.push(Row::new(Value::Int(7), Token::Base(1, 1), false))?;
-    let mut counted = Vec::new(alloc);
-    counted.push(0)?;
-    counted.push(4)?;
-    let mut sources = Vec::new(alloc);
-    sources.push(Sent {
-        decl: Decl {
-            name: b'a',
-            kind: Kind::OrSet,
-        },
-        content: Content::of_rows(alloc, rows),
-    })?;
-    sources.push(Sent {
-        decl: Decl {
-            name: b'b',
-            kind: Kind::OrSet,
-        },
-        content: Content::empty(alloc),
-    })?;
-    sources.push(Sent {
-        decl: Decl {
-            name: b'd',
-            kind: Kind::Counter,
-        },
-        content: Content::of_counts(alloc, counted),
-    })?;
-    Ok(Message { counts, sources })
+/// The first of the steps that tells anything else than is wanted.
+fn first_step(
+    journal: &mut Journal,
+    alloc: Global,
+    story: &[(Step, &str)],
+) -> Result<Option<u64>, AllocError> {
+    let mut at = 0u64;
+    for (step, wanted) in story {
+        if !tells(journal, alloc, *step, wanted)? {
+            return Ok(Some(at));
+        }
+        at = at.saturating_add(1);
+    }
+    Ok(None)
 }
+
+/// The first step that tells anything else, in a journal of so many nodes over these variables.
+fn first_other(
+    alloc: Global,
+    nodes: usize,
+    kinds: &[(u8, Kind)],
+    story: &[(Step, &str)],
+) -> Result<Option<u64>, AllocError> {
+    let mut journal = started(alloc, nodes, kinds)?;
+    first_step(&mut journal, alloc, story)
+}
+
+/// The set 0, the set 1, their union 2, and the counter 3.
+const OPENING: [(u8, Kind); 4] = [
+    (b'a', Kind::OrSet),
+    (b'b', Kind::OrSet),
+    (b'c', Kind::Union(0, 1)),
+    (b'd', Kind::Counter),
+];
+
+const LESS_READ: [(Step, &str); 6] = [
+    (Step::Add(0, 1), ""),
+    (Step::Add(1, 2), ""),
+    (Step::Bind(1, 2, 2), ""),
+    (Step::Bind(2, 2, 1), ""),
+    (Step::Holds(2), "1@0.1 2@0.2 "),
+    (Step::Clean(2), "y"),
+];
 
 #[test]
 fn a_bind_that_read_less_changes_nothing(rt: HostRuntime) -> Result<(), Fail> {
-    let alloc = rt.alloc();
-    let mut journal = opened(alloc, 1)?;
-    add(&mut journal, alloc, 0, 1)?;
-    add(&mut journal, alloc, 1, 2)?;
-    take(&mut journal, alloc, 1, Act::Bind(2, 2))?;
-    take(&mut journal, alloc, 2, Act::Bind(2, 1))?;
-    assert_eq!(rt; shown(&journal, alloc, 2)?.as_str(), "1@0.1 2@0.2 ");
-    assert!(rt; journal.is_clean(alloc, 2));
+    assert_eq!(rt; first_other(rt.alloc(), 1, &OPENING, &LESS_READ)?, None);
     Ok(())
 }
+
+const MAPPED: [(u8, Kind); 2] = [(b'a', Kind::OrSet), (b'm', Kind::Map(0, MapStep::Abs))];
+
+const OUT_OF_ORDER: [(Step, &str); 9] = [
+    (Step::Add(0, 1), ""),
+    (Step::Add(0, -1), ""),
+    (Step::Bind(2, 1, 2), ""),
+    (Step::Bind(1, 1, 1), ""),
+    (Step::Length, "4"),
+    (Step::Holds(1), "1@0.1 1@0.2 "),
+    (Step::Shows(1), "1 "),
+    (Step::Clean(0), "y"),
+    (Step::Clean(1), "y"),
+];
 
 #[test]
 fn a_map_is_clean_after_two_binds_out_of_order(rt: HostRuntime) -> Result<(), Fail> {
-    let alloc = rt.alloc();
-    let kinds = [(b'a', Kind::OrSet), (b'm', Kind::Map(0, MapStep::Abs))];
-    let mut journal = started(alloc, 1, &kinds)?;
-    add(&mut journal, alloc, 0, 1)?;
-    add(&mut journal, alloc, 0, -1)?;
-    take(&mut journal, alloc, 2, Act::Bind(1, 2))?;
-    take(&mut journal, alloc, 1, Act::Bind(1, 1))?;
-    assert_eq!(rt; journal.len(), 4);
-    assert_eq!(rt; shown(&journal, alloc, 1)?.as_str(), "1@0.1 1@0.2 ");
-    assert_eq!(rt; values(&journal, alloc, 1)?.as_str(), "1 ");
-    assert!(rt; journal.is_clean(alloc, 0) && journal.is_clean(alloc, 1));
+    assert_eq!(rt; first_other(rt.alloc(), 1, &MAPPED, &OUT_OF_ORDER)?, None);
     Ok(())
 }
 
-/// What a process over the sets 0 and 1 shows after numbers were added and removed.
-fn shown_by(
-    alloc: Global,
-    process: Kind,
-    updates: &[(usize, bool, i64)],
-) -> Result<String, AllocError> {
-    let kinds = [(b'a', Kind::OrSet), (b'b', Kind::OrSet), (b'p', process)];
-    let mut journal = started(alloc, 1, &kinds)?;
-    for (x, added, n) in updates {
-        if *added {
-            add(&mut journal, alloc, *x, *n)?;
-        } else {
-            remove(&mut journal, alloc, *x, *n)?;
-        }
-    }
-    let read = journal.len();
-    take(&mut journal, alloc, 1, Act::Bind(2, read))?;
-    values(&journal, alloc, 2)
-}
-
-#[test]
-fn processes_follow_their_sets(rt: HostRuntime) -> Result<(), Fail> {
-    let alloc = rt.alloc();
-    let collided = [(0, true, 1), (0, true, -1), (0, false, 1), (0, false, -1)];
-    let paired = [(0, true, 1), (0, true, 2), (1, true, 9), (0, false, 2)];
-    let met = [(0, true, 3), (1, true, 3), (1, false, 3), (1, true, 3)];
-    let even = [(0, true, 2), (0, true, 3), (0, false, 2)];
-    let twice = [(0, true, 7), (0, true, 7), (0, false, 7)];
-    let united = [(0, true, 1), (1, true, 2), (0, false, 1)];
-    let cases = [
-        (Kind::Map(0, MapStep::Abs), &collided[..2], "1 "),
-        (Kind::Map(0, MapStep::Abs), &collided[..3], "1 "),
-        (Kind::Map(0, MapStep::Abs), &collided[..], ""),
-        (Kind::Product(0, 1), &paired[..], "[1,9] "),
-        (Kind::Intersection(0, 1), &met[..3], ""),
-        (Kind::Intersection(0, 1), &met[..], "3 "),
-        (Kind::Filter(0, Condition::Even), &even[..2], "2 "),
-        (Kind::Filter(0, Condition::Even), &even[..], ""),
-        (Kind::Fold(0), &twice[..2], "7 "),
-        (Kind::Fold(0), &twice[..], ""),
-        (Kind::Union(0, 1), &united[..], "2 "),
-    ];
-    for (process, updates, expected) in &cases {
-        assert_eq!(rt; shown_by(alloc, *process, updates)?.as_str(), *expected);
-    }
-    Ok(())
-}
+const LATE: [(Step, &str); 10] = [
+    (Step::Clean(2), "y"),
+    (Step::Add(0, 1), ""),
+    (Step::Clean(2), "n"),
+    (Step::Add(1, 2), ""),
+    (Step::Bind(1, 2, 1), ""),
+    (Step::Holds(2), "1@0.1 "),
+    (Step::Clean(2), "n"),
+    (Step::Bind(1, 2, 3), ""),
+    (Step::Holds(2), "1@0.1 2@0.2 "),
+    (Step::Clean(2), "y"),
+];
 
 #[test]
 fn a_bind_that_comes_late_leaves_its_variable_unclean(rt: HostRuntime) -> Result<(), Fail> {
-    let alloc = rt.alloc();
-    let mut journal = opened(alloc, 1)?;
-    assert!(rt; journal.is_clean(alloc, 2));
-    add(&mut journal, alloc, 0, 1)?;
-    assert!(rt; !journal.is_clean(alloc, 2));
-    add(&mut journal, alloc, 1, 2)?;
-    take(&mut journal, alloc, 1, Act::Bind(2, 1))?;
-    assert_eq!(rt; shown(&journal, alloc, 2)?.as_str(), "1@0.1 ");
-    assert!(rt; !journal.is_clean(alloc, 2));
-    take(&mut journal, alloc, 1, Act::Bind(2, 3))?;
-    assert_eq!(rt; shown(&journal, alloc, 2)?.as_str(), "1@0.1 2@0.2 ");
-    assert!(rt; journal.is_clean(alloc, 2));
+    assert_eq!(rt; first_other(rt.alloc(), 1, &OPENING, &LATE)?, None);
     Ok(())
 }
+
+const UNSEEN: [(Step, &str); 6] = [
+    (Step::Add(0, 1), ""),
+    (Step::Bind(1, 2, 1), ""),
+    (Step::Remove(0, 1), ""),
+    (Step::Holds(0), "1@0.1x "),
+    (Step::Holds(2), "1@0.1 "),
+    (Step::Clean(2), "n"),
+];
 
 #[test]
 fn a_remove_that_a_bind_did_not_see_leaves_its_variable_unclean(
     rt: HostRuntime,
 ) -> Result<(), Fail> {
-    let alloc = rt.alloc();
-    let mut journal = opened(alloc, 1)?;
-    add(&mut journal, alloc, 0, 1)?;
-    take(&mut journal, alloc, 1, Act::Bind(2, 1))?;
-    remove(&mut journal, alloc, 0, 1)?;
-    assert_eq!(rt; shown(&journal, alloc, 0)?.as_str(), "1@0.1x ");
-    assert_eq!(rt; shown(&journal, alloc, 2)?.as_str(), "1@0.1 ");
-    assert!(rt; !journal.is_clean(alloc, 2));
+    assert_eq!(rt; first_other(rt.alloc(), 1, &OPENING, &UNSEEN)?, None);
     Ok(())
 }
+
+const TWICE: [(Step, &str); 7] = [
+    (Step::Add(0, 1), ""),
+    (Step::Count(3, 3), ""),
+    (Step::Deliver, ""),
+    (Step::Deliver, ""),
+    (Step::Holds(0), "1@0.1 7@1.1 "),
+    (Step::Holds(3), "3 4 "),
+    (Step::Known, "2 2 "),
+];
 
 #[test]
 fn a_delivery_that_comes_twice_adds_nothing(rt: HostRuntime) -> Result<(), Fail> {
-    let alloc = rt.alloc();
-    let mut journal = opened(alloc, 2)?;
-    add(&mut journal, alloc, 0, 1)?;
-    take(&mut journal, alloc, 0, Act::Update(3, Op::Inc(3)))?;
-    take(
-        &mut journal,
-        alloc,
-        0,
-        Act::Deliver(0, sent_by_another(alloc)?),
-    )?;
-    take(
-        &mut journal,
-        alloc,
-        0,
-        Act::Deliver(0, sent_by_another(alloc)?),
-    )?;
-    assert_eq!(rt; shown(&journal, alloc, 0)?.as_str(), "1@0.1 7@1.1 ");
-    assert_eq!(rt; shown(&journal, alloc, 3)?.as_str(), "3 4 ");
-    assert_eq!(rt; known(&journal, alloc)?.as_str(), "2 2 ");
+    assert_eq!(rt; first_other(rt.alloc(), 2, &OPENING, &TWICE)?, None);
     Ok(())
 }
+
+const DECLARED: [(Step, &str); 3] = [
+    (Step::Declare(b'e', Kind::Counter), ""),
+    (Step::Holds(4), "0 0 "),
+    (Step::Known, "0 0 "),
+];
 
 #[test]
 fn a_declared_counter_has_a_zero_for_each_node(rt: HostRuntime) -> Result<(), Fail> {
-    let alloc = rt.alloc();
-    let mut journal = opened(alloc, 2)?;
-    let decl = Decl {
-        name: b'e',
-        kind: Kind::Counter,
-    };
-    take(&mut journal, alloc, 0, Act::Extend(decl))?;
-    assert_eq!(rt; shown(&journal, alloc, 4)?.as_str(), "0 0 ");
-    assert_eq!(rt; known(&journal, alloc)?.as_str(), "0 0 ");
+    assert_eq!(rt; first_other(rt.alloc(), 2, &OPENING, &DECLARED)?, None);
     Ok(())
 }
 
+const FULL: [(Step, &str); 4] = [
+    (Step::Know(100_000), ""),
+    (Step::Add(0, 1), "full"),
+    (Step::Holds(0), ""),
+    (Step::Known, "100000 "),
+];
+
 #[test]
 fn a_replica_makes_no_more_updates_than_it_may(rt: HostRuntime) -> Result<(), Fail> {
-    let alloc = rt.alloc();
-    let mut journal = opened(alloc, 1)?;
-    let mut counts = Vec::new(alloc);
-    counts.push(100_000)?;
-    let sources = Vec::new(alloc);
-    take(
-        &mut journal,
-        alloc,
-        0,
-        Act::Deliver(0, Message { counts, sources }),
-    )?;
-    assert!(rt; !add(&mut journal, alloc, 0, 1)?);
-    assert_eq!(rt; shown(&journal, alloc, 0)?.as_str(), "");
-    assert_eq!(rt; known(&journal, alloc)?.as_str(), "100000 ");
+    assert_eq!(rt; first_other(rt.alloc(), 1, &OPENING, &FULL)?, None);
+    Ok(())
+}
+
+/// Makes steps, and then binds the variable 2 to all of them.
+fn follow(journal: &mut Journal, alloc: Global, steps: &[Step]) -> Result<(), AllocError> {
+    for step in steps {
+        enter(journal, alloc, *step)?;
+    }
+    let read = journal.len();
+    enter(journal, alloc, Step::Bind(1, 2, read))?;
+    Ok(())
+}
+
+/// Whether a process over the sets 0 and 1 shows this after the steps.
+fn shows(alloc: Global, process: Kind, steps: &[Step], wanted: &str) -> Result<bool, AllocError> {
+    let kinds = [(b'a', Kind::OrSet), (b'b', Kind::OrSet), (b'p', process)];
+    let mut journal = started(alloc, 1, &kinds)?;
+    follow(&mut journal, alloc, steps)?;
+    tells(&mut journal, alloc, Step::Shows(2), wanted)
+}
+
+/// The first process that shows anything else.
+fn first_process(alloc: Global, rows: &[(Kind, &[Step], &str)]) -> Result<Option<u64>, AllocError> {
+    let mut at = 0u64;
+    for (process, steps, wanted) in rows {
+        if !shows(alloc, *process, steps, wanted)? {
+            return Ok(Some(at));
+        }
+        at = at.saturating_add(1);
+    }
+    Ok(None)
+}
+
+/// Each process with steps, and what it shows after them.
+const FOLLOWED: [(Kind, &[Step], &str); 11] = [
+    (
+        Kind::Map(0, MapStep::Abs),
+        &[Step::Add(0, 1), Step::Add(0, -1)],
+        "1 ",
+    ),
+    (
+        Kind::Map(0, MapStep::Abs),
+        &[Step::Add(0, 1), Step::Add(0, -1), Step::Remove(0, 1)],
+        "1 ",
+    ),
+    (
+        Kind::Map(0, MapStep::Abs),
+        &[
+            Step::Add(0, 1),
+            Step::Add(0, -1),
+            Step::Remove(0, 1),
+            Step::Remove(0, -1),
+        ],
+        "",
+    ),
+    (
+        Kind::Product(0, 1),
+        &[
+            Step::Add(0, 1),
+            Step::Add(0, 2),
+            Step::Add(1, 9),
+            Step::Remove(0, 2),
+        ],
+        "[1,9] ",
+    ),
+    (
+        Kind::Intersection(0, 1),
+        &[Step::Add(0, 3), Step::Add(1, 3), Step::Remove(1, 3)],
+        "",
+    ),
+    (
+        Kind::Intersection(0, 1),
+        &[
+            Step::Add(0, 3),
+            Step::Add(1, 3),
+            Step::Remove(1, 3),
+            Step::Add(1, 3),
+        ],
+        "3 ",
+    ),
+    (
+        Kind::Filter(0, Condition::Even),
+        &[Step::Add(0, 2), Step::Add(0, 3)],
+        "2 ",
+    ),
+    (
+        Kind::Filter(0, Condition::Even),
+        &[Step::Add(0, 2), Step::Add(0, 3), Step::Remove(0, 2)],
+        "",
+    ),
+    (Kind::Fold(0), &[Step::Add(0, 7), Step::Add(0, 7)], "7 "),
+    (
+        Kind::Fold(0),
+        &[Step::Add(0, 7), Step::Add(0, 7), Step::Remove(0, 7)],
+        "",
+    ),
+    (
+        Kind::Union(0, 1),
+        &[Step::Add(0, 1), Step::Add(1, 2), Step::Remove(0, 1)],
+        "2 ",
+    ),
+];
+
+#[test]
+fn processes_follow_their_sets(rt: HostRuntime) -> Result<(), Fail> {
+    assert_eq!(rt; first_process(rt.alloc(), &FOLLOWED)?, None);
     Ok(())
 }

@@ -38,32 +38,73 @@ fn files_of(alloc: Global, graph: &[u8], script: &[u8]) -> Result<MemFiles, Allo
     Ok(files)
 }
 
-/// Whether the program ends over a library with this status and writes these texts.
+/// What the program writes to.
+#[derive(Drop)]
+struct Outputs {
+    out: MemSink,
+    err: MemSink,
+}
+
+impl Outputs {
+    /// Outputs with room for so many bytes.
+    fn new(alloc: Global, room: (u64, u64)) -> Result<Outputs, AllocError> {
+        let out = MemSink::new(alloc, room.0)?;
+        Ok(Outputs {
+            out,
+            err: MemSink::new(alloc, room.1)?,
+        })
+    }
+
+    /// Whether these texts were written.
+    fn are(&self, report: &str, told: &str) -> bool {
+        self.out.bytes() == report.as_bytes() && self.err.bytes() == told.as_bytes()
+    }
+}
+
+/// The status that the program ends with over a library.
+fn run_over(
+    alloc: Global,
+    lib: &Library,
+    line: &str,
+    files: &mut MemFiles,
+    outputs: &mut Outputs,
+) -> Result<u8, AllocError> {
+    let words = words_of(alloc, line)?;
+    let Outputs { out, err } = outputs;
+    Ok(one_thread(alloc, &words, files, out, err, lib))
+}
+
+/// The status, what is written, and the line that is told.
+type End<'a> = (u8, &'a str, &'a str);
+
+/// Whether the program ends so over a library.
 fn ends_over(
     alloc: Global,
     lib: &Library,
     line: &str,
     files: &mut MemFiles,
-    status: u8,
-    report: &str,
-    told: &str,
+    end: End,
 ) -> Result<bool, AllocError> {
-    let words = words_of(alloc, line)?;
-    let mut out = MemSink::new(alloc, 4096)?;
-    let mut err = MemSink::new(alloc, 256)?;
-    let ended = one_thread(alloc, &words, files, &mut out, &mut err, lib);
-    Ok(ended == status && out.bytes() == report.as_bytes() && err.bytes() == told.as_bytes())
+    let mut outputs = Outputs::new(alloc, (4096, 256))?;
+    let status = run_over(alloc, lib, line, files, &mut outputs)?;
+    Ok(status == end.0 && outputs.are(end.1, end.2))
 }
 
 /// The same over a library of no functions.
-fn ends(
-    alloc: Global,
-    line: &str,
-    files: &mut MemFiles,
-    status: u8,
-    report: &str,
-    told: &str,
-) -> Result<bool, AllocError> {
+fn ends(alloc: Global, line: &str, files: &mut MemFiles, end: End) -> Result<bool, AllocError> {
     let lib = Library::new(alloc);
-    ends_over(alloc, &lib, line, files, status, report, told)
+    ends_over(alloc, &lib, line, files, end)
+}
+
+/// Whether a run of a graph and a script ends so.
+fn ends_plain(alloc: Global, graph: &[u8], script: &[u8], end: End) -> Result<bool, AllocError> {
+    let mut files = files_of(alloc, graph, script)?;
+    ends(alloc, PLAIN, &mut files, end)
+}
+
+/// Whether a check of a graph ends so, where there is no script.
+fn ends_check(alloc: Global, graph: &[u8], end: End) -> Result<bool, AllocError> {
+    let mut files = MemFiles::new(alloc);
+    files.put_file(alloc, "g.json", graph)?;
+    ends(alloc, CHECK, &mut files, end)
 }

@@ -116,7 +116,10 @@ impl Combining for ByFour {
     }
 }
 
-fn rows(alloc: Global, table: &[(i64, u64, bool)]) -> Result<Vec<Row>, AllocError> {
+/// The rows of a set as data: each number, the count of its token, and whether it is dead.
+type Table<'a> = &'a [(i64, u64, bool)];
+
+fn rows(alloc: Global, table: Table) -> Result<Vec<Row>, AllocError> {
     let mut out = Vec::new(alloc);
     for (n, k, dead) in table {
         out.push(Row::new(Value::Int(*n), Token::Base(0, *k), *dead))?;
@@ -135,75 +138,121 @@ fn spell_token(out: &mut String, token: &Token) -> Result<(), AllocError> {
     }
 }
 
-fn spell(alloc: Global, rows: &[Row]) -> Result<String, AllocError> {
-    let mut out = String::new(alloc);
+fn spell_row(out: &mut String, row: &Row) -> Result<(), AllocError> {
+    print_into(out, row.value())?;
+    out.push('@')?;
+    spell_token(out, row.token())?;
+    out.push_str(if row.is_dead() { "x " } else { " " })
+}
+
+pub fn spell_rows(out: &mut String, rows: &[Row]) -> Result<(), AllocError> {
     for row in rows {
-        print_into(&mut out, row.value())?;
-        out.push('@')?;
-        spell_token(&mut out, row.token())?;
-        out.push_str(if row.is_dead() { "x " } else { " " })?;
+        spell_row(out, row)?;
     }
-    Ok(out)
+    Ok(())
+}
+
+/// Whether rows are spelled so.
+fn are_spelled(alloc: Global, rows: &[Row], wanted: &str) -> Result<bool, AllocError> {
+    let mut out = String::new(alloc);
+    spell_rows(&mut out, rows)?;
+    Ok(out.as_str() == wanted)
+}
+
+/// What is made of one set or of two.
+#[derive(Clone, Copy)]
+enum Making {
+    Join,
+    /// Removes a number from the first.
+    Remove(i64),
+    Map,
+    Filter,
+    Product,
+    Intersection,
+}
+
+fn made(
+    alloc: Global,
+    making: Making,
+    here: &[Row],
+    there: &[Row],
+) -> Result<Vec<Row>, AllocError> {
+    match making {
+        Making::Join => join(alloc, here, there),
+        Making::Remove(n) => remove_delta(alloc, &Value::Int(n), here),
+        Making::Map => map_set(alloc, &Parity, here),
+        Making::Filter => filter_set(alloc, &Positive, here),
+        Making::Product => product_sets(alloc, here, there),
+        Making::Intersection => intersect_sets(alloc, here, there),
+    }
+}
+
+/// Whether these rows are made of two sets.
+fn makes(
+    alloc: Global,
+    making: Making,
+    here: Table,
+    there: Table,
+    wanted: &str,
+) -> Result<bool, AllocError> {
+    let here = rows(alloc, here)?;
+    let there = rows(alloc, there)?;
+    are_spelled(alloc, &made(alloc, making, &here, &there)?, wanted)
 }
 
 #[test]
 fn a_death_on_either_side_survives_a_join(rt: HostRuntime) -> Result<(), Fail> {
-    let alloc = rt.alloc();
-    let here = rows(alloc, &[(1, 1, false), (2, 2, true)])?;
-    let there = rows(alloc, &[(2, 2, false), (1, 1, true), (0, 3, false)])?;
-    let spelled = spell(alloc, &join(alloc, &here, &there)?)?;
-    assert_eq!(rt; spelled.as_str(), "0@0.3 1@0.1x 2@0.2x ");
+    let here = [(1, 1, false), (2, 2, true)];
+    let there = [(2, 2, false), (1, 1, true), (0, 3, false)];
+    let wanted = "0@0.3 1@0.1x 2@0.2x ";
+    assert!(rt; makes(rt.alloc(), Making::Join, &here, &there, wanted)?);
     Ok(())
 }
 
 #[test]
 fn a_remove_buries_what_it_observes(rt: HostRuntime) -> Result<(), Fail> {
-    let alloc = rt.alloc();
-    let observed = rows(alloc, &[(1, 1, false), (1, 3, true), (2, 2, false)])?;
-    let spelled = spell(alloc, &remove_delta(alloc, &Value::Int(1), &observed)?)?;
-    assert_eq!(rt; spelled.as_str(), "1@0.1x 1@0.3x ");
+    let observed = [(1, 1, false), (1, 3, true), (2, 2, false)];
+    let wanted = "1@0.1x 1@0.3x ";
+    assert!(rt; makes(rt.alloc(), Making::Remove(1), &observed, &[], wanted)?);
     Ok(())
 }
 
 #[test]
 fn values_that_a_map_makes_one_are_dead_where_any_was(rt: HostRuntime) -> Result<(), Fail> {
-    let alloc = rt.alloc();
-    let x = rows(alloc, &[(1, 7, true), (2, 2, false), (3, 7, false)])?;
-    let spelled = spell(alloc, &map_set(alloc, &Parity, &x)?)?;
-    assert_eq!(rt; spelled.as_str(), "0@0.2 1@0.7x ");
+    let x = [(1, 7, true), (2, 2, false), (3, 7, false)];
+    let wanted = "0@0.2 1@0.7x ";
+    assert!(rt; makes(rt.alloc(), Making::Map, &x, &[], wanted)?);
     Ok(())
 }
 
 #[test]
 fn a_filter_keeps_live_and_dead_rows_alike(rt: HostRuntime) -> Result<(), Fail> {
-    let alloc = rt.alloc();
-    let x = rows(alloc, &[(-1, 1, false), (1, 2, true), (2, 3, false)])?;
-    let spelled = spell(alloc, &filter_set(alloc, &Positive, &x)?)?;
-    assert_eq!(rt; spelled.as_str(), "1@0.2x 2@0.3 ");
+    let x = [(-1, 1, false), (1, 2, true), (2, 3, false)];
+    let wanted = "1@0.2x 2@0.3 ";
+    assert!(rt; makes(rt.alloc(), Making::Filter, &x, &[], wanted)?);
     Ok(())
 }
 
 #[test]
 fn a_product_is_dead_where_either_row_is(rt: HostRuntime) -> Result<(), Fail> {
-    let alloc = rt.alloc();
-    let x = rows(alloc, &[(1, 1, false), (2, 2, true)])?;
-    let y = rows(alloc, &[(5, 3, false)])?;
-    let spelled = spell(alloc, &product_sets(alloc, &x, &y)?)?;
-    assert_eq!(rt; spelled.as_str(), "[1,5]@0.1+0.3 [2,5]@0.2+0.3x ");
+    let x = [(1, 1, false), (2, 2, true)];
+    let y = [(5, 3, false)];
+    let wanted = "[1,5]@0.1+0.3 [2,5]@0.2+0.3x ";
+    assert!(rt; makes(rt.alloc(), Making::Product, &x, &y, wanted)?);
     Ok(())
 }
 
 #[test]
 fn an_intersection_has_a_row_for_each_two_of_a_value(rt: HostRuntime) -> Result<(), Fail> {
-    let alloc = rt.alloc();
-    let x = rows(alloc, &[(3, 1, false), (4, 5, false)])?;
-    let y = rows(alloc, &[(3, 2, true), (3, 4, false)])?;
-    let spelled = spell(alloc, &intersect_sets(alloc, &x, &y)?)?;
-    assert_eq!(rt; spelled.as_str(), "3@0.1+0.2x 3@0.1+0.4 ");
+    let x = [(3, 1, false), (4, 5, false)];
+    let y = [(3, 2, true), (3, 4, false)];
+    let wanted = "3@0.1+0.2x 3@0.1+0.4 ";
+    assert!(rt; makes(rt.alloc(), Making::Intersection, &x, &y, wanted)?);
     Ok(())
 }
 
-fn shown(alloc: Global, here: &[Row], there: &[Row]) -> Result<Values, AllocError> {
+/// The values that two states show together.
+pub fn shown(alloc: Global, here: &[Row], there: &[Row]) -> Result<Values, AllocError> {
     let both = join(alloc, here, there)?;
     visible(alloc, &both)
 }
@@ -219,30 +268,86 @@ fn folded<C: Combining>(
     fold_set(alloc, c, &both)
 }
 
+/// The sum of what two states show together, how many values that are, and the sum of these values.
+fn summed(alloc: Global, here: &[Row], there: &[Row]) -> Result<(i128, u64, i128), AllocError> {
+    let sum = folded(alloc, &Sum, here, there)?;
+    let values = shown(alloc, here, there)?;
+    Ok((sum, values.len(), fold(&Sum, &values)))
+}
+
+/// The same of rows as data.
+fn sums(alloc: Global, here: Table, there: Table) -> Result<(i128, u64, i128), AllocError> {
+    let here = rows(alloc, here)?;
+    let there = rows(alloc, there)?;
+    summed(alloc, &here, &there)
+}
+
 #[test]
 fn a_value_with_two_live_tokens_counts_once(rt: HostRuntime) -> Result<(), Fail> {
-    let alloc = rt.alloc();
-    let here = rows(alloc, &[(-1, 5, false), (7, 1, false), (8, 3, true)])?;
-    let there = rows(alloc, &[(7, 2, false), (9, 4, false)])?;
-    assert_eq!(rt; folded(alloc, &Sum, &here, &there)?, 15);
-    let values = shown(alloc, &here, &there)?;
-    assert_eq!(rt; values.len(), 3);
-    assert_eq!(rt; fold(&Sum, &values), 15);
+    let here = [(-1, 5, false), (7, 1, false), (8, 3, true)];
+    let there = [(7, 2, false), (9, 4, false)];
+    assert!(rt; sums(rt.alloc(), &here, &there)? == (15, 3, 15));
     Ok(())
+}
+
+#[derive(Clone, Copy)]
+enum Folding {
+    Sum,
+    Xor,
+    ByFour,
+}
+
+fn fold_by(
+    alloc: Global,
+    folding: Folding,
+    here: &[Row],
+    there: &[Row],
+) -> Result<i128, AllocError> {
+    match folding {
+        Folding::Sum => folded(alloc, &Sum, here, there),
+        Folding::Xor => folded(alloc, &Xor, here, there),
+        Folding::ByFour => folded(alloc, &ByFour, here, there),
+    }
+}
+
+/// The fold of what two sets show together.
+fn fold_of(alloc: Global, folding: Folding, here: Table, there: Table) -> Result<i128, AllocError> {
+    let here = rows(alloc, here)?;
+    let there = rows(alloc, there)?;
+    fold_by(alloc, folding, &here, &there)
+}
+
+/// Two sets with a fold of what they show together.
+const FOLDED: [(Folding, Table, Table, i128); 5] = [
+    (Folding::Sum, &[(-1, 1, false), (5, 2, false)], &[], 4),
+    (Folding::Xor, &[(-1, 1, false), (5, 2, false)], &[], -6),
+    (Folding::ByFour, &[(-1, 1, false), (5, 2, false)], &[], 0),
+    (Folding::Sum, &[(7, 1, false)], &[(7, 2, false)], 7),
+    (
+        Folding::Sum,
+        &[(7, 1, true), (7, 2, true)],
+        &[(7, 2, false)],
+        0,
+    ),
+];
+
+/// The first row that is folded otherwise.
+fn first_other(
+    alloc: Global,
+    rows: &[(Folding, Table, Table, i128)],
+) -> Result<Option<u64>, AllocError> {
+    let mut at = 0u64;
+    for (folding, here, there, wanted) in rows {
+        if fold_of(alloc, *folding, here, there)? != *wanted {
+            return Ok(Some(at));
+        }
+        at = at.saturating_add(1);
+    }
+    Ok(None)
 }
 
 #[test]
 fn folds_take_what_is_visible_as_it_is(rt: HostRuntime) -> Result<(), Fail> {
-    let alloc = rt.alloc();
-    let none = rows(alloc, &[])?;
-    let signed = rows(alloc, &[(-1, 1, false), (5, 2, false)])?;
-    assert_eq!(rt; folded(alloc, &Sum, &signed, &none)?, 4);
-    assert_eq!(rt; folded(alloc, &Xor, &signed, &none)?, -6);
-    assert_eq!(rt; folded(alloc, &ByFour, &signed, &none)?, 0);
-    let live = rows(alloc, &[(7, 1, false)])?;
-    let other = rows(alloc, &[(7, 2, false)])?;
-    assert_eq!(rt; folded(alloc, &Sum, &live, &other)?, 7);
-    let dead = rows(alloc, &[(7, 1, true), (7, 2, true)])?;
-    assert_eq!(rt; folded(alloc, &Sum, &dead, &other)?, 0);
+    assert_eq!(rt; first_other(rt.alloc(), &FOLDED)?, None);
     Ok(())
 }

@@ -1,9 +1,10 @@
 //! Reads and writes that fail, and files at the limit of what is read.
 
-use super::{FIRST_REPORT, FIRST_SCRIPT, PLAIN, UNION, ends, files_of, words_of};
-use lasp_edge::{MemFiles, MemSink};
+use super::{
+    End, FIRST_REPORT, FIRST_SCRIPT, Outputs, PLAIN, UNION, ends, ends_plain, files_of, run_over,
+};
+use lasp_edge::MemFiles;
 use lasp_fns::Library;
-use lasp_run::one_thread;
 use std::alloc::{AllocError, Global};
 use std::test::Fail;
 
@@ -18,102 +19,125 @@ const UNREAD: [(&str, u64, &str); 7] = [
     ("g.json", 1, "read fault s.json\n"),
 ];
 
+/// Puts the files of these names there, a graph or a script.
+fn put_files(alloc: Global, files: &mut MemFiles, names: &str) -> Result<(), AllocError> {
+    for name in names.split_whitespace() {
+        let content = if name == "g.json" {
+            UNION
+        } else {
+            FIRST_SCRIPT
+        };
+        files.put_file(alloc, name, content.as_bytes())?;
+    }
+    Ok(())
+}
+
+/// Whether a run ends so where these files are there and a read is set to fail.
+fn ends_unread(alloc: Global, there: &str, call: u64, told: &str) -> Result<bool, AllocError> {
+    let mut files = MemFiles::new(alloc);
+    put_files(alloc, &mut files, there)?;
+    files.fail_at(call)?;
+    ends(alloc, PLAIN, &mut files, (4, "", told))
+}
+
 #[test]
 fn files_that_cannot_be_read_are_named(rt: HostRuntime) -> Result<(), Fail> {
-    let alloc = rt.alloc();
     for (there, call, told) in &UNREAD {
-        let mut files = MemFiles::new(alloc);
-        for name in there.split_whitespace() {
-            files.put_file(
-                alloc,
-                name,
-                if name == "g.json" {
-                    UNION.as_bytes()
-                } else {
-                    FIRST_SCRIPT.as_bytes()
-                },
-            )?;
-        }
-        files.fail_at(*call)?;
         assert!(rt;
-            ends(alloc, PLAIN, &mut files, 4, "", told)?,
+            ends_unread(rt.alloc(), there, *call, told)?,
             "{there} {call}"
         );
     }
     Ok(())
 }
 
+/// A text with spaces behind it, so many bytes in all.
+fn padded(alloc: Global, text: &[u8], length: usize) -> Result<Vec<u8>, AllocError> {
+    let mut bytes = Vec::from_slice(alloc, text)?;
+    bytes.resize(length, b' ')?;
+    Ok(bytes)
+}
+
+/// Whether a run ends so of a graph and a script that have so many bytes.
+fn ends_padded(
+    alloc: Global,
+    graph: (&str, usize),
+    script: (&str, usize),
+    end: End,
+) -> Result<bool, AllocError> {
+    let graph = padded(alloc, graph.0.as_bytes(), graph.1)?;
+    let script = padded(alloc, script.0.as_bytes(), script.1)?;
+    ends_plain(alloc, &graph, &script, end)
+}
+
+/// A graph and a script with their lengths, and how a run of them ends.
+const PADDED: [((&str, usize), (&str, usize), End); 3] = [
+    (
+        ("[]", 16_777_216),
+        ("[[\"nodes\",1]]", 13),
+        (0, "known 0 0\n", ""),
+    ),
+    (
+        ("[]", 16_777_217),
+        ("[[\"nodes\",1]]", 13),
+        (4, "", "too long g.json 16777216\n"),
+    ),
+    (
+        ("[]", 2),
+        ("[]", 16_777_217),
+        (4, "", "too long s.json 16777216\n"),
+    ),
+];
+
 #[test]
 fn files_are_read_up_to_16777216_bytes(rt: HostRuntime) -> Result<(), Fail> {
-    let alloc = rt.alloc();
-    let mut graph = vec![in alloc; b' '; 16_777_216]?;
-    graph[0] = b'[';
-    graph[1] = b']';
-    let mut files = files_of(alloc, &graph, b"[[\"nodes\",1]]")?;
-    assert!(rt; ends(alloc, PLAIN, &mut files, 0, "known 0 0\n", "")?);
-    graph.push(b' ')?;
-    files.put_file(alloc, "g.json", &graph)?;
-    assert!(rt;
-        ends(
-            alloc,
-            PLAIN,
-            &mut files,
-            4,
-            "",
-            "too long g.json 16777216\n"
-        )?
-    );
-    files.put_file(alloc, "g.json", b"[]")?;
-    files.put_file(alloc, "s.json", &graph)?;
-    assert!(rt;
-        ends(
-            alloc,
-            PLAIN,
-            &mut files,
-            4,
-            "",
-            "too long s.json 16777216\n"
-        )?
-    );
+    for (graph, script, end) in &PADDED {
+        assert!(rt; ends_padded(rt.alloc(), *graph, *script, *end)?);
+    }
     Ok(())
 }
 
-/// The status, and what was written to both outputs, where the first takes so many bytes and then fails.
-fn left_by(
+/// Outputs of which the first takes so many bytes and then fails.
+fn failing(alloc: Global, taken: Option<u64>, room: u64) -> Result<Outputs, AllocError> {
+    let mut outputs = Outputs::new(alloc, (18, room))?;
+    if let Some(taken) = taken {
+        outputs.out.fail_at(0, taken)?;
+    }
+    Ok(outputs)
+}
+
+/// Whether a run leaves this in such outputs.
+fn leaves(
     alloc: Global,
     files: &mut MemFiles,
-    taken: Option<u64>,
-    room: u64,
-) -> Result<(u8, MemSink, MemSink), AllocError> {
-    let words = words_of(alloc, PLAIN)?;
+    outputs: &mut Outputs,
+    end: End,
+) -> Result<bool, AllocError> {
     let lib = Library::new(alloc);
-    let mut out = MemSink::new(alloc, 18)?;
-    let mut err = MemSink::new(alloc, room)?;
-    if let Some(taken) = taken {
-        out.fail_at(0, taken)?;
-    }
-    let status = one_thread(alloc, &words, files, &mut out, &mut err, &lib);
-    Ok((status, out, err))
+    let status = run_over(alloc, &lib, PLAIN, files, outputs)?;
+    Ok(status == end.0 && outputs.are(end.1, end.2))
+}
+
+/// Whether the report is cut after so many bytes.
+fn is_cut(alloc: Global, taken: u64) -> Result<bool, AllocError> {
+    let mut files = files_of(alloc, UNION.as_bytes(), FIRST_SCRIPT.as_bytes())?;
+    let mut outputs = failing(alloc, Some(taken), 256)?;
+    let first = FIRST_REPORT.get(..taken as usize).unwrap_or("");
+    leaves(alloc, &mut files, &mut outputs, (5, first, "write fault\n"))
+}
+
+/// Whether the line that is told is cut where there is no room for more.
+fn is_line_cut(alloc: Global) -> Result<bool, AllocError> {
+    let mut files = files_of(alloc, b"{}", b"[]")?;
+    let mut outputs = failing(alloc, None, 3)?;
+    leaves(alloc, &mut files, &mut outputs, (2, "", "gra"))
 }
 
 #[test]
 fn a_failed_write_leaves_a_first_part(rt: HostRuntime) -> Result<(), Fail> {
-    let alloc = rt.alloc();
     for taken in 0..18 {
-        let mut files = files_of(alloc, UNION.as_bytes(), FIRST_SCRIPT.as_bytes())?;
-        let (status, out, err) = left_by(alloc, &mut files, Some(taken), 256)?;
-        assert_eq!(rt; status, 5, "after {taken}");
-        assert_eq!(rt;
-            out.bytes(),
-            FIRST_REPORT.as_bytes().get(..taken as usize).unwrap_or(b""),
-            "after {taken}"
-        );
-        assert_eq!(rt; err.bytes(), b"write fault\n".as_slice(), "after {taken}");
+        assert!(rt; is_cut(rt.alloc(), taken)?, "after {taken}");
     }
-    let mut files = files_of(alloc, b"{}", b"[]")?;
-    let (status, out, err) = left_by(alloc, &mut files, None, 3)?;
-    assert_eq!(rt; status, 2);
-    assert_eq!(rt; out.bytes(), b"".as_slice());
-    assert_eq!(rt; err.bytes(), b"gra".as_slice());
+    assert!(rt; is_line_cut(rt.alloc())?);
     Ok(())
 }

@@ -8,17 +8,19 @@ ghost use Rattle.model_functions.specs.Lift.{lifted};
 ghost use Rattle.lasp_value.specs.Value.{val_of};
 ghost use Rattle.lasp_fns.specs.Answers.{Answers};
 
-use super::{CHECK, PLAIN, ends_over, files_of};
+use super::{CHECK, End, PLAIN, ends_over, files_of};
 use lasp_fns::{
-    Library, LiftOp, MapOp, MapOps, PredOp, PredOps, StoredLift, StoredMap, StoredPred, apply_lift,
-    apply_map, apply_pred,
+    Library, LibraryRefused, LiftOp, MapOp, MapOps, PredOp, PredOps, StoredLift, StoredMap,
+    StoredPred, apply_lift, apply_map, apply_pred,
 };
 use lasp_value::Value;
 use std::alloc::{AllocError, Global};
 use std::test::Fail;
 
-/// Each words, graph and script with the status, the report and the line on `err`.
-const RUNS: [(&str, &str, &str, u8, &str, &str); 11] = [
+/// Words, a graph and a script with the status, the report and the line on `err`.
+type Run<'a> = (&'a str, &'a str, &'a str, u8, &'a str, &'a str);
+
+const RUNS: [Run; 11] = [
     // two values that a function makes one go one by one
     (
         PLAIN,
@@ -148,16 +150,32 @@ fn itself(alloc: Global) -> Result<StoredLift, AllocError> {
     Ok(StoredLift::new(LiftOp::Itself, Box::new(alloc, l)?))
 }
 
-/// The first run that ends otherwise than its row says.
-fn first_other(
+/// Adds the functions that the graphs name.
+fn add_functions(alloc: Global, lib: &mut Library) -> Result<(), LibraryRefused> {
+    lib.add_map("abs", map_of(alloc, MapOp::Abs)?)?;
+    lib.add_map("succ", map_of(alloc, MapOp::Add(1))?)?;
+    lib.add_lift("itself", itself(alloc)?)?;
+    lib.add_pred("even", even(alloc)?)
+}
+
+/// Whether the program ends so over a library.
+fn ends_over_files(
     alloc: Global,
     lib: &Library,
-    runs: &[(&str, &str, &str, u8, &str, &str)],
-) -> Result<Option<u64>, AllocError> {
+    line: &str,
+    files: (&str, &str),
+    end: End,
+) -> Result<bool, AllocError> {
+    let mut files = files_of(alloc, files.0.as_bytes(), files.1.as_bytes())?;
+    ends_over(alloc, lib, line, &mut files, end)
+}
+
+/// The first run that ends otherwise than its row says.
+fn first_over(alloc: Global, lib: &Library, runs: &[Run]) -> Result<Option<u64>, AllocError> {
     let mut at = 0u64;
     for (line, graph, script, status, report, told) in runs {
-        let mut files = files_of(alloc, graph.as_bytes(), script.as_bytes())?;
-        if !ends_over(alloc, lib, line, &mut files, *status, report, told)? {
+        let end = (*status, *report, *told);
+        if !ends_over_files(alloc, lib, line, (*graph, *script), end)? {
             return Ok(Some(at));
         }
         at = at.saturating_add(1);
@@ -165,14 +183,15 @@ fn first_other(
     Ok(None)
 }
 
+/// The same over a library of these functions.
+fn first_other(alloc: Global, runs: &[Run]) -> Result<Option<u64>, LibraryRefused> {
+    let mut lib = Library::new(alloc);
+    add_functions(alloc, &mut lib)?;
+    Ok(first_over(alloc, &lib, runs)?)
+}
+
 #[test]
 fn functions_are_those_of_the_library(rt: HostRuntime) -> Result<(), Fail> {
-    let alloc = rt.alloc();
-    let mut lib = Library::new(alloc);
-    lib.add_map("abs", map_of(alloc, MapOp::Abs)?)?;
-    lib.add_map("succ", map_of(alloc, MapOp::Add(1))?)?;
-    lib.add_lift("itself", itself(alloc)?)?;
-    lib.add_pred("even", even(alloc)?)?;
-    assert_eq!(rt; first_other(alloc, &lib, &RUNS)?, None);
+    assert_eq!(rt; first_other(rt.alloc(), &RUNS)?, None);
     Ok(())
 }

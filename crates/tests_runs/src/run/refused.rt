@@ -1,8 +1,26 @@
 //! Words, graphs and scripts that are refused, with the line that each is told.
 
-use super::{CHECK, FIRST_SCRIPT, PLAIN, UNION, ends, files_of};
+use super::{End, FIRST_SCRIPT, PLAIN, UNION, ends, ends_check, ends_plain, files_of};
 use lasp_edge::{Files, MemFiles};
+use std::alloc::{AllocError, Global};
 use std::test::Fail;
+
+/// Whether a file can't be read.
+fn is_unreadable(alloc: Global, files: &mut MemFiles, name: &str) -> bool {
+    files.fetch(alloc, name, 4096).is_err()
+}
+
+/// Whether the program ends so where this read is set to fail, and leaves it to come: then it is the next one that fails.
+fn ends_before(
+    alloc: Global,
+    line: &str,
+    files: &mut MemFiles,
+    read: (u64, &str),
+    end: End,
+) -> Result<bool, AllocError> {
+    files.fail_at(read.0)?;
+    Ok(ends(alloc, line, files, end)? && is_unreadable(alloc, files, read.1))
+}
 
 const WRONG_WORDS: [&str; 14] = [
     "",
@@ -21,15 +39,17 @@ const WRONG_WORDS: [&str; 14] = [
     "--help",
 ];
 
+/// Whether these words are told the usage before any file is read.
+fn are_told_the_usage(alloc: Global, line: &str) -> Result<bool, AllocError> {
+    let mut files = files_of(alloc, UNION.as_bytes(), FIRST_SCRIPT.as_bytes())?;
+    let end = (1, "", "usage\n");
+    ends_before(alloc, line, &mut files, (0, "g.json"), end)
+}
+
 #[test]
 fn other_words_are_told_the_usage_and_read_no_file(rt: HostRuntime) -> Result<(), Fail> {
-    let alloc = rt.alloc();
     for line in &WRONG_WORDS {
-        let mut files = files_of(alloc, UNION.as_bytes(), FIRST_SCRIPT.as_bytes())?;
-        files.fail_at(0)?;
-        assert!(rt; ends(alloc, line, &mut files, 1, "", "usage\n")?, "{line}");
-        // the first read is still to come
-        assert!(rt; files.fetch(alloc, "g.json", 4096).is_err(), "{line}");
+        assert!(rt; are_told_the_usage(rt.alloc(), line)?, "{line}");
     }
     Ok(())
 }
@@ -174,27 +194,32 @@ const REFUSED: [(&[u8], &[u8], u8, &str); 29] = [
 
 #[test]
 fn bad_graphs_and_scripts_are_refused_by_their_first_cause(rt: HostRuntime) -> Result<(), Fail> {
-    let alloc = rt.alloc();
     for (graph, script, status, told) in &REFUSED {
-        let mut files = files_of(alloc, graph, script)?;
-        assert!(rt;
-            ends(alloc, PLAIN, &mut files, *status, "", told)?,
-            "{told}"
-        );
+        let end = (*status, "", *told);
+        assert!(rt; ends_plain(rt.alloc(), graph, script, end)?, "{told}");
     }
     Ok(())
 }
 
+/// Whether a graph is refused so before the script is read.
+fn leaves_the_script(
+    alloc: Global,
+    graph: &[u8],
+    script: &[u8],
+    told: &str,
+) -> Result<bool, AllocError> {
+    let mut files = files_of(alloc, graph, script)?;
+    ends_before(alloc, PLAIN, &mut files, (1, "s.json"), (2, "", told))
+}
+
 #[test]
 fn a_refused_graph_leaves_the_script_unread(rt: HostRuntime) -> Result<(), Fail> {
-    let alloc = rt.alloc();
     for (graph, script, status, told) in &REFUSED {
         if *status == 2 {
-            let mut files = files_of(alloc, graph, script)?;
-            files.fail_at(1)?;
-            assert!(rt; ends(alloc, PLAIN, &mut files, 2, "", told)?, "{told}");
-            // the second read is still to come
-            assert!(rt; files.fetch(alloc, "s.json", 4096).is_err(), "{told}");
+            assert!(rt;
+                leaves_the_script(rt.alloc(), graph, script, told)?,
+                "{told}"
+            );
         }
     }
     Ok(())
@@ -202,12 +227,9 @@ fn a_refused_graph_leaves_the_script_unread(rt: HostRuntime) -> Result<(), Fail>
 
 #[test]
 fn check_refuses_what_a_run_refuses(rt: HostRuntime) -> Result<(), Fail> {
-    let alloc = rt.alloc();
     for (graph, _, status, told) in &REFUSED {
         if *status == 2 {
-            let mut files = MemFiles::new(alloc);
-            files.put_file(alloc, "g.json", graph)?;
-            assert!(rt; ends(alloc, CHECK, &mut files, 2, "", told)?, "{told}");
+            assert!(rt; ends_check(rt.alloc(), graph, (2, "", *told))?, "{told}");
         }
     }
     Ok(())

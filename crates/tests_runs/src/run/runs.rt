@@ -1,7 +1,6 @@
 //! Runs and checks of graphs without functions, with the texts that they write.
 
-use super::{CHECK, FIRST_REPORT, FIRST_SCRIPT, PLAIN, UNION, ends, files_of};
-use lasp_edge::MemFiles;
+use super::{End, FIRST_REPORT, FIRST_SCRIPT, UNION, ends_check, ends_plain};
 use std::alloc::{AllocError, Global};
 use std::test::Fail;
 
@@ -66,45 +65,45 @@ const RUNS: [(&str, &str, &str); 11] = [
 
 #[test]
 fn runs_write_the_reports_that_were_worked_out_by_hand(rt: HostRuntime) -> Result<(), Fail> {
-    let alloc = rt.alloc();
     for (graph, script, report) in &RUNS {
-        let mut files = files_of(alloc, graph.as_bytes(), script.as_bytes())?;
+        let end = (0, *report, "");
         assert!(rt;
-            ends(alloc, PLAIN, &mut files, 0, report, "")?,
+            ends_plain(rt.alloc(), graph.as_bytes(), script.as_bytes(), end)?,
             "{graph} {script}"
         );
     }
     Ok(())
 }
 
-/// A script that adds the numbers below `many` to `a` and those below 256 to `b`.
-fn additions(alloc: Global, many: u32) -> Result<String, AllocError> {
-    let mut script = String::from_str(alloc, "[[\"nodes\",1]")?;
+/// Appends commands that add the numbers below `many` to a set.
+fn add_all(script: &mut String, set: char, many: u32) -> Result<(), AllocError> {
     for k in 0..many {
-        write!(&mut script, ",[\"add\",0,\"a\",{k}]")?;
+        write!(script, ",[\"add\",0,\"{set}\",{k}]")?;
     }
-    for k in 0..256 {
-        write!(&mut script, ",[\"add\",0,\"b\",{k}]")?;
-    }
-    script.push(']')?;
-    Ok(script)
+    Ok(())
+}
+
+/// Appends a script that adds the numbers below `many` to `a` and those below 256 to `b`.
+fn add_both(script: &mut String, many: u32) -> Result<(), AllocError> {
+    script.push_str("[[\"nodes\",1]")?;
+    add_all(script, 'a', many)?;
+    add_all(script, 'b', 256)?;
+    script.push(']')
+}
+
+const PRODUCT: &str = "[[\"a\",\"orset\"],[\"b\",\"orset\"],[\"p\",\"product\",\"a\",\"b\"]]";
+
+/// Whether a product of so many numbers and 256 ends so.
+fn ends_product(alloc: Global, many: u32, end: End) -> Result<bool, AllocError> {
+    let mut script = String::new(alloc);
+    add_both(&mut script, many)?;
+    ends_plain(alloc, PRODUCT.as_bytes(), script.as_bytes(), end)
 }
 
 #[test]
 fn a_product_reaches_the_limit_of_rows_and_does_not_pass_it(rt: HostRuntime) -> Result<(), Fail> {
-    let alloc = rt.alloc();
-    let graph = "[[\"a\",\"orset\"],[\"b\",\"orset\"],[\"p\",\"product\",\"a\",\"b\"]]";
-    for (many, status, report, told) in [
-        (256, 0, "known 0 512\n", ""),
-        (257, 6, "", "too large 514 0 p\n"),
-    ] {
-        let script = additions(alloc, many)?;
-        let mut files = files_of(alloc, graph.as_bytes(), script.as_bytes())?;
-        assert!(rt;
-            ends(alloc, PLAIN, &mut files, status, report, told)?,
-            "{many}"
-        );
-    }
+    assert!(rt; ends_product(rt.alloc(), 256, (0, "known 0 512\n", ""))?);
+    assert!(rt; ends_product(rt.alloc(), 257, (6, "", "too large 514 0 p\n"))?);
     Ok(())
 }
 
@@ -123,11 +122,9 @@ const CHECKS: [(&str, &str); 3] = [
 
 #[test]
 fn check_tells_the_kind_and_the_width_of_each_variable(rt: HostRuntime) -> Result<(), Fail> {
-    let alloc = rt.alloc();
     for (graph, told) in &CHECKS {
-        let mut files = MemFiles::new(alloc);
-        files.put_file(alloc, "g.json", graph.as_bytes())?;
-        assert!(rt; ends(alloc, CHECK, &mut files, 0, told, "")?, "{graph}");
+        let end = (0, *told, "");
+        assert!(rt; ends_check(rt.alloc(), graph.as_bytes(), end)?, "{graph}");
     }
     Ok(())
 }
