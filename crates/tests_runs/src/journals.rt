@@ -2,6 +2,7 @@
 //! A row is spelled as its value, its token after `@`, and `x` where it is dead; a count as its number.
 
 use crate::sets::{shown, spell_rows};
+use crate::wrong::{Wrong, found};
 use lasp_value::{Token, Value, Values, print_into};
 use plain_journals::{
     Act, Condition, Content, Decl, Entry, Frame, Journal, Kind, MapStep, Message, Op, Refused, Sent,
@@ -188,43 +189,38 @@ fn tell(
     }
 }
 
-/// Whether a step tells this.
-fn tells(
+/// A step with what it tells.
+type Asked = (Step, &'static str);
+
+/// Makes a step, which tells this.
+fn check_step(
     journal: &mut Journal,
     alloc: Global,
     step: Step,
-    wanted: &str,
-) -> Result<bool, AllocError> {
+    wanted: &'static str,
+) -> Result<(), Wrong> {
     let mut out = String::new(alloc);
     tell(&mut out, journal, alloc, step)?;
-    Ok(out.as_str() == wanted)
+    found(out.as_str() == wanted, wanted)
 }
 
-/// The first of the steps that tells anything else than is wanted.
-fn first_step(
-    journal: &mut Journal,
-    alloc: Global,
-    story: &[(Step, &str)],
-) -> Result<Option<u64>, AllocError> {
-    let mut at = 0u64;
+/// Makes steps, each of which tells what it says.
+fn check_steps(journal: &mut Journal, alloc: Global, story: &[Asked]) -> Result<(), Wrong> {
     for (step, wanted) in story {
-        if !tells(journal, alloc, *step, wanted)? {
-            return Ok(Some(at));
-        }
-        at = at.saturating_add(1);
+        check_step(journal, alloc, *step, wanted)?;
     }
-    Ok(None)
+    Ok(())
 }
 
-/// The first step that tells anything else, in a journal of so many nodes over these variables.
-fn first_other(
+/// Makes steps in a new journal of so many nodes over these variables.
+fn check_story(
     alloc: Global,
     nodes: usize,
     kinds: &[(u8, Kind)],
-    story: &[(Step, &str)],
-) -> Result<Option<u64>, AllocError> {
+    story: &[Asked],
+) -> Result<(), Wrong> {
     let mut journal = started(alloc, nodes, kinds)?;
-    first_step(&mut journal, alloc, story)
+    check_steps(&mut journal, alloc, story)
 }
 
 /// The set 0, the set 1, their union 2, and the counter 3.
@@ -235,7 +231,7 @@ const OPENING: [(u8, Kind); 4] = [
     (b'd', Kind::Counter),
 ];
 
-const LESS_READ: [(Step, &str); 6] = [
+const LESS_READ: [Asked; 6] = [
     (Step::Add(0, 1), ""),
     (Step::Add(1, 2), ""),
     (Step::Bind(1, 2, 2), ""),
@@ -246,13 +242,13 @@ const LESS_READ: [(Step, &str); 6] = [
 
 #[test]
 fn a_bind_that_read_less_changes_nothing(rt: HostRuntime) -> Result<(), Fail> {
-    assert_eq!(rt; first_other(rt.alloc(), 1, &OPENING, &LESS_READ)?, None);
+    check_story(rt.alloc(), 1, &OPENING, &LESS_READ)?;
     Ok(())
 }
 
 const MAPPED: [(u8, Kind); 2] = [(b'a', Kind::OrSet), (b'm', Kind::Map(0, MapStep::Abs))];
 
-const OUT_OF_ORDER: [(Step, &str); 9] = [
+const OUT_OF_ORDER: [Asked; 9] = [
     (Step::Add(0, 1), ""),
     (Step::Add(0, -1), ""),
     (Step::Bind(2, 1, 2), ""),
@@ -266,11 +262,11 @@ const OUT_OF_ORDER: [(Step, &str); 9] = [
 
 #[test]
 fn a_map_is_clean_after_two_binds_out_of_order(rt: HostRuntime) -> Result<(), Fail> {
-    assert_eq!(rt; first_other(rt.alloc(), 1, &MAPPED, &OUT_OF_ORDER)?, None);
+    check_story(rt.alloc(), 1, &MAPPED, &OUT_OF_ORDER)?;
     Ok(())
 }
 
-const LATE: [(Step, &str); 10] = [
+const LATE: [Asked; 10] = [
     (Step::Clean(2), "y"),
     (Step::Add(0, 1), ""),
     (Step::Clean(2), "n"),
@@ -285,11 +281,11 @@ const LATE: [(Step, &str); 10] = [
 
 #[test]
 fn a_bind_that_comes_late_leaves_its_variable_unclean(rt: HostRuntime) -> Result<(), Fail> {
-    assert_eq!(rt; first_other(rt.alloc(), 1, &OPENING, &LATE)?, None);
+    check_story(rt.alloc(), 1, &OPENING, &LATE)?;
     Ok(())
 }
 
-const UNSEEN: [(Step, &str); 6] = [
+const UNSEEN: [Asked; 6] = [
     (Step::Add(0, 1), ""),
     (Step::Bind(1, 2, 1), ""),
     (Step::Remove(0, 1), ""),
@@ -302,11 +298,11 @@ const UNSEEN: [(Step, &str); 6] = [
 fn a_remove_that_a_bind_did_not_see_leaves_its_variable_unclean(
     rt: HostRuntime,
 ) -> Result<(), Fail> {
-    assert_eq!(rt; first_other(rt.alloc(), 1, &OPENING, &UNSEEN)?, None);
+    check_story(rt.alloc(), 1, &OPENING, &UNSEEN)?;
     Ok(())
 }
 
-const TWICE: [(Step, &str); 7] = [
+const TWICE: [Asked; 7] = [
     (Step::Add(0, 1), ""),
     (Step::Count(3, 3), ""),
     (Step::Deliver, ""),
@@ -318,11 +314,11 @@ const TWICE: [(Step, &str); 7] = [
 
 #[test]
 fn a_delivery_that_comes_twice_adds_nothing(rt: HostRuntime) -> Result<(), Fail> {
-    assert_eq!(rt; first_other(rt.alloc(), 2, &OPENING, &TWICE)?, None);
+    check_story(rt.alloc(), 2, &OPENING, &TWICE)?;
     Ok(())
 }
 
-const DECLARED: [(Step, &str); 3] = [
+const DECLARED: [Asked; 3] = [
     (Step::Declare(b'e', Kind::Counter), ""),
     (Step::Holds(4), "0 0 "),
     (Step::Known, "0 0 "),
@@ -330,11 +326,11 @@ const DECLARED: [(Step, &str); 3] = [
 
 #[test]
 fn a_declared_counter_has_a_zero_for_each_node(rt: HostRuntime) -> Result<(), Fail> {
-    assert_eq!(rt; first_other(rt.alloc(), 2, &OPENING, &DECLARED)?, None);
+    check_story(rt.alloc(), 2, &OPENING, &DECLARED)?;
     Ok(())
 }
 
-const FULL: [(Step, &str); 4] = [
+const FULL: [Asked; 4] = [
     (Step::Know(100_000), ""),
     (Step::Add(0, 1), "full"),
     (Step::Holds(0), ""),
@@ -343,7 +339,7 @@ const FULL: [(Step, &str); 4] = [
 
 #[test]
 fn a_replica_makes_no_more_updates_than_it_may(rt: HostRuntime) -> Result<(), Fail> {
-    assert_eq!(rt; first_other(rt.alloc(), 1, &OPENING, &FULL)?, None);
+    check_story(rt.alloc(), 1, &OPENING, &FULL)?;
     Ok(())
 }
 
@@ -357,28 +353,26 @@ fn follow(journal: &mut Journal, alloc: Global, steps: &[Step]) -> Result<(), Al
     Ok(())
 }
 
-/// Whether a process over the sets 0 and 1 shows this after the steps.
-fn shows(alloc: Global, process: Kind, steps: &[Step], wanted: &str) -> Result<bool, AllocError> {
-    let kinds = [(b'a', Kind::OrSet), (b'b', Kind::OrSet), (b'p', process)];
+/// A process over the sets 0 and 1 with steps, and what it shows after them.
+type Followed = (Kind, &'static [Step], &'static str);
+
+/// The process shows this after the steps.
+fn check_process(alloc: Global, row: &Followed) -> Result<(), Wrong> {
+    let kinds = [(b'a', Kind::OrSet), (b'b', Kind::OrSet), (b'p', row.0)];
     let mut journal = started(alloc, 1, &kinds)?;
-    follow(&mut journal, alloc, steps)?;
-    tells(&mut journal, alloc, Step::Shows(2), wanted)
+    follow(&mut journal, alloc, row.1)?;
+    check_step(&mut journal, alloc, Step::Shows(2), row.2)
 }
 
-/// The first process that shows anything else.
-fn first_process(alloc: Global, rows: &[(Kind, &[Step], &str)]) -> Result<Option<u64>, AllocError> {
-    let mut at = 0u64;
-    for (process, steps, wanted) in rows {
-        if !shows(alloc, *process, steps, wanted)? {
-            return Ok(Some(at));
-        }
-        at = at.saturating_add(1);
+/// Each process shows what its row says.
+fn check_processes(alloc: Global, rows: &[Followed]) -> Result<(), Wrong> {
+    for row in rows {
+        check_process(alloc, row)?;
     }
-    Ok(None)
+    Ok(())
 }
 
-/// Each process with steps, and what it shows after them.
-const FOLLOWED: [(Kind, &[Step], &str); 11] = [
+const FOLLOWED: [Followed; 11] = [
     (
         Kind::Map(0, MapStep::Abs),
         &[Step::Add(0, 1), Step::Add(0, -1)],
@@ -449,6 +443,6 @@ const FOLLOWED: [(Kind, &[Step], &str); 11] = [
 
 #[test]
 fn processes_follow_their_sets(rt: HostRuntime) -> Result<(), Fail> {
-    assert_eq!(rt; first_process(rt.alloc(), &FOLLOWED)?, None);
+    check_processes(rt.alloc(), &FOLLOWED)?;
     Ok(())
 }

@@ -7,3 +7,5 @@ mod journals;
 mod run;
 #[cfg(test)]
 mod sets;
+#[cfg(test)]
+mod wrong;

@@ -5,6 +5,7 @@ mod functions;
 mod refused;
 mod runs;
 
+use crate::wrong::{Wrong, found};
 use lasp_edge::{MemFiles, MemSink};
 use lasp_fns::Library;
 use lasp_run::one_thread;
@@ -55,9 +56,11 @@ impl Outputs {
         })
     }
 
-    /// Whether these texts were written.
-    fn are(&self, report: &str, told: &str) -> bool {
-        self.out.bytes() == report.as_bytes() && self.err.bytes() == told.as_bytes()
+    /// A run ended so.
+    fn check(&self, status: u8, end: End) -> Result<(), Wrong> {
+        found(self.out.bytes() == end.1.as_bytes(), end.1)?;
+        found(self.err.bytes() == end.2.as_bytes(), end.2)?;
+        found(status == end.0, "the status")
     }
 }
 
@@ -75,36 +78,36 @@ fn run_over(
 }
 
 /// The status, what is written, and the line that is told.
-type End<'a> = (u8, &'a str, &'a str);
+type End = (u8, &'static str, &'static str);
 
-/// Whether the program ends so over a library.
-fn ends_over(
+/// The program ends so over a library.
+fn check_over(
     alloc: Global,
     lib: &Library,
     line: &str,
     files: &mut MemFiles,
     end: End,
-) -> Result<bool, AllocError> {
+) -> Result<(), Wrong> {
     let mut outputs = Outputs::new(alloc, (4096, 256))?;
     let status = run_over(alloc, lib, line, files, &mut outputs)?;
-    Ok(status == end.0 && outputs.are(end.1, end.2))
+    outputs.check(status, end)
 }
 
-/// The same over a library of no functions.
-fn ends(alloc: Global, line: &str, files: &mut MemFiles, end: End) -> Result<bool, AllocError> {
+/// The program ends so over a library of no functions.
+fn check_run(alloc: Global, line: &str, files: &mut MemFiles, end: End) -> Result<(), Wrong> {
     let lib = Library::new(alloc);
-    ends_over(alloc, &lib, line, files, end)
+    check_over(alloc, &lib, line, files, end)
 }
 
-/// Whether a run of a graph and a script ends so.
-fn ends_plain(alloc: Global, graph: &[u8], script: &[u8], end: End) -> Result<bool, AllocError> {
+/// A run of a graph and a script ends so.
+fn check_plain(alloc: Global, graph: &[u8], script: &[u8], end: End) -> Result<(), Wrong> {
     let mut files = files_of(alloc, graph, script)?;
-    ends(alloc, PLAIN, &mut files, end)
+    check_run(alloc, PLAIN, &mut files, end)
 }
 
-/// Whether a check of a graph ends so, where there is no script.
-fn ends_check(alloc: Global, graph: &[u8], end: End) -> Result<bool, AllocError> {
+/// A check of a graph ends so, where there is no script.
+fn check_graph(alloc: Global, graph: &[u8], end: End) -> Result<(), Wrong> {
     let mut files = MemFiles::new(alloc);
     files.put_file(alloc, "g.json", graph)?;
-    ends(alloc, CHECK, &mut files, end)
+    check_run(alloc, CHECK, &mut files, end)
 }

@@ -6,6 +6,7 @@ ghost use Rattle.std.specs.Int.{int_bit_xor, int_wrapping_add};
 ghost use mir.Syntax.{w128};
 ghost use Rattle.plain_sets.specs.Rules.{parity_of, is_positive, number_of, sum_by_four};
 
+use crate::wrong::{Wrong, found};
 use lasp_value::{Token, Value, Values, print_into};
 use plain_sets::{
     Combining, Mapping, Predicate, Row, filter_set, fold, fold_set, intersect_sets, join, map_set,
@@ -117,7 +118,7 @@ impl Combining for ByFour {
 }
 
 /// The rows of a set as data: each number, the count of its token, and whether it is dead.
-type Table<'a> = &'a [(i64, u64, bool)];
+type Table = &'static [(i64, u64, bool)];
 
 fn rows(alloc: Global, table: Table) -> Result<Vec<Row>, AllocError> {
     let mut out = Vec::new(alloc);
@@ -152,11 +153,11 @@ pub fn spell_rows(out: &mut String, rows: &[Row]) -> Result<(), AllocError> {
     Ok(())
 }
 
-/// Whether rows are spelled so.
-fn are_spelled(alloc: Global, rows: &[Row], wanted: &str) -> Result<bool, AllocError> {
+/// The rows are spelled so.
+fn check_spelled(alloc: Global, rows: &[Row], wanted: &'static str) -> Result<(), Wrong> {
     let mut out = String::new(alloc);
     spell_rows(&mut out, rows)?;
-    Ok(out.as_str() == wanted)
+    found(out.as_str() == wanted, wanted)
 }
 
 /// What is made of one set or of two.
@@ -187,67 +188,90 @@ fn made(
     }
 }
 
-/// Whether these rows are made of two sets.
-fn makes(
-    alloc: Global,
-    making: Making,
-    here: Table,
-    there: Table,
-    wanted: &str,
-) -> Result<bool, AllocError> {
-    let here = rows(alloc, here)?;
-    let there = rows(alloc, there)?;
-    are_spelled(alloc, &made(alloc, making, &here, &there)?, wanted)
+/// What is made of two sets, with its rows.
+type Made = (Making, Table, Table, &'static str);
+
+fn check_made(alloc: Global, row: Made) -> Result<(), Wrong> {
+    let here = rows(alloc, row.1)?;
+    let there = rows(alloc, row.2)?;
+    check_spelled(alloc, &made(alloc, row.0, &here, &there)?, row.3)
 }
+
+const JOINED: Made = (
+    Making::Join,
+    &[(1, 1, false), (2, 2, true)],
+    &[(2, 2, false), (1, 1, true), (0, 3, false)],
+    "0@0.3 1@0.1x 2@0.2x ",
+);
 
 #[test]
 fn a_death_on_either_side_survives_a_join(rt: HostRuntime) -> Result<(), Fail> {
-    let here = [(1, 1, false), (2, 2, true)];
-    let there = [(2, 2, false), (1, 1, true), (0, 3, false)];
-    let wanted = "0@0.3 1@0.1x 2@0.2x ";
-    assert!(rt; makes(rt.alloc(), Making::Join, &here, &there, wanted)?);
+    check_made(rt.alloc(), JOINED)?;
     Ok(())
 }
+
+const REMOVED: Made = (
+    Making::Remove(1),
+    &[(1, 1, false), (1, 3, true), (2, 2, false)],
+    &[],
+    "1@0.1x 1@0.3x ",
+);
 
 #[test]
 fn a_remove_buries_what_it_observes(rt: HostRuntime) -> Result<(), Fail> {
-    let observed = [(1, 1, false), (1, 3, true), (2, 2, false)];
-    let wanted = "1@0.1x 1@0.3x ";
-    assert!(rt; makes(rt.alloc(), Making::Remove(1), &observed, &[], wanted)?);
+    check_made(rt.alloc(), REMOVED)?;
     Ok(())
 }
+
+const MAPPED: Made = (
+    Making::Map,
+    &[(1, 7, true), (2, 2, false), (3, 7, false)],
+    &[],
+    "0@0.2 1@0.7x ",
+);
 
 #[test]
 fn values_that_a_map_makes_one_are_dead_where_any_was(rt: HostRuntime) -> Result<(), Fail> {
-    let x = [(1, 7, true), (2, 2, false), (3, 7, false)];
-    let wanted = "0@0.2 1@0.7x ";
-    assert!(rt; makes(rt.alloc(), Making::Map, &x, &[], wanted)?);
+    check_made(rt.alloc(), MAPPED)?;
     Ok(())
 }
+
+const FILTERED: Made = (
+    Making::Filter,
+    &[(-1, 1, false), (1, 2, true), (2, 3, false)],
+    &[],
+    "1@0.2x 2@0.3 ",
+);
 
 #[test]
 fn a_filter_keeps_live_and_dead_rows_alike(rt: HostRuntime) -> Result<(), Fail> {
-    let x = [(-1, 1, false), (1, 2, true), (2, 3, false)];
-    let wanted = "1@0.2x 2@0.3 ";
-    assert!(rt; makes(rt.alloc(), Making::Filter, &x, &[], wanted)?);
+    check_made(rt.alloc(), FILTERED)?;
     Ok(())
 }
+
+const PAIRED: Made = (
+    Making::Product,
+    &[(1, 1, false), (2, 2, true)],
+    &[(5, 3, false)],
+    "[1,5]@0.1+0.3 [2,5]@0.2+0.3x ",
+);
 
 #[test]
 fn a_product_is_dead_where_either_row_is(rt: HostRuntime) -> Result<(), Fail> {
-    let x = [(1, 1, false), (2, 2, true)];
-    let y = [(5, 3, false)];
-    let wanted = "[1,5]@0.1+0.3 [2,5]@0.2+0.3x ";
-    assert!(rt; makes(rt.alloc(), Making::Product, &x, &y, wanted)?);
+    check_made(rt.alloc(), PAIRED)?;
     Ok(())
 }
 
+const MET: Made = (
+    Making::Intersection,
+    &[(3, 1, false), (4, 5, false)],
+    &[(3, 2, true), (3, 4, false)],
+    "3@0.1+0.2x 3@0.1+0.4 ",
+);
+
 #[test]
 fn an_intersection_has_a_row_for_each_two_of_a_value(rt: HostRuntime) -> Result<(), Fail> {
-    let x = [(3, 1, false), (4, 5, false)];
-    let y = [(3, 2, true), (3, 4, false)];
-    let wanted = "3@0.1+0.2x 3@0.1+0.4 ";
-    assert!(rt; makes(rt.alloc(), Making::Intersection, &x, &y, wanted)?);
+    check_made(rt.alloc(), MET)?;
     Ok(())
 }
 
@@ -268,28 +292,38 @@ fn folded<C: Combining>(
     fold_set(alloc, c, &both)
 }
 
-/// The sum of what two states show together, how many values that are, and the sum of these values.
-fn summed(alloc: Global, here: &[Row], there: &[Row]) -> Result<(i128, u64, i128), AllocError> {
-    let sum = folded(alloc, &Sum, here, there)?;
+/// Two states show so many values together with this sum, which is also the sum of these values.
+fn check_shown(
+    alloc: Global,
+    here: &[Row],
+    there: &[Row],
+    sum: i128,
+    count: u64,
+) -> Result<(), Wrong> {
+    let folded = folded(alloc, &Sum, here, there)?;
     let values = shown(alloc, here, there)?;
-    Ok((sum, values.len(), fold(&Sum, &values)))
+    let is_shown = folded == sum && values.len() == count && fold(&Sum, &values) == sum;
+    found(is_shown, "the sum of the values")
 }
 
 /// The same of rows as data.
-fn sums(alloc: Global, here: Table, there: Table) -> Result<(i128, u64, i128), AllocError> {
+fn check_sum(alloc: Global, here: Table, there: Table, sum: i128, count: u64) -> Result<(), Wrong> {
     let here = rows(alloc, here)?;
     let there = rows(alloc, there)?;
-    summed(alloc, &here, &there)
+    check_shown(alloc, &here, &there, sum, count)
 }
+
+const HERE: Table = &[(-1, 5, false), (7, 1, false), (8, 3, true)];
+
+const THERE: Table = &[(7, 2, false), (9, 4, false)];
 
 #[test]
 fn a_value_with_two_live_tokens_counts_once(rt: HostRuntime) -> Result<(), Fail> {
-    let here = [(-1, 5, false), (7, 1, false), (8, 3, true)];
-    let there = [(7, 2, false), (9, 4, false)];
-    assert!(rt; sums(rt.alloc(), &here, &there)? == (15, 3, 15));
+    check_sum(rt.alloc(), HERE, THERE, 15, 3)?;
     Ok(())
 }
 
+/// What numbers are folded by.
 #[derive(Clone, Copy)]
 enum Folding {
     Sum,
@@ -310,44 +344,62 @@ fn fold_by(
     }
 }
 
-/// The fold of what two sets show together.
-fn fold_of(alloc: Global, folding: Folding, here: Table, there: Table) -> Result<i128, AllocError> {
-    let here = rows(alloc, here)?;
-    let there = rows(alloc, there)?;
-    fold_by(alloc, folding, &here, &there)
+/// What numbers are folded by, two sets, the fold of what they show together, and its name.
+type Folded = (Folding, Table, Table, i128, &'static str);
+
+fn check_fold(alloc: Global, row: &Folded) -> Result<(), Wrong> {
+    let here = rows(alloc, row.1)?;
+    let there = rows(alloc, row.2)?;
+    found(fold_by(alloc, row.0, &here, &there)? == row.3, row.4)
 }
 
-/// Two sets with a fold of what they show together.
-const FOLDED: [(Folding, Table, Table, i128); 5] = [
-    (Folding::Sum, &[(-1, 1, false), (5, 2, false)], &[], 4),
-    (Folding::Xor, &[(-1, 1, false), (5, 2, false)], &[], -6),
-    (Folding::ByFour, &[(-1, 1, false), (5, 2, false)], &[], 0),
-    (Folding::Sum, &[(7, 1, false)], &[(7, 2, false)], 7),
+fn check_folds(alloc: Global, rows: &[Folded]) -> Result<(), Wrong> {
+    for row in rows {
+        check_fold(alloc, row)?;
+    }
+    Ok(())
+}
+
+const FOLDED: [Folded; 5] = [
+    (
+        Folding::Sum,
+        &[(-1, 1, false), (5, 2, false)],
+        &[],
+        4,
+        "a sum",
+    ),
+    (
+        Folding::Xor,
+        &[(-1, 1, false), (5, 2, false)],
+        &[],
+        -6,
+        "an exclusive or",
+    ),
+    (
+        Folding::ByFour,
+        &[(-1, 1, false), (5, 2, false)],
+        &[],
+        0,
+        "a sum by four",
+    ),
+    (
+        Folding::Sum,
+        &[(7, 1, false)],
+        &[(7, 2, false)],
+        7,
+        "a sum of one value with two tokens",
+    ),
     (
         Folding::Sum,
         &[(7, 1, true), (7, 2, true)],
         &[(7, 2, false)],
         0,
+        "a sum of a dead value",
     ),
 ];
 
-/// The first row that is folded otherwise.
-fn first_other(
-    alloc: Global,
-    rows: &[(Folding, Table, Table, i128)],
-) -> Result<Option<u64>, AllocError> {
-    let mut at = 0u64;
-    for (folding, here, there, wanted) in rows {
-        if fold_of(alloc, *folding, here, there)? != *wanted {
-            return Ok(Some(at));
-        }
-        at = at.saturating_add(1);
-    }
-    Ok(None)
-}
-
 #[test]
 fn folds_take_what_is_visible_as_it_is(rt: HostRuntime) -> Result<(), Fail> {
-    assert_eq!(rt; first_other(rt.alloc(), &FOLDED)?, None);
+    check_folds(rt.alloc(), &FOLDED)?;
     Ok(())
 }

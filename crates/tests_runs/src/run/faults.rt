@@ -1,15 +1,17 @@
 //! Reads and writes that fail, and files at the limit of what is read.
 
 use super::{
-    End, FIRST_REPORT, FIRST_SCRIPT, Outputs, PLAIN, UNION, ends, ends_plain, files_of, run_over,
+    End, FIRST_REPORT, FIRST_SCRIPT, Outputs, PLAIN, UNION, check_plain, check_run, files_of,
+    run_over,
 };
+use crate::wrong::Wrong;
 use lasp_edge::MemFiles;
 use lasp_fns::Library;
 use std::alloc::{AllocError, Global};
 use std::test::Fail;
 
 /// The files that are there, the read that is set to fail, and the file that is told.
-const UNREAD: [(&str, u64, &str); 7] = [
+const UNREAD: [(&str, u64, &'static str); 7] = [
     ("g.json s.json", 0, "read fault g.json\n"),
     ("g.json s.json", 1, "read fault s.json\n"),
     ("g.json", 9, "read fault s.json\n"),
@@ -32,21 +34,18 @@ fn put_files(alloc: Global, files: &mut MemFiles, names: &str) -> Result<(), All
     Ok(())
 }
 
-/// Whether a run ends so where these files are there and a read is set to fail.
-fn ends_unread(alloc: Global, there: &str, call: u64, told: &str) -> Result<bool, AllocError> {
+/// A run ends so where these files are there and a read is set to fail.
+fn check_unread(alloc: Global, there: &str, call: u64, told: &'static str) -> Result<(), Wrong> {
     let mut files = MemFiles::new(alloc);
     put_files(alloc, &mut files, there)?;
     files.fail_at(call)?;
-    ends(alloc, PLAIN, &mut files, (4, "", told))
+    check_run(alloc, PLAIN, &mut files, (4, "", told))
 }
 
 #[test]
 fn files_that_cannot_be_read_are_named(rt: HostRuntime) -> Result<(), Fail> {
     for (there, call, told) in &UNREAD {
-        assert!(rt;
-            ends_unread(rt.alloc(), there, *call, told)?,
-            "{there} {call}"
-        );
+        check_unread(rt.alloc(), there, *call, told)?;
     }
     Ok(())
 }
@@ -58,16 +57,16 @@ fn padded(alloc: Global, text: &[u8], length: usize) -> Result<Vec<u8>, AllocErr
     Ok(bytes)
 }
 
-/// Whether a run ends so of a graph and a script that have so many bytes.
-fn ends_padded(
+/// A run ends so of a graph and a script that have so many bytes.
+fn check_padded(
     alloc: Global,
     graph: (&str, usize),
     script: (&str, usize),
     end: End,
-) -> Result<bool, AllocError> {
+) -> Result<(), Wrong> {
     let graph = padded(alloc, graph.0.as_bytes(), graph.1)?;
     let script = padded(alloc, script.0.as_bytes(), script.1)?;
-    ends_plain(alloc, &graph, &script, end)
+    check_plain(alloc, &graph, &script, end)
 }
 
 /// A graph and a script with their lengths, and how a run of them ends.
@@ -92,7 +91,7 @@ const PADDED: [((&str, usize), (&str, usize), End); 3] = [
 #[test]
 fn files_are_read_up_to_16777216_bytes(rt: HostRuntime) -> Result<(), Fail> {
     for (graph, script, end) in &PADDED {
-        assert!(rt; ends_padded(rt.alloc(), *graph, *script, *end)?);
+        check_padded(rt.alloc(), *graph, *script, *end)?;
     }
     Ok(())
 }
@@ -106,38 +105,38 @@ fn failing(alloc: Global, taken: Option<u64>, room: u64) -> Result<Outputs, Allo
     Ok(outputs)
 }
 
-/// Whether a run leaves this in such outputs.
-fn leaves(
+/// A run with such outputs ends so.
+fn check_left(
     alloc: Global,
     files: &mut MemFiles,
     outputs: &mut Outputs,
     end: End,
-) -> Result<bool, AllocError> {
+) -> Result<(), Wrong> {
     let lib = Library::new(alloc);
     let status = run_over(alloc, &lib, PLAIN, files, outputs)?;
-    Ok(status == end.0 && outputs.are(end.1, end.2))
+    outputs.check(status, end)
 }
 
-/// Whether the report is cut after so many bytes.
-fn is_cut(alloc: Global, taken: u64) -> Result<bool, AllocError> {
+/// The report is cut after so many bytes.
+fn check_cut(alloc: Global, taken: u64) -> Result<(), Wrong> {
     let mut files = files_of(alloc, UNION.as_bytes(), FIRST_SCRIPT.as_bytes())?;
     let mut outputs = failing(alloc, Some(taken), 256)?;
     let first = FIRST_REPORT.get(..taken as usize).unwrap_or("");
-    leaves(alloc, &mut files, &mut outputs, (5, first, "write fault\n"))
+    check_left(alloc, &mut files, &mut outputs, (5, first, "write fault\n"))
 }
 
-/// Whether the line that is told is cut where there is no room for more.
-fn is_line_cut(alloc: Global) -> Result<bool, AllocError> {
+/// The line that is told is cut where there is no room for more.
+fn check_line_cut(alloc: Global) -> Result<(), Wrong> {
     let mut files = files_of(alloc, b"{}", b"[]")?;
     let mut outputs = failing(alloc, None, 3)?;
-    leaves(alloc, &mut files, &mut outputs, (2, "", "gra"))
+    check_left(alloc, &mut files, &mut outputs, (2, "", "gra"))
 }
 
 #[test]
 fn a_failed_write_leaves_a_first_part(rt: HostRuntime) -> Result<(), Fail> {
     for taken in 0..18 {
-        assert!(rt; is_cut(rt.alloc(), taken)?, "after {taken}");
+        check_cut(rt.alloc(), taken)?;
     }
-    assert!(rt; is_line_cut(rt.alloc())?);
+    check_line_cut(rt.alloc())?;
     Ok(())
 }

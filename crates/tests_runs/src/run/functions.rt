@@ -8,7 +8,8 @@ ghost use Rattle.model_functions.specs.Lift.{lifted};
 ghost use Rattle.lasp_value.specs.Value.{val_of};
 ghost use Rattle.lasp_fns.specs.Answers.{Answers};
 
-use super::{CHECK, End, PLAIN, ends_over, files_of};
+use super::{CHECK, PLAIN, check_over, files_of};
+use crate::wrong::Wrong;
 use lasp_fns::{
     Library, LibraryRefused, LiftOp, MapOp, MapOps, PredOp, PredOps, StoredLift, StoredMap,
     StoredPred, apply_lift, apply_map, apply_pred,
@@ -18,7 +19,14 @@ use std::alloc::{AllocError, Global};
 use std::test::Fail;
 
 /// Words, a graph and a script with the status, the report and the line on `err`.
-type Run<'a> = (&'a str, &'a str, &'a str, u8, &'a str, &'a str);
+type Run = (
+    &'static str,
+    &'static str,
+    &'static str,
+    u8,
+    &'static str,
+    &'static str,
+);
 
 const RUNS: [Run; 11] = [
     // two values that a function makes one go one by one
@@ -158,40 +166,30 @@ fn add_functions(alloc: Global, lib: &mut Library) -> Result<(), LibraryRefused>
     lib.add_pred("even", even(alloc)?)
 }
 
-/// Whether the program ends so over a library.
-fn ends_over_files(
-    alloc: Global,
-    lib: &Library,
-    line: &str,
-    files: (&str, &str),
-    end: End,
-) -> Result<bool, AllocError> {
-    let mut files = files_of(alloc, files.0.as_bytes(), files.1.as_bytes())?;
-    ends_over(alloc, lib, line, &mut files, end)
+/// A run ends as its row says.
+fn check_row(alloc: Global, lib: &Library, row: &Run) -> Result<(), Wrong> {
+    let (line, graph, script, status, report, told) = *row;
+    let mut files = files_of(alloc, graph.as_bytes(), script.as_bytes())?;
+    check_over(alloc, lib, line, &mut files, (status, report, told))
 }
 
-/// The first run that ends otherwise than its row says.
-fn first_over(alloc: Global, lib: &Library, runs: &[Run]) -> Result<Option<u64>, AllocError> {
-    let mut at = 0u64;
-    for (line, graph, script, status, report, told) in runs {
-        let end = (*status, *report, *told);
-        if !ends_over_files(alloc, lib, line, (*graph, *script), end)? {
-            return Ok(Some(at));
-        }
-        at = at.saturating_add(1);
+/// Each run ends as its row says.
+fn check_rows(alloc: Global, lib: &Library, rows: &[Run]) -> Result<(), Wrong> {
+    for row in rows {
+        check_row(alloc, lib, row)?;
     }
-    Ok(None)
+    Ok(())
 }
 
 /// The same over a library of these functions.
-fn first_other(alloc: Global, runs: &[Run]) -> Result<Option<u64>, LibraryRefused> {
+fn check_functions(alloc: Global, rows: &[Run]) -> Result<(), Wrong> {
     let mut lib = Library::new(alloc);
     add_functions(alloc, &mut lib)?;
-    Ok(first_over(alloc, &lib, runs)?)
+    check_rows(alloc, &lib, rows)
 }
 
 #[test]
 fn functions_are_those_of_the_library(rt: HostRuntime) -> Result<(), Fail> {
-    assert_eq!(rt; first_other(rt.alloc(), &RUNS)?, None);
+    check_functions(rt.alloc(), &RUNS)?;
     Ok(())
 }

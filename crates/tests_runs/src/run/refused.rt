@@ -1,25 +1,27 @@
 //! Words, graphs and scripts that are refused, with the line that each is told.
 
-use super::{End, FIRST_SCRIPT, PLAIN, UNION, ends, ends_check, ends_plain, files_of};
+use super::{End, FIRST_SCRIPT, PLAIN, UNION, check_graph, check_plain, check_run, files_of};
+use crate::wrong::{Wrong, found};
 use lasp_edge::{Files, MemFiles};
-use std::alloc::{AllocError, Global};
+use std::alloc::Global;
 use std::test::Fail;
 
-/// Whether a file can't be read.
-fn is_unreadable(alloc: Global, files: &mut MemFiles, name: &str) -> bool {
-    files.fetch(alloc, name, 4096).is_err()
+/// A file can't be read.
+fn check_unreadable(alloc: Global, files: &mut MemFiles, name: &'static str) -> Result<(), Wrong> {
+    found(files.fetch(alloc, name, 4096).is_err(), name)
 }
 
-/// Whether the program ends so where this read is set to fail, and leaves it to come: then it is the next one that fails.
-fn ends_before(
+/// The program ends so where this read is set to fail, and leaves it to come.
+fn check_before(
     alloc: Global,
     line: &str,
     files: &mut MemFiles,
-    read: (u64, &str),
+    read: (u64, &'static str),
     end: End,
-) -> Result<bool, AllocError> {
+) -> Result<(), Wrong> {
     files.fail_at(read.0)?;
-    Ok(ends(alloc, line, files, end)? && is_unreadable(alloc, files, read.1))
+    check_run(alloc, line, files, end)?;
+    check_unreadable(alloc, files, read.1)
 }
 
 const WRONG_WORDS: [&str; 14] = [
@@ -39,23 +41,25 @@ const WRONG_WORDS: [&str; 14] = [
     "--help",
 ];
 
-/// Whether these words are told the usage before any file is read.
-fn are_told_the_usage(alloc: Global, line: &str) -> Result<bool, AllocError> {
+/// These words are told the usage before any file is read.
+fn check_usage(alloc: Global, line: &str) -> Result<(), Wrong> {
     let mut files = files_of(alloc, UNION.as_bytes(), FIRST_SCRIPT.as_bytes())?;
     let end = (1, "", "usage\n");
-    ends_before(alloc, line, &mut files, (0, "g.json"), end)
+    check_before(alloc, line, &mut files, (0, "g.json"), end)
 }
 
 #[test]
 fn other_words_are_told_the_usage_and_read_no_file(rt: HostRuntime) -> Result<(), Fail> {
     for line in &WRONG_WORDS {
-        assert!(rt; are_told_the_usage(rt.alloc(), line)?, "{line}");
+        check_usage(rt.alloc(), line)?;
     }
     Ok(())
 }
 
-/// Each graph and script with the status and the line that it is refused by.
-const REFUSED: [(&[u8], &[u8], u8, &str); 29] = [
+/// A graph and a script with the status and the line that they are refused by.
+type Refusal = (&'static [u8], &'static [u8], u8, &'static str);
+
+const REFUSED: [Refusal; 29] = [
     (b"", b"", 2, "graph 0 NotJson\n"),
     (b"[[\"a\",\"orset\"]", b"", 2, "graph 0 NotJson\n"),
     (b"[[\"\xff\",\"orset\"]]", b"", 2, "graph 0 NotJson\n"),
@@ -195,31 +199,22 @@ const REFUSED: [(&[u8], &[u8], u8, &str); 29] = [
 #[test]
 fn bad_graphs_and_scripts_are_refused_by_their_first_cause(rt: HostRuntime) -> Result<(), Fail> {
     for (graph, script, status, told) in &REFUSED {
-        let end = (*status, "", *told);
-        assert!(rt; ends_plain(rt.alloc(), graph, script, end)?, "{told}");
+        check_plain(rt.alloc(), graph, script, (*status, "", told))?;
     }
     Ok(())
 }
 
-/// Whether a graph is refused so before the script is read.
-fn leaves_the_script(
-    alloc: Global,
-    graph: &[u8],
-    script: &[u8],
-    told: &str,
-) -> Result<bool, AllocError> {
-    let mut files = files_of(alloc, graph, script)?;
-    ends_before(alloc, PLAIN, &mut files, (1, "s.json"), (2, "", told))
+/// A graph is refused so before the script is read.
+fn check_script_unread(alloc: Global, row: &Refusal) -> Result<(), Wrong> {
+    let mut files = files_of(alloc, row.0, row.1)?;
+    check_before(alloc, PLAIN, &mut files, (1, "s.json"), (2, "", row.3))
 }
 
 #[test]
 fn a_refused_graph_leaves_the_script_unread(rt: HostRuntime) -> Result<(), Fail> {
-    for (graph, script, status, told) in &REFUSED {
-        if *status == 2 {
-            assert!(rt;
-                leaves_the_script(rt.alloc(), graph, script, told)?,
-                "{told}"
-            );
+    for row in &REFUSED {
+        if row.2 == 2 {
+            check_script_unread(rt.alloc(), row)?;
         }
     }
     Ok(())
@@ -229,7 +224,7 @@ fn a_refused_graph_leaves_the_script_unread(rt: HostRuntime) -> Result<(), Fail>
 fn check_refuses_what_a_run_refuses(rt: HostRuntime) -> Result<(), Fail> {
     for (graph, _, status, told) in &REFUSED {
         if *status == 2 {
-            assert!(rt; ends_check(rt.alloc(), graph, (2, "", *told))?, "{told}");
+            check_graph(rt.alloc(), graph, (2, "", told))?;
         }
     }
     Ok(())

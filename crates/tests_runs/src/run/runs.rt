@@ -1,11 +1,12 @@
 //! Runs and checks of graphs without functions, with the texts that they write.
 
-use super::{End, FIRST_REPORT, FIRST_SCRIPT, UNION, ends_check, ends_plain};
+use super::{End, FIRST_REPORT, FIRST_SCRIPT, UNION, check_graph, check_plain};
+use crate::wrong::Wrong;
 use std::alloc::{AllocError, Global};
 use std::test::Fail;
 
 /// Each graph and script with its report.
-const RUNS: [(&str, &str, &str); 11] = [
+const RUNS: [(&str, &str, &'static str); 11] = [
     ("[]", "[[\"nodes\",1]]", "known 0 0\n"),
     (UNION, FIRST_SCRIPT, FIRST_REPORT),
     (
@@ -67,10 +68,7 @@ const RUNS: [(&str, &str, &str); 11] = [
 fn runs_write_the_reports_that_were_worked_out_by_hand(rt: HostRuntime) -> Result<(), Fail> {
     for (graph, script, report) in &RUNS {
         let end = (0, *report, "");
-        assert!(rt;
-            ends_plain(rt.alloc(), graph.as_bytes(), script.as_bytes(), end)?,
-            "{graph} {script}"
-        );
+        check_plain(rt.alloc(), graph.as_bytes(), script.as_bytes(), end)?;
     }
     Ok(())
 }
@@ -93,22 +91,22 @@ fn add_both(script: &mut String, many: u32) -> Result<(), AllocError> {
 
 const PRODUCT: &str = "[[\"a\",\"orset\"],[\"b\",\"orset\"],[\"p\",\"product\",\"a\",\"b\"]]";
 
-/// Whether a product of so many numbers and 256 ends so.
-fn ends_product(alloc: Global, many: u32, end: End) -> Result<bool, AllocError> {
+/// A product of so many numbers and 256 ends so.
+fn check_product(alloc: Global, many: u32, end: End) -> Result<(), Wrong> {
     let mut script = String::new(alloc);
     add_both(&mut script, many)?;
-    ends_plain(alloc, PRODUCT.as_bytes(), script.as_bytes(), end)
+    check_plain(alloc, PRODUCT.as_bytes(), script.as_bytes(), end)
 }
 
 #[test]
 fn a_product_reaches_the_limit_of_rows_and_does_not_pass_it(rt: HostRuntime) -> Result<(), Fail> {
-    assert!(rt; ends_product(rt.alloc(), 256, (0, "known 0 512\n", ""))?);
-    assert!(rt; ends_product(rt.alloc(), 257, (6, "", "too large 514 0 p\n"))?);
+    check_product(rt.alloc(), 256, (0, "known 0 512\n", ""))?;
+    check_product(rt.alloc(), 257, (6, "", "too large 514 0 p\n"))?;
     Ok(())
 }
 
 /// Each graph with what `check` tells of it.
-const CHECKS: [(&str, &str); 3] = [
+const CHECKS: [(&str, &'static str); 3] = [
     ("[]", ""),
     (
         "[[\"a\",\"orset\"],[\"b\",\"product\",\"a\",\"a\"],[\"c\",\"product\",\"b\",\"b\"],[\"d\",\"product\",\"c\",\"c\"],[\"e\",\"product\",\"d\",\"d\"]]",
@@ -123,8 +121,7 @@ const CHECKS: [(&str, &str); 3] = [
 #[test]
 fn check_tells_the_kind_and_the_width_of_each_variable(rt: HostRuntime) -> Result<(), Fail> {
     for (graph, told) in &CHECKS {
-        let end = (0, *told, "");
-        assert!(rt; ends_check(rt.alloc(), graph.as_bytes(), end)?, "{graph}");
+        check_graph(rt.alloc(), graph.as_bytes(), (0, told, ""))?;
     }
     Ok(())
 }
