@@ -4,14 +4,31 @@ use crate::spelled::{evaluated, spell_core, spell_states};
 use crate::wrong::Wrong;
 use lasp_core::{Core, Released};
 use lasp_fns::Library;
+use lasp_graph::States;
 use std::alloc::{AllocError, Global};
 
 /// A core before a call: all that a refused one must leave as it is, and how many entries and waiting reads there were.
 #[derive(Drop)]
 pub struct Before {
     text: String,
+    pub counts: Counts,
+}
+
+/// How many entries and waiting reads there are.
+#[derive(Clone, Copy)]
+pub struct Counts {
     entries: u64,
     parked: u64,
+}
+
+impl Counts {
+    /// What stands now.
+    pub fn of(core: &Core) -> Counts {
+        Counts {
+            entries: core.journal_len(),
+            parked: core.parked_len(),
+        }
+    }
 }
 
 impl Before {
@@ -19,8 +36,7 @@ impl Before {
     pub fn of(alloc: Global, core: &Core) -> Result<Before, AllocError> {
         Ok(Before {
             text: spell_core(alloc, core)?,
-            entries: core.journal_len(),
-            parked: core.parked_len(),
+            counts: Counts::of(core),
         })
     }
 
@@ -32,24 +48,14 @@ impl Before {
             Err(Wrong::Changed)
         }
     }
-
-    /// There is one more entry, and the reads that no longer wait were released.
-    pub fn check_entered(&self, core: &Core, released: &Released) -> Result<(), Wrong> {
-        check_entered(core, self.entries, self.parked, released)
-    }
 }
 
 /// A call added one entry to so many, and released those of so many waiting reads that no longer wait, in ascending order.
-pub fn check_entered(
-    core: &Core,
-    entries: u64,
-    parked: u64,
-    released: &Released,
-) -> Result<(), Wrong> {
-    if core.journal_len().checked_sub(entries) != Some(1) {
+pub fn check_entered(core: &Core, before: Counts, released: &Released) -> Result<(), Wrong> {
+    if core.journal_len().checked_sub(before.entries) != Some(1) {
         return Err(Wrong::Journal);
     }
-    if parked.checked_sub(core.parked_len()) == Some(released.len()) && ascend(released) {
+    if before.parked.checked_sub(core.parked_len()) == Some(released.len()) && ascend(released) {
         Ok(())
     } else {
         Err(Wrong::Released)
@@ -66,12 +72,23 @@ fn ascend(released: &Released) -> bool {
     true
 }
 
+/// The states as a text.
+fn spelled(alloc: Global, states: &States) -> Result<String, AllocError> {
+    let mut out = String::new(alloc);
+    spell_states(&mut out, states)?;
+    Ok(out)
+}
+
+/// What plain evaluation of the sources gives, as a text.
+fn spelled_evaluated(alloc: Global, core: &Core, lib: &Library) -> Result<String, Wrong> {
+    let states = evaluated(alloc, core, lib)?;
+    Ok(spelled(alloc, &states)?)
+}
+
 /// Whether the states are what plain evaluation of the sources gives.
 fn is_evaluated(alloc: Global, core: &Core, lib: &Library) -> Result<bool, Wrong> {
-    let mut shown = String::new(alloc);
-    spell_states(&mut shown, core.states())?;
-    let mut wanted = String::new(alloc);
-    spell_states(&mut wanted, &evaluated(alloc, core, lib)?)?;
+    let shown = spelled(alloc, core.states())?;
+    let wanted = spelled_evaluated(alloc, core, lib)?;
     Ok(shown.as_str() == wanted.as_str())
 }
 

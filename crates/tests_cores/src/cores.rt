@@ -18,9 +18,11 @@ use lasp_core::{Core, ReadNo, Released, UpdateRefused};
 use lasp_fns::{Library, StepLib};
 use lasp_graph::{Decl, DeclRefused, Graph, read_decl, read_graph};
 use lasp_job::Job;
+use lasp_node::message_of;
 use lasp_orset::add_delta;
 use lasp_state::{Op, State, Threshold};
 use lasp_value::Value;
+use lasp_wire::Message;
 use model_readings::read_declarations_are_lawful;
 use serde_json::Value as Json;
 use std::alloc::{AllocError, Global};
@@ -76,6 +78,30 @@ fn join(
     let state = Arc::new(alloc, State::Set(rows))?;
     core.recall();
     core.update(0, var, &Op::Join(state))
+}
+
+/// Adds a number to a set, whatever reads that releases.
+pub fn add_only(core: &mut Core, var: u8, n: i64) -> Result<(), UpdateRefused> {
+    add(core, var, n)?;
+    Ok(())
+}
+
+/// Removes a number from a set, whatever reads that releases.
+pub fn remove_only(core: &mut Core, var: u8, n: i64) -> Result<(), UpdateRefused> {
+    remove(core, var, n)?;
+    Ok(())
+}
+
+/// Counts so many more, whatever reads that releases.
+pub fn count_only(core: &mut Core, var: u8, by: u32) -> Result<(), UpdateRefused> {
+    count(core, var, by)?;
+    Ok(())
+}
+
+/// The message of a core.
+pub fn shared_message(alloc: Global, core: &Core) -> Result<Arc<Message>, Wrong> {
+    let message = message_of(alloc, core)?;
+    Ok(Arc::new(alloc, message)?)
 }
 
 /// An update by a number.
@@ -177,6 +203,32 @@ pub fn put_back(core: &mut Core, job: Job)
         core.give_back(job);
     } else {
         drop(job.into_parts());
+    }
+}
+
+/// The variable of the next job, which is given back.
+pub fn put_back_next(core: &mut Core) -> Result<Option<u8>, AllocError>
+    ensures frame { core.new.frame ≡ core.old.frame }
+    ensures entries { core.new.entries ≡ core.old.entries }
+{
+    match core.take()? {
+        Some(job) => {
+            let var = job.var;
+            put_back(core, job);
+            Ok(Some(var))
+        }
+        None => Ok(None),
+    }
+}
+
+/// The variable of the next job, which stays out.
+pub fn take_next(core: &mut Core) -> Result<Option<u8>, AllocError>
+    ensures frame { core.new.frame ≡ core.old.frame }
+    ensures entries { core.new.entries ≡ core.old.entries }
+{
+    match core.take()? {
+        Some(job) => Ok(Some(job.into_parts().var)),
+        None => Ok(None),
     }
 }
 

@@ -3,14 +3,14 @@
 ghost use Rattle.std.specs.Prelude.{◌<◌, ◌≤◌};
 
 use crate::call::{Call, Doing, What};
-use crate::cores::{add, core_of, count};
+use crate::cores::{add_only, core_of, count_only, shared_message};
 use crate::functions::library;
-use crate::script::{told, told_late};
-use crate::wrong::Wrong;
-use lasp_core::{Core, DeliverRefused, UpdateRefused};
+use crate::script::{Story, check_story, check_told};
+use crate::wrong::{Wrong, check_lines, found};
+use lasp_core::{Core, DeliverRefused, UpdateRefused, begins};
 use lasp_fns::Library;
 use lasp_node::message_of;
-use lasp_state::print_state;
+use lasp_state::{State, print_state};
 use lasp_wire::Message;
 use std::alloc::{AllocError, Global};
 use std::sync::Arc;
@@ -19,25 +19,40 @@ use std::test::Fail;
 const MIXED: &str =
     r#"[["a","orset"],["u","union","a","a"],["c","counter"],["m","map","u","abs"],["b","orset"]]"#;
 
+/// A source of a message, by its name and its state.
+fn spell_source(
+    alloc: Global,
+    out: &mut String,
+    name: &str,
+    state: &State,
+) -> Result<(), AllocError> {
+    let state = print_state(alloc, state)?;
+    write!(out, "{name} {}\n", state.as_str())
+}
+
 /// The sources of a message, each by its name and its state, and its counts.
-fn spell_message(alloc: Global, message: &Message) -> Result<String, AllocError> {
-    let mut out = String::new(alloc);
+fn spell_message(alloc: Global, out: &mut String, message: &Message) -> Result<(), AllocError> {
     for i in 0..message.len() {
-        let state = print_state(alloc, message.state_at(i))?;
-        write!(out, "{} {}\n", message.name_at(i).as_str(), state.as_str())?;
+        spell_source(alloc, out, message.name_at(i).as_str(), message.state_at(i))?;
     }
     for count in message.counts().as_slice() {
         write!(out, "{count} ")?;
     }
-    Ok(out)
+    Ok(())
+}
+
+/// A message is spelled so.
+fn check_spelled(alloc: Global, message: &Message, wanted: &str) -> Result<(), Wrong> {
+    let mut out = String::new(alloc);
+    spell_message(alloc, &mut out, message)?;
+    check_lines(out.as_str(), wanted)
 }
 
 /// An update of each source of such a graph.
 fn update_each(core: &mut Core) -> Result<(), UpdateRefused> {
-    add(core, 0, -4)?;
-    count(core, 2, 9)?;
-    add(core, 4, 5)?;
-    Ok(())
+    add_only(core, 0, -4)?;
+    count_only(core, 2, 9)?;
+    add_only(core, 4, 5)
 }
 
 /// Replica 1 of three, which made an update of each of its sources.
@@ -47,24 +62,23 @@ fn updated(alloc: Global) -> Result<Core, Wrong> {
     Ok(core)
 }
 
-/// The message of a core, as a text; it has the core's counts.
-fn spell_sent(alloc: Global, core: &Core) -> Result<String, Wrong> {
+/// The message of a core has the core's counts, and is spelled so.
+fn check_sent(alloc: Global, core: &Core, wanted: &str) -> Result<(), Wrong> {
     let message = message_of(alloc, core)?;
-    if message.counts().as_slice() != core.counts().as_slice() {
-        return Err(Wrong::Changed);
-    }
-    Ok(spell_message(alloc, &message)?)
+    let is_counted = message.counts().as_slice() == core.counts().as_slice();
+    found(is_counted, "the counts of the core")?;
+    check_spelled(alloc, &message, wanted)
 }
 
-/// The message of such a core, as a text.
-fn sent(alloc: Global) -> Result<String, Wrong> {
+/// The message of such a core is spelled so.
+fn check_message(alloc: Global, wanted: &str) -> Result<(), Wrong> {
     let core = updated(alloc)?;
-    spell_sent(alloc, &core)
+    check_sent(alloc, &core, wanted)
 }
 
 #[test]
 fn a_message_has_the_counts_and_the_sources_of_its_core(rt: HostRuntime) -> Result<(), Fail> {
-    assert_eq!(rt; sent(rt.alloc())?.as_str(), "a [-4]\nc 9\nb [5]\n0 3 0 ");
+    check_message(rt.alloc(), "a [-4]\nc 9\nb [5]\n0 3 0 ")?;
     Ok(())
 }
 
@@ -89,8 +103,10 @@ const LATE: [Call; 16] = [
 
 #[test]
 fn messages_that_come_late_and_twice_change_nothing(rt: HostRuntime) -> Result<(), Fail> {
-    assert_eq!(rt;
-        told(rt.alloc(), MIXED, &LATE)?.as_str(),
+    check_told(
+        rt.alloc(),
+        MIXED,
+        &LATE,
         "ok
 ok
 ok
@@ -109,8 +125,8 @@ ok
 18 0
 [4] 2
 [5] 1
-"
-    );
+",
+    )?;
     Ok(())
 }
 
@@ -122,47 +138,48 @@ fn first_message(alloc: Global, text: &str, nodes: u8) -> Result<Arc<Message>, W
     requires few { nodes ≤ 8 }
 {
     let sender = core_of(alloc, text, &Library::new(alloc), 0, nodes)?;
-    Ok(Arc::new(alloc, message_of(alloc, &sender)?)?)
+    shared_message(alloc, &sender)
 }
 
-/// Why a core of one set among two nodes refuses a message.
-fn refusal(alloc: Global, message: &Arc<Message>) -> Result<Option<DeliverRefused>, Wrong> {
-    let mut core = core_of(alloc, SET, &Library::new(alloc), 0, 2)?;
-    Ok(core.deliver(0, 0, message).err())
-}
+/// A graph and a number of nodes, whether the message of such a core has the first sources of one set, and whether it is of another graph among two nodes.
+type Row = (&'static str, u8, bool, bool);
 
-/// Graphs and numbers of nodes, and whether the messages of their cores are of another graph.
-const GRAPHS: [(&str, u8, bool); 6] = [
-    (r#"[["b","orset"]]"#, 2, true),
-    (r#"[["a","gset"]]"#, 2, true),
-    (r#"[["a","orset"],["c","counter"]]"#, 2, true),
-    (r#"[["a","orset"]]"#, 3, true),
-    (r#"[["a","orset"],["u","union","a","a"]]"#, 2, false),
-    ("[]", 2, false),
+const GRAPHS: [Row; 6] = [
+    (r#"[["b","orset"]]"#, 2, false, true),
+    (r#"[["a","gset"]]"#, 2, false, true),
+    (r#"[["a","orset"],["c","counter"]]"#, 2, false, true),
+    (r#"[["a","orset"]]"#, 3, true, true),
+    (r#"[["a","orset"],["u","union","a","a"]]"#, 2, true, false),
+    ("[]", 2, true, false),
 ];
 
-/// The first row whose message is taken otherwise.
-fn first_other(alloc: Global, rows: &[(&str, u8, bool)]) -> Result<Option<u64>, Wrong> {
-    let mut at = 0u64;
-    for (text, nodes, is_wrong) in rows {
-        if *nodes == 0 || *nodes > 8 {
-            return Ok(Some(at));
-        }
-        let message = first_message(alloc, text, *nodes)?;
-        let refused = refusal(alloc, &message)?;
-        if (refused == Some(DeliverRefused::WrongGraph)) != *is_wrong {
-            return Ok(Some(at));
-        }
-        at = at.saturating_add(1);
+/// A core of one set among two nodes takes or refuses a message as the row says.
+fn check_taken(alloc: Global, message: &Arc<Message>, row: &Row) -> Result<(), Wrong> {
+    let mut core = core_of(alloc, SET, &Library::new(alloc), 0, 2)?;
+    found(begins(core.graph(), message) == row.2, row.0)?;
+    let refused = core.deliver(0, 0, message).err();
+    found(
+        (refused == Some(DeliverRefused::WrongGraph)) == row.3,
+        row.0,
+    )
+}
+
+/// The same of the row's message.
+fn check_row(alloc: Global, row: &Row) -> Result<(), Wrong> {
+    if row.1 == 0 || row.1 > 8 {
+        return Err(Wrong::Wanted("one to eight nodes"));
     }
-    Ok(None)
+    let message = first_message(alloc, row.0, row.1)?;
+    check_taken(alloc, &message, row)
 }
 
 #[test]
 fn a_message_is_of_the_graph_where_its_sources_are_the_first_ones(
     rt: HostRuntime,
 ) -> Result<(), Fail> {
-    assert_eq!(rt; first_other(rt.alloc(), &GRAPHS)?, None);
+    for row in &GRAPHS {
+        check_row(rt.alloc(), row)?;
+    }
     Ok(())
 }
 
@@ -191,8 +208,10 @@ fn a_message_from_before_a_declaration_is_joined_in_and_one_from_behind_it_waits
         &[],
         &[Call::Tell(What::States), Call::Tell(What::Entries)],
     ];
-    assert_eq!(rt;
-        told_late(rt.alloc(), SET, 0, lists)?.as_str(),
+    check_story(
+        rt.alloc(),
+        SET,
+        Story::Late(0, lists),
         "WrongGraph
 ok
 ok
@@ -207,7 +226,7 @@ ok
 0 delivers 0
 0 delivers 1
 2 binds 2 at 5
-"
-    );
+",
+    )?;
     Ok(())
 }

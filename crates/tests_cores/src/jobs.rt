@@ -1,7 +1,7 @@
 //! Jobs that are late, busy or given back.
 
 use crate::call::{Call, Doing, What};
-use crate::script::{told, told_late};
+use crate::script::{Story, check_story, check_told};
 use std::test::Fail;
 
 const MAPPED: &str = r#"[["a","orset"],["m","map","a","abs"]]"#;
@@ -19,8 +19,10 @@ fn a_result_that_comes_late_stands_in_the_journal_and_changes_nothing(
             Call::Tell(What::Settled),
         ],
     ];
-    assert_eq!(rt;
-        told_late(rt.alloc(), MAPPED, 1, lists)?.as_str(),
+    check_story(
+        rt.alloc(),
+        MAPPED,
+        Story::Late(1, lists),
         "ok
 ok
 ok
@@ -32,8 +34,8 @@ ok
 [-1,1] 2
 [1] 2
 y settled at 4
-"
-    );
+",
+    )?;
     Ok(())
 }
 
@@ -44,13 +46,15 @@ fn the_least_variable_that_lacks_an_input_is_told(rt: HostRuntime) -> Result<(),
         Call::Update(0, Doing::Add, 1),
         Call::Tell(What::Settled),
     ];
-    assert_eq!(rt;
-        told(rt.alloc(), MAPPED, &list)?.as_str(),
+    check_told(
+        rt.alloc(),
+        MAPPED,
+        &list,
         "y settled at 0
 ok
 n variable 1 has taken in version 0 of variable 0, which is at 1
-"
-    );
+",
+    )?;
     Ok(())
 }
 
@@ -69,8 +73,10 @@ fn the_first_input_whose_version_differs_is_told(rt: HostRuntime) -> Result<(), 
         Call::Update(1, Doing::Add, 7),
         Call::Tell(What::Settled),
     ];
-    assert_eq!(rt;
-        told(rt.alloc(), UNITED, &list)?.as_str(),
+    check_told(
+        rt.alloc(),
+        UNITED,
+        &list,
         "ok
 ny variable 2 has taken in version 0 of variable 1, which is at 1
 ok
@@ -80,8 +86,8 @@ yn variable 3 has taken in version 0 of variable 2, which is at 1
 ok
 ok
 ny variable 2 has taken in version 1 of variable 1, which is at 2
-"
-    );
+",
+    )?;
     Ok(())
 }
 
@@ -101,8 +107,10 @@ fn the_next_job_is_of_the_least_variable_that_is_neither_clean_nor_busy(
         Call::Tell(What::Settled),
         Call::Tell(What::Entries),
     ];
-    assert_eq!(rt;
-        told(rt.alloc(), TWO, &list)?.as_str(),
+    check_told(
+        rt.alloc(),
+        TWO,
+        &list,
         "none
 ok
 took 1
@@ -112,8 +120,8 @@ ok
 ny variable 1 has taken in version 0 of variable 0, which is at 1
 0 updates 0
 2 binds 2 at 1
-"
-    );
+",
+    )?;
     Ok(())
 }
 
@@ -134,8 +142,10 @@ fn where_all_that_is_left_is_busy_the_least_is_taken_once_more(
         Call::Work,
         Call::Tell(What::Settled),
     ];
-    assert_eq!(rt;
-        told(rt.alloc(), TWO, &list)?.as_str(),
+    check_told(
+        rt.alloc(),
+        TWO,
+        &list,
         "ok
 took 1
 took 2
@@ -144,7 +154,7 @@ took 1
 ok
 ok
 yy settled at 3
-"
-    );
+",
+    )?;
     Ok(())
 }

@@ -1,7 +1,7 @@
 //! Reads that wait for thresholds.
 
 use crate::call::{Call, Doing, Until, What};
-use crate::script::{told, told_asked};
+use crate::script::{Story, check_story, check_told};
 use std::test::Fail;
 
 const COUNTED: &str = r#"[["c","counter"]]"#;
@@ -15,10 +15,12 @@ fn a_read_is_released_once_by_the_update_that_brings_its_variable_to_the_thresho
         &[Call::Update(0, Doing::Count, 4)],
         &[Call::Update(0, Doing::Count, 1)],
     ];
-    assert_eq!(rt;
-        told_asked(rt.alloc(), COUNTED, 0, Until::Count(5), lists)?.as_str(),
-        "ok\n\nok 0\n7\nok\n8\n"
-    );
+    check_story(
+        rt.alloc(),
+        COUNTED,
+        Story::Asked(0, Until::Count(5), lists),
+        "ok\n\nok 0\n7\nok\n8\n",
+    )?;
     Ok(())
 }
 
@@ -40,16 +42,18 @@ fn one_call_releases_reads_in_the_order_in_which_they_were_opened(
         Call::Update(0, Doing::Count, 5),
         Call::Tell(What::Parked),
     ];
-    assert_eq!(rt;
-        told(rt.alloc(), COUNTED, &list)?.as_str(),
+    check_told(
+        rt.alloc(),
+        COUNTED,
+        &list,
         "not asked
 0 of 0 1 of 0 3 of 0 4 of 0 5 of 0 
 ok 0 1 4
 3 of 0 5 of 0 
 ok 3 5
 
-"
-    );
+",
+    )?;
     Ok(())
 }
 
@@ -67,10 +71,12 @@ fn a_closed_read_is_released_by_nothing(rt: HostRuntime) -> Result<(), Fail> {
         Call::Close(0),
         Call::Tell(What::Parked),
     ];
-    assert_eq!(rt;
-        told(rt.alloc(), COUNTED, &list)?.as_str(),
-        "0 of 0 1 of 0 3 of 0 \nok 0 1 3\n\n"
-    );
+    check_told(
+        rt.alloc(),
+        COUNTED,
+        &list,
+        "0 of 0 1 of 0 3 of 0 \nok 0 1 3\n\n",
+    )?;
     Ok(())
 }
 
@@ -90,9 +96,6 @@ fn deliveries_and_results_release_reads(rt: HostRuntime) -> Result<(), Fail> {
         Call::Work,
         Call::Tell(What::Parked),
     ];
-    assert_eq!(rt;
-        told(rt.alloc(), MAPPED, &list)?.as_str(),
-        "ok 0\nok 1\nok\nok 2\n\n"
-    );
+    check_told(rt.alloc(), MAPPED, &list, "ok 0\nok 1\nok\nok 2\n\n")?;
     Ok(())
 }

@@ -1,14 +1,13 @@
 //! Long lists of calls, with jobs that are held back while other calls are made.
 
 use crate::call::{Call, Doing, Until};
-use crate::cores::core_of;
+use crate::cores::{core_of, shared_message};
 use crate::dice::Dice;
 use crate::functions::library;
 use crate::script::{calls, late};
 use crate::table::Table;
 use crate::wrong::Wrong;
 use lasp_fns::Library;
-use lasp_node::message_of;
 use lasp_wire::Message;
 use std::alloc::{AllocError, Global};
 use std::sync::Arc;
@@ -135,14 +134,29 @@ fn wait(table: &mut Table, var: u8, until: Until, list: &[Call]) -> Result<(), W
     Ok(())
 }
 
-/// Calls, then calls while one job is out.
+/// So many calls.
+fn call_some(table: &mut Table, dice: &mut Dice, count: u32) -> Result<(), Wrong> {
+    let list = some_calls(table.alloc, dice, count)?;
+    calls(table, &list)
+}
+
+/// Calls while some job is out.
+fn late_some(table: &mut Table, dice: &mut Dice) -> Result<(), Wrong> {
+    let list = some_calls(table.alloc, dice, 3)?;
+    late(table, dice.roll(17) as u8, &list)
+}
+
+/// Calls while some read is open.
+fn wait_some(table: &mut Table, dice: &mut Dice) -> Result<(), Wrong> {
+    let list = some_calls(table.alloc, dice, 4)?;
+    wait(table, dice.roll(17) as u8, some_until(dice), &list)
+}
+
+/// Calls, then calls while one job is out, and then while one read is open.
 fn round(table: &mut Table, dice: &mut Dice) -> Result<(), Wrong> {
-    let alloc = table.alloc;
-    calls(table, &some_calls(alloc, dice, 6)?)?;
-    let list = some_calls(alloc, dice, 3)?;
-    late(table, dice.roll(17) as u8, &list)?;
-    let list = some_calls(alloc, dice, 4)?;
-    wait(table, dice.roll(17) as u8, some_until(dice), &list)?;
+    call_some(table, dice, 6)?;
+    late_some(table, dice)?;
+    wait_some(table, dice)?;
     calls(table, &SETTLING)
 }
 
@@ -172,7 +186,7 @@ fn rounds(table: &mut Table, dice: &mut Dice, count: u32) -> Result<(), Wrong> {
 /// A message of another graph.
 fn strange(alloc: Global) -> Result<Arc<Message>, Wrong> {
     let stranger = core_of(alloc, r#"[["z","orset"]]"#, &Library::new(alloc), 1, 2)?;
-    Ok(Arc::new(alloc, message_of(alloc, &stranger)?)?)
+    shared_message(alloc, &stranger)
 }
 
 /// Keeps a message of another graph, which is refused at each delivery.
@@ -202,7 +216,7 @@ fn play(table: &mut Table, dice: &mut Dice, count: u32) -> Result<(), Wrong> {
 
 /// What a run came to: how many calls were refused, how often the settled core was compared, its variables, and where it ended settled.
 #[derive(Clone, Copy, Debug)]
-struct Outcome {
+pub struct Outcome {
     refused: u32,
     compared: u32,
     variables: u64,
@@ -219,24 +233,37 @@ fn outcome_of(table: &Table) -> Outcome {
     }
 }
 
+/// A run over a library, of the numbers that follow from a seed.
+fn play_over(alloc: Global, lib: &Library, seed: u64) -> Result<Outcome, Wrong> {
+    let mut table = Table::new(alloc, lib, OPENING)?;
+    play(&mut table, &mut Dice::new(seed), 8)?;
+    Ok(outcome_of(&table))
+}
+
 /// A run of the numbers that follow from a seed.
 fn play_from(alloc: Global, seed: u64) -> Result<Outcome, Wrong> {
     let lib = library(alloc)?;
-    let mut table = Table::new(alloc, &lib, OPENING)?;
-    play(&mut table, &mut Dice::new(seed), 8)?;
-    Ok(outcome_of(&table))
+    play_over(alloc, &lib, seed)
+}
+
+/// A run ends settled, with all that was declared, and many calls were refused and compared.
+fn check_run(alloc: Global, seed: u64) -> Result<(), Wrong> {
+    let outcome = play_from(alloc, seed)?;
+    if outcome.settled.is_some()
+        && outcome.variables == 15
+        && outcome.refused > 20
+        && outcome.compared > 100
+    {
+        Ok(())
+    } else {
+        Err(Wrong::Ended(outcome))
+    }
 }
 
 #[test]
 fn whatever_came_in_whatever_order_a_settled_core_is_what_plain_evaluation_gives(
     rt: HostRuntime,
 ) -> Result<(), Fail> {
-    let outcome = play_from(rt.alloc(), 2026)?;
-    assert!(rt; outcome.settled.is_some(), "{outcome:?}");
-    assert!(rt; outcome.variables == 15, "{outcome:?}");
-    assert!(rt;
-        outcome.refused > 20 && outcome.compared > 100,
-        "{outcome:?}"
-    );
+    check_run(rt.alloc(), 2026)?;
     Ok(())
 }

@@ -4,12 +4,13 @@ ghost use Rattle.std.specs.Prelude.{◌≡◌};
 ghost use Rattle.lasp_core.specs.Listed.{GoesOn};
 ghost use Rattle.tests_cores.specs.Follows.{Follows};
 
-use crate::call::{Call, Until};
+use crate::call::{Call, Doing, Until, What};
 use crate::cores::declare;
 use crate::functions::library;
 use crate::table::Table;
-use crate::wrong::Wrong;
+use crate::wrong::{Wrong, check_lines};
 use lasp_core::{jobs_stay, reads_stay_open};
+use lasp_fns::Library;
 use std::alloc::Global;
 
 /// A call that adds no entry.
@@ -103,15 +104,6 @@ fn asked(table: &mut Table, var: u8, until: Until, lists: [&[Call]; 3]) -> Resul
     )
 }
 
-/// What is under way while calls are made.
-#[derive(Clone, Copy)]
-enum Beside {
-    /// A job of a variable, which is taken after the first calls, and whose result is handed in before the last ones.
-    Job(u8),
-    /// A read of a variable, which is opened before the calls, and asked after each list of them.
-    Read(u8, Until),
-}
-
 /// Calls before, while and after a job of a variable is out.
 fn calls_round(table: &mut Table, var: u8, lists: [&[Call]; 3]) -> Result<(), Wrong> {
     calls(table, lists[0])?;
@@ -119,56 +111,57 @@ fn calls_round(table: &mut Table, var: u8, lists: [&[Call]; 3]) -> Result<(), Wr
     calls(table, lists[2])
 }
 
-/// Makes calls beside what is under way.
-fn calls_beside(table: &mut Table, beside: Beside, lists: [&[Call]; 3]) -> Result<(), Wrong> {
-    match beside {
-        Beside::Job(var) => calls_round(table, var, lists),
-        Beside::Read(var, until) => asked(table, var, until, lists),
+/// Updates of a variable one after the other, each by itself, and then all states.
+fn updates(table: &mut Table, var: u8, list: &[(Doing, i8)]) -> Result<(), Wrong> {
+    for (doing, n) in list {
+        calls(table, &[Call::Update(var, *doing, *n)])?;
+    }
+    calls(table, &[Call::Tell(What::States)])
+}
+
+/// Calls of a new core.
+#[derive(Clone, Copy)]
+pub enum Story<'a> {
+    /// Calls one after the other.
+    Calls(&'a [Call<'a>]),
+    /// Calls before, while and after a job of this variable is out.
+    Late(u8, [&'a [Call<'a>]; 3]),
+    /// Calls while a read of this variable is open, which is asked after each list of them.
+    Asked(u8, Until, [&'a [Call<'a>]; 3]),
+    /// What is done to this variable, and then all states.
+    Updates(u8, &'a [(Doing, i8)]),
+}
+
+/// Makes the calls of a story.
+fn make(table: &mut Table, story: Story) -> Result<(), Wrong> {
+    match story {
+        Story::Calls(list) => calls(table, list),
+        Story::Late(var, lists) => calls_round(table, var, lists),
+        Story::Asked(var, until, lists) => asked(table, var, until, lists),
+        Story::Updates(var, list) => updates(table, var, list),
     }
 }
 
-/// What calls beside a job or a read come to at a new table, a line each.
-fn told_beside(
+/// A story over a library comes to this, a line for each call.
+fn check_over(
     alloc: Global,
+    lib: &Library,
     graph: &str,
-    beside: Beside,
-    lists: [&[Call]; 3],
-) -> Result<String, Wrong> {
+    story: Story,
+    wanted: &str,
+) -> Result<(), Wrong> {
+    let mut table = Table::new(alloc, lib, graph)?;
+    make(&mut table, story)?;
+    check_lines(table.out.as_str(), wanted)
+}
+
+/// A story comes to this, a line for each call.
+pub fn check_story(alloc: Global, graph: &str, story: Story, wanted: &str) -> Result<(), Wrong> {
     let lib = library(alloc)?;
-    let mut table = Table::new(alloc, &lib, graph)?;
-    let called = calls_beside(&mut table, beside, lists);
-    let Table { out, .. } = table;
-    called?;
-    Ok(out)
+    check_over(alloc, &lib, graph, story, wanted)
 }
 
-/// What calls come to, a line each.
-pub fn told(alloc: Global, graph: &str, list: &[Call]) -> Result<String, Wrong> {
-    let lib = library(alloc)?;
-    let mut table = Table::new(alloc, &lib, graph)?;
-    let called = calls(&mut table, list);
-    let Table { out, .. } = table;
-    called?;
-    Ok(out)
-}
-
-/// What calls come to where a job of a variable is taken after the first ones, and its result handed in before the last ones.
-pub fn told_late(
-    alloc: Global,
-    graph: &str,
-    var: u8,
-    lists: [&[Call]; 3],
-) -> Result<String, Wrong> {
-    told_beside(alloc, graph, Beside::Job(var), lists)
-}
-
-/// What calls come to where a read is opened before them, and asked after each list of them.
-pub fn told_asked(
-    alloc: Global,
-    graph: &str,
-    var: u8,
-    until: Until,
-    lists: [&[Call]; 3],
-) -> Result<String, Wrong> {
-    told_beside(alloc, graph, Beside::Read(var, until), lists)
+/// Calls come to this, a line for each.
+pub fn check_told(alloc: Global, graph: &str, list: &[Call], wanted: &str) -> Result<(), Wrong> {
+    check_story(alloc, graph, Story::Calls(list), wanted)
 }

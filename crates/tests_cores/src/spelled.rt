@@ -82,6 +82,17 @@ fn spell_counts(out: &mut String, core: &Core) -> Result<(), AllocError> {
     out.push('\n')
 }
 
+/// What plain evaluation of a core's sources gives.
+fn spell_evaluated(
+    alloc: Global,
+    out: &mut String,
+    core: &Core,
+    lib: &Library,
+) -> Result<(), Wrong> {
+    let states = evaluated(alloc, core, lib)?;
+    Ok(spell_states(out, &states)?)
+}
+
 /// What is asked of a core.
 pub fn spell(
     alloc: Global,
@@ -93,7 +104,7 @@ pub fn spell(
     match what {
         What::Entries => spell_entries(out, core)?,
         What::States => spell_states(out, core.states())?,
-        What::Evaluated => spell_states(out, &evaluated(alloc, core, lib)?)?,
+        What::Evaluated => spell_evaluated(alloc, out, core, lib)?,
         What::Settled => spell_settled(out, core)?,
         What::Parked => spell_parked(out, core)?,
         What::Counts => spell_counts(out, core)?,
@@ -101,13 +112,18 @@ pub fn spell(
     Ok(())
 }
 
-/// All that a refused call must leave as it is: the length of the journal, the counts, the states and the reads that wait.
+/// The length of the journal, the states, the counts and the reads that wait.
+fn spell_all(out: &mut String, core: &Core) -> Result<(), AllocError> {
+    write!(out, "{}\n", core.journal_len())?;
+    spell_states(out, core.states())?;
+    spell_counts(out, core)?;
+    spell_parked(out, core)
+}
+
+/// All that a refused call must leave as it is.
 pub fn spell_core(alloc: Global, core: &Core) -> Result<String, AllocError> {
     let mut out = String::new(alloc);
-    write!(out, "{}\n", core.journal_len())?;
-    spell_states(&mut out, core.states())?;
-    spell_counts(&mut out, core)?;
-    spell_parked(&mut out, core)?;
+    spell_all(&mut out, core)?;
     Ok(out)
 }
 

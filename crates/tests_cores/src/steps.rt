@@ -1,19 +1,29 @@
 //! How many calls of stored functions jobs take.
 
-use crate::cores::{add, core_of, hand_in, next_work, remove};
+use crate::cores::{add_only, core_of, hand_in, next_work, remove_only};
 use crate::functions::library;
-use crate::wrong::Wrong;
+use crate::wrong::{Wrong, found};
 use lasp_core::{Core, UpdateRefused};
 use lasp_fns::{Library, StepLib};
 use std::alloc::{AllocError, Global};
 use std::test::Fail;
 
+/// Does the next job, where there is one.
+fn do_next(alloc: Global, core: &mut Core, lib: &mut StepLib) -> Result<bool, AllocError> {
+    match next_work(alloc, core, lib)? {
+        Some(work) => {
+            hand_in(core, 0, work)?;
+            Ok(true)
+        }
+        None => Ok(false),
+    }
+}
+
 /// Does all jobs, at most 100.
 fn settle(alloc: Global, core: &mut Core, lib: &mut StepLib) -> Result<(), AllocError> {
     for _ in 0..100 {
-        match next_work(alloc, core, lib)? {
-            Some(work) => drop(hand_in(core, 0, work)?),
-            None => return Ok(()),
+        if !do_next(alloc, core, lib)? {
+            return Ok(());
         }
     }
     Ok(())
@@ -30,45 +40,69 @@ fn cost(alloc: Global, core: &mut Core, lib: &Library) -> Result<(u64, u64), All
 /// Adds a hundred numbers, from -50 on.
 fn add_hundred(core: &mut Core) -> Result<(), UpdateRefused> {
     for n in 0..100u8 {
-        add(core, 0, i64::from(n) - 50)?;
+        add_only(core, 0, i64::from(n) - 50)?;
     }
     Ok(())
 }
 
+/// What calls cost, and by how many changed rows what is owed rises.
+type Cost = (u64, u64);
+
 /// The costs of a hundred numbers, of one more, of its removal, and of nothing.
-fn costs(alloc: Global, graph: &str) -> Result<[(u64, u64); 4], Wrong> {
+fn costs(alloc: Global, core: &mut Core, lib: &Library) -> Result<[Cost; 4], Wrong> {
+    add_hundred(core)?;
+    let hundred = cost(alloc, core, lib)?;
+    add_only(core, 0, 51)?;
+    let more = cost(alloc, core, lib)?;
+    remove_only(core, 0, 51)?;
+    let less = cost(alloc, core, lib)?;
+    Ok([hundred, more, less, cost(alloc, core, lib)?])
+}
+
+/// The same of a core over a library.
+fn costs_over(alloc: Global, lib: &Library, graph: &str) -> Result<[Cost; 4], Wrong> {
+    let mut core = core_of(alloc, graph, lib, 0, 1)?;
+    costs(alloc, &mut core, lib)
+}
+
+/// The same of a core of a graph.
+fn costs_of(alloc: Global, graph: &str) -> Result<[Cost; 4], Wrong> {
     let lib = library(alloc)?;
-    let mut core = core_of(alloc, graph, &lib, 0, 1)?;
-    add_hundred(&mut core)?;
-    let hundred = cost(alloc, &mut core, &lib)?;
-    add(&mut core, 0, 51)?;
-    let more = cost(alloc, &mut core, &lib)?;
-    remove(&mut core, 0, 51)?;
-    let less = cost(alloc, &mut core, &lib)?;
-    Ok([hundred, more, less, cost(alloc, &mut core, &lib)?])
+    costs_over(alloc, &lib, graph)
+}
+
+/// The costs are just these.
+fn check_costs(alloc: Global, graph: &str, wanted: [Cost; 4]) -> Result<(), Wrong> {
+    found(costs_of(alloc, graph)? == wanted, "the costs")
 }
 
 #[test]
 fn a_settled_variable_costs_a_call_for_each_changed_row(rt: HostRuntime) -> Result<(), Fail> {
-    let costs = costs(rt.alloc(), r#"[["a","orset"],["m","map","a","abs"]]"#)?;
-    assert!(rt; costs == [(100, 100), (1, 1), (1, 1), (0, 0)]);
+    let wanted = [(100, 100), (1, 1), (1, 1), (0, 0)];
+    check_costs(
+        rt.alloc(),
+        r#"[["a","orset"],["m","map","a","abs"]]"#,
+        wanted,
+    )?;
     Ok(())
 }
 
-/// Whether the calls are no more than what is owed, which is this, each time.
-fn are_bounded(costs: &[(u64, u64); 4], owed: [u64; 4]) -> bool {
+/// The calls are no more than what is owed, which is this, each time.
+fn check_owed(alloc: Global, graph: &str, owed: [u64; 4]) -> Result<(), Wrong> {
+    let costs = costs_of(alloc, graph)?;
     for i in 0..4 {
-        if costs[i].0 > costs[i].1 || costs[i].1 != owed[i] {
-            return false;
-        }
+        found(
+            costs[i].0 <= costs[i].1 && costs[i].1 == owed[i],
+            "calls within what is owed",
+        )?;
     }
-    true
+    Ok(())
 }
 
 #[test]
 fn what_is_owed_bounds_the_calls(rt: HostRuntime) -> Result<(), Fail> {
     let graph =
         r#"[["a","orset"],["u","union","a","a"],["e","filter","u","even"],["s","fold","u","sum","itself"]]"#;
-    assert!(rt; are_bounded(&costs(rt.alloc(), graph)?, [400, 4, 4, 0]));
+    check_owed(rt.alloc(), graph, [400, 4, 4, 0])?;
     Ok(())
 }

@@ -8,16 +8,18 @@ ghost use Rattle.lasp_core.specs.Jobs.{IsJobOf, IsResultOf};
 ghost use Rattle.tests_cores.specs.Follows.{IsWork, IsAsked, Follows};
 
 use crate::call::{Doing, Until, What};
-use crate::checks::{Before, check_entered, check_settled, check_waiting};
+use crate::checks::{Before, Counts, check_entered, check_settled, check_waiting};
 use crate::cores::{
-    Work, core_of, hand_in, is_derived, next_work, open, put_back, update, work_at,
+    Work, core_of, hand_in, is_derived, next_work, open, put_back, put_back_next, shared_message,
+    take_next, update, work_at,
 };
 use crate::spelled::{spell, spell_released};
 use crate::wrong::Wrong;
-use lasp_core::{Core, DeliverRefused, ReadNo, UpdateRefused, jobs_stay, reads_stay_open};
+use lasp_core::{
+    Core, DeliverRefused, ReadNo, Released, UpdateRefused, jobs_stay, reads_stay_open,
+};
 use lasp_fns::{Library, StepLib};
-use lasp_node::message_of;
-use lasp_state::Threshold;
+use lasp_state::{State, Threshold};
 use lasp_value::{Value, Values};
 use lasp_wire::Message;
 use std::alloc::{AllocError, Global};
@@ -64,22 +66,57 @@ impl<'a> Table<'a> {
         before.check_unchanged(self.alloc, &self.core)
     }
 
+    /// Tells which reads a call released that added an entry.
+    fn tell_entered(&mut self, before: Counts, released: &Released) -> Result<(), Wrong>
+        ensures { self.new.core ≡ self.old.core }
+    {
+        spell_released(&mut self.out, released)?;
+        check_entered(&self.core, before, released)
+    }
+
+    /// Tells what an update came to.
+    fn tell_updated(
+        &mut self,
+        before: &Before,
+        done: Result<Released, UpdateRefused>,
+    ) -> Result<(), Wrong>
+        ensures { self.new.core ≡ self.old.core }
+    {
+        match done {
+            Ok(released) => self.tell_entered(before.counts, &released),
+            Err(UpdateRefused::Memory) => Err(Wrong::Refused),
+            Err(why) => {
+                write!(self.out, "{why:?}\n")?;
+                self.refuse(before)
+            }
+        }
+    }
+
+    /// Tells what a delivery came to.
+    fn tell_delivered(
+        &mut self,
+        before: &Before,
+        done: Result<Released, DeliverRefused>,
+    ) -> Result<(), Wrong>
+        ensures { self.new.core ≡ self.old.core }
+    {
+        match done {
+            Ok(released) => self.tell_entered(before.counts, &released),
+            Err(DeliverRefused::Memory) => Err(Wrong::Refused),
+            Err(why) => {
+                write!(self.out, "{why:?}\n")?;
+                self.refuse(before)
+            }
+        }
+    }
+
     pub fn update(&mut self, var: u8, doing: Doing, n: i8) -> Result<(), Wrong>
         ensures frame { self.new.core.frame ≡ self.old.core.frame }
         ensures entries { GoesOn self.old.core.entries self.new.core.entries }
     {
         let before = Before::of(self.alloc, &self.core)?;
-        match update(self.alloc, &mut self.core, var, doing, n) {
-            Ok(released) => {
-                spell_released(&mut self.out, &released)?;
-                before.check_entered(&self.core, &released)
-            }
-            Err(UpdateRefused::Memory) => Err(Wrong::Refused),
-            Err(why) => {
-                write!(self.out, "{why:?}\n")?;
-                self.refuse(&before)
-            }
-        }
+        let done = update(self.alloc, &mut self.core, var, doing, n);
+        self.tell_updated(&before, done)
     }
 
     pub fn deliver(&mut self, number: u32) -> Result<(), Wrong>
@@ -90,17 +127,8 @@ impl<'a> Table<'a> {
             return Ok(());
         };
         let before = Before::of(self.alloc, &self.core)?;
-        match self.core.deliver(0, number, message) {
-            Ok(released) => {
-                spell_released(&mut self.out, &released)?;
-                before.check_entered(&self.core, &released)
-            }
-            Err(DeliverRefused::Memory) => Err(Wrong::Refused),
-            Err(why) => {
-                write!(self.out, "{why:?}\n")?;
-                self.refuse(&before)
-            }
-        }
+        let done = self.core.deliver(0, number, message);
+        self.tell_delivered(&before, done)
     }
 
     /// Updates the other core, or lets it be where that is refused.
@@ -113,9 +141,19 @@ impl<'a> Table<'a> {
     pub fn send(&mut self) -> Result<(), Wrong>
         ensures { self.new.core ≡ self.old.core }
     {
-        let message = message_of(self.alloc, &self.other)?;
-        self.sent.push(Arc::new(self.alloc, message)?)?;
+        let message = shared_message(self.alloc, &self.other)?;
+        self.sent.push(message)?;
         Ok(())
+    }
+
+    /// Tells of which variable the next job is.
+    fn tell_taken(&mut self, var: Option<u8>) -> Result<(), AllocError>
+        ensures { self.new.core ≡ self.old.core }
+    {
+        match var {
+            Some(var) => write!(self.out, "took {var}\n"),
+            None => self.out.push_str("none\n"),
+        }
     }
 
     /// Tells the variable of the next job, which stays out.
@@ -123,11 +161,8 @@ impl<'a> Table<'a> {
         ensures frame { self.new.core.frame ≡ self.old.core.frame }
         ensures entries { self.new.core.entries ≡ self.old.core.entries }
     {
-        match self.core.take()? {
-            Some(job) => write!(self.out, "took {}\n", job.into_parts().var)?,
-            None => self.out.push_str("none\n")?,
-        }
-        Ok(())
+        let var = take_next(&mut self.core)?;
+        Ok(self.tell_taken(var)?)
     }
 
     /// Tells the variable of the next job, which is given back.
@@ -136,14 +171,8 @@ impl<'a> Table<'a> {
         ensures entries { self.new.core.entries ≡ self.old.core.entries }
     {
         let before = Before::of(self.alloc, &self.core)?;
-        match self.core.take()? {
-            Some(job) => {
-                let var = job.var;
-                put_back(&mut self.core, job);
-                write!(self.out, "took {var}\n")?;
-            }
-            None => self.out.push_str("none\n")?,
-        }
+        let var = put_back_next(&mut self.core)?;
+        self.tell_taken(var)?;
         before.check_unchanged(self.alloc, &self.core)
     }
 
@@ -166,10 +195,9 @@ impl<'a> Table<'a> {
         ensures frame { self.new.core.frame ≡ self.old.core.frame }
         ensures entries { GoesOn self.old.core.entries self.new.core.entries }
     {
-        let (entries, parked) = (self.core.journal_len(), self.core.parked_len());
+        let before = Counts::of(&self.core);
         let released = hand_in(&mut self.core, 2, work)?;
-        spell_released(&mut self.out, &released)?;
-        check_entered(&self.core, entries, parked, &released)
+        self.tell_entered(before, &released)
     }
 
     /// Does the next job.
@@ -247,18 +275,27 @@ impl<'a> Table<'a> {
         self.open(var, until)
     }
 
-    /// Tells what a read is answered: it is where it doesn't wait.
-    pub fn ask(&mut self, read: &ReadNo) -> Result<(), Wrong>
-        requires { IsAsked self.old.core (read_of read.now) }
+    /// Tells the answer of the read with a number, which is there where the read doesn't wait.
+    fn tell_answer(&mut self, number: u64, answer: Option<&State>) -> Result<(), Wrong>
         ensures { self.new.core ≡ self.old.core }
     {
-        let answer = self.core.poll_read(read)?;
-        check_waiting(&self.core, read.number(), answer.is_some())?;
+        check_waiting(&self.core, number, answer.is_some())?;
         if let Some(state) = answer {
             state.print_into(&mut self.out)?;
         }
         self.out.push('\n')?;
         Ok(())
+    }
+
+    /// Tells what a read is answered.
+    pub fn ask(&mut self, read: &ReadNo) -> Result<(), Wrong>
+        requires { IsAsked self.old.core (read_of read.now) }
+        ensures { self.new.core ≡ self.old.core }
+    {
+        match self.core.poll_read(read)? {
+            Some(state) => self.tell_answer(read.number(), Some(&state)),
+            None => self.tell_answer(read.number(), None),
+        }
     }
 
     /// Opens a read and keeps it.

@@ -1,7 +1,7 @@
 //! Updates that are taken, and those that are refused, each by its first cause.
 
 use crate::call::{Call, Doing, What};
-use crate::script::told;
+use crate::script::{Story, check_story, check_told};
 use std::test::Fail;
 
 #[test]
@@ -16,32 +16,26 @@ fn an_update_is_refused_by_its_variable_and_then_by_its_operation(
         Call::Update(0, Doing::Count, 1),
         Call::Tell(What::Counts),
     ];
-    assert_eq!(rt;
-        told(
-            rt.alloc(),
-            r#"[["a","orset"],["u","union","a","a"]]"#,
-            &list
-        )?
-        .as_str(),
-        "UnknownVar\nUnknownVar\nNotASource\nNotASource\nWrongOp\n0 0 \n"
-    );
+    check_told(
+        rt.alloc(),
+        r#"[["a","orset"],["u","union","a","a"]]"#,
+        &list,
+        "UnknownVar\nUnknownVar\nNotASource\nNotASource\nWrongOp\n0 0 \n",
+    )?;
     Ok(())
 }
 
 const FOUR: &str = r#"[["a","orset"],["g","gset"],["c","counter"],["x","maxreg"]]"#;
 
-/// The operations on one variable.
-fn on(var: u8) -> [Call<'static>; 7] {
-    [
-        Call::Update(var, Doing::Add, 3),
-        Call::Update(var, Doing::Remove, 3),
-        Call::Update(var, Doing::Insert, -3),
-        Call::Update(var, Doing::Count, 3),
-        Call::Update(var, Doing::Raise, -3),
-        Call::Update(var, Doing::Join, 3),
-        Call::Tell(What::States),
-    ]
-}
+/// Each operation.
+const EACH: [(Doing, i8); 6] = [
+    (Doing::Add, 3),
+    (Doing::Remove, 3),
+    (Doing::Insert, -3),
+    (Doing::Count, 3),
+    (Doing::Raise, -3),
+    (Doing::Join, 3),
+];
 
 /// A variable, and what the operations on it come to.
 const TAKEN: [(u8, &str); 4] = [
@@ -65,8 +59,8 @@ const TAKEN: [(u8, &str); 4] = [
 
 #[test]
 fn each_source_takes_the_operations_of_its_kind(rt: HostRuntime) -> Result<(), Fail> {
-    for (var, wanted) in TAKEN {
-        assert_eq!(rt; told(rt.alloc(), FOUR, &on(var))?.as_str(), wanted);
+    for (var, wanted) in &TAKEN {
+        check_story(rt.alloc(), FOUR, Story::Updates(*var, &EACH), wanted)?;
     }
     Ok(())
 }

@@ -1,12 +1,13 @@
 //! What calls must not come to.
 
+use crate::runs::Outcome;
 use lasp_core::{DeliverRefused, UpdateRefused};
 use lasp_fns::LibraryRefused;
 use lasp_graph::{DeclRefused, EvalAll, GraphRefused};
 use std::alloc::{AllocError, AllocFailed};
 
 /// What calls came to that they must not come to.
-#[derive(Debug, Drop)]
+#[derive(Clone, Copy, Debug)]
 pub enum Wrong {
     /// A call that is refused, or takes a job and gives it back, changed something.
     Changed,
@@ -22,6 +23,38 @@ pub enum Wrong {
     Waiting,
     /// A call was refused, or no memory was left.
     Refused,
+    /// This line of what was told, counted from 0, isn't the wanted one.
+    Line(u64),
+    /// This wasn't found.
+    Wanted(&'static str),
+    /// A long list of calls came to this.
+    Ended(Outcome),
+}
+
+/// Answers what was wanted, where it wasn't found.
+pub fn found(is_found: bool, wanted: &'static str) -> Result<(), Wrong> {
+    if is_found {
+        Ok(())
+    } else {
+        Err(Wrong::Wanted(wanted))
+    }
+}
+
+/// Answers the first line that isn't as wanted.
+pub fn check_lines(told: &str, wanted: &str) -> Result<(), Wrong> {
+    let mut lines = told.lines();
+    let mut at = 0u64;
+    for line in wanted.lines() {
+        if lines.next() != Some(line) {
+            return Err(Wrong::Line(at));
+        }
+        at = at.saturating_add(1);
+    }
+    if told == wanted {
+        Ok(())
+    } else {
+        Err(Wrong::Line(at))
+    }
 }
 
 impl From<AllocError> for Wrong {
