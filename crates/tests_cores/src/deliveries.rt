@@ -211,7 +211,8 @@ fn a_message_from_before_a_declaration_is_joined_in_and_one_from_behind_it_waits
     check_story(
         rt.alloc(),
         SET,
-        Story::Late(0, lists),
+        Story::Late(0),
+        lists,
         "WrongGraph
 ok
 ok

@@ -22,7 +22,8 @@ fn a_result_that_comes_late_stands_in_the_journal_and_changes_nothing(
     check_story(
         rt.alloc(),
         MAPPED,
-        Story::Late(1, lists),
+        Story::Late(1),
+        lists,
         "ok
 ok
 ok

@@ -16,6 +16,8 @@ mod functions;
 #[cfg(test)]
 mod jobs;
 #[cfg(test)]
+mod laws;
+#[cfg(test)]
 mod limits;
 #[cfg(test)]
 mod reads;

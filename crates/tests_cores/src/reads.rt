@@ -18,7 +18,8 @@ fn a_read_is_released_once_by_the_update_that_brings_its_variable_to_the_thresho
     check_story(
         rt.alloc(),
         COUNTED,
-        Story::Asked(0, Until::Count(5), lists),
+        Story::Asked(0, Until::Count(5)),
+        lists,
         "ok\n\nok 0\n7\nok\n8\n",
     )?;
     Ok(())

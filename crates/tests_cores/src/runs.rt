@@ -233,17 +233,12 @@ fn outcome_of(table: &Table) -> Outcome {
     }
 }
 
-/// A run over a library, of the numbers that follow from a seed.
-fn play_over(alloc: Global, lib: &Library, seed: u64) -> Result<Outcome, Wrong> {
-    let mut table = Table::new(alloc, lib, OPENING)?;
-    play(&mut table, &mut Dice::new(seed), 8)?;
-    Ok(outcome_of(&table))
-}
-
 /// A run of the numbers that follow from a seed.
 fn play_from(alloc: Global, seed: u64) -> Result<Outcome, Wrong> {
     let lib = library(alloc)?;
-    play_over(alloc, &lib, seed)
+    let mut table = Table::new(alloc, &lib, OPENING)?;
+    play(&mut table, &mut Dice::new(seed), 8)?;
+    Ok(outcome_of(&table))
 }
 
 /// A run ends settled, with all that was declared, and many calls were refused and compared.

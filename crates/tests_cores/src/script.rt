@@ -4,13 +4,12 @@ ghost use Rattle.std.specs.Prelude.{◌≡◌};
 ghost use Rattle.lasp_core.specs.Listed.{GoesOn};
 ghost use Rattle.tests_cores.specs.Follows.{Follows};
 
-use crate::call::{Call, Doing, Until, What};
+use crate::call::{Call, Until};
 use crate::cores::declare;
 use crate::functions::library;
 use crate::table::Table;
 use crate::wrong::{Wrong, check_lines};
 use lasp_core::{jobs_stay, reads_stay_open};
-use lasp_fns::Library;
 use std::alloc::Global;
 
 /// A call that adds no entry.
@@ -111,57 +110,60 @@ fn calls_round(table: &mut Table, var: u8, lists: [&[Call]; 3]) -> Result<(), Wr
     calls(table, lists[2])
 }
 
-/// Updates of a variable one after the other, each by itself, and then all states.
-fn updates(table: &mut Table, var: u8, list: &[(Doing, i8)]) -> Result<(), Wrong> {
-    for (doing, n) in list {
-        calls(table, &[Call::Update(var, *doing, *n)])?;
+/// A call that updates this variable in place of its own.
+fn on(var: u8, call: Call) -> Call {
+    match call {
+        Call::Update(_, doing, n) => Call::Update(var, doing, n),
+        other => other,
     }
-    calls(table, &[Call::Tell(What::States)])
 }
 
-/// Calls of a new core.
+/// Calls one after the other, whose updates are of this variable.
+fn calls_on(table: &mut Table, var: u8, list: &[Call]) -> Result<(), Wrong> {
+    for one in list {
+        calls(table, &[on(var, *one)])?;
+    }
+    Ok(())
+}
+
+/// How three lists of calls are made.
 #[derive(Clone, Copy)]
-pub enum Story<'a> {
-    /// Calls one after the other.
-    Calls(&'a [Call<'a>]),
-    /// Calls before, while and after a job of this variable is out.
-    Late(u8, [&'a [Call<'a>]; 3]),
-    /// Calls while a read of this variable is open, which is asked after each list of them.
-    Asked(u8, Until, [&'a [Call<'a>]; 3]),
-    /// What is done to this variable, and then all states.
-    Updates(u8, &'a [(Doing, i8)]),
+pub enum Story {
+    /// The calls of the first list, whose updates are of this variable.
+    On(u8),
+    /// Before, while and after a job of this variable is out.
+    Late(u8),
+    /// While a read of this variable is open, which is asked after each list.
+    Asked(u8, Until),
 }
 
 /// Makes the calls of a story.
-fn make(table: &mut Table, story: Story) -> Result<(), Wrong> {
+fn make(table: &mut Table, story: Story, lists: [&[Call]; 3]) -> Result<(), Wrong> {
     match story {
-        Story::Calls(list) => calls(table, list),
-        Story::Late(var, lists) => calls_round(table, var, lists),
-        Story::Asked(var, until, lists) => asked(table, var, until, lists),
-        Story::Updates(var, list) => updates(table, var, list),
+        Story::On(var) => calls_on(table, var, lists[0]),
+        Story::Late(var) => calls_round(table, var, lists),
+        Story::Asked(var, until) => asked(table, var, until, lists),
     }
 }
 
-/// A story over a library comes to this, a line for each call.
-fn check_over(
+/// A story comes to this, a line for each call.
+pub fn check_story(
     alloc: Global,
-    lib: &Library,
     graph: &str,
     story: Story,
+    lists: [&[Call]; 3],
     wanted: &str,
 ) -> Result<(), Wrong> {
-    let mut table = Table::new(alloc, lib, graph)?;
-    make(&mut table, story)?;
-    check_lines(table.out.as_str(), wanted)
-}
-
-/// A story comes to this, a line for each call.
-pub fn check_story(alloc: Global, graph: &str, story: Story, wanted: &str) -> Result<(), Wrong> {
     let lib = library(alloc)?;
-    check_over(alloc, &lib, graph, story, wanted)
+    let mut table = Table::new(alloc, &lib, graph)?;
+    make(&mut table, story, lists)?;
+    check_lines(table.out.as_str(), wanted)
 }
 
 /// Calls come to this, a line for each.
 pub fn check_told(alloc: Global, graph: &str, list: &[Call], wanted: &str) -> Result<(), Wrong> {
-    check_story(alloc, graph, Story::Calls(list), wanted)
+    let lib = library(alloc)?;
+    let mut table = Table::new(alloc, &lib, graph)?;
+    calls(&mut table, list)?;
+    check_lines(table.out.as_str(), wanted)
 }

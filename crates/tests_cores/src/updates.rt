@@ -28,13 +28,14 @@ fn an_update_is_refused_by_its_variable_and_then_by_its_operation(
 const FOUR: &str = r#"[["a","orset"],["g","gset"],["c","counter"],["x","maxreg"]]"#;
 
 /// Each operation.
-const EACH: [(Doing, i8); 6] = [
-    (Doing::Add, 3),
-    (Doing::Remove, 3),
-    (Doing::Insert, -3),
-    (Doing::Count, 3),
-    (Doing::Raise, -3),
-    (Doing::Join, 3),
+const EACH: [Call; 7] = [
+    Call::Update(0, Doing::Add, 3),
+    Call::Update(0, Doing::Remove, 3),
+    Call::Update(0, Doing::Insert, -3),
+    Call::Update(0, Doing::Count, 3),
+    Call::Update(0, Doing::Raise, -3),
+    Call::Update(0, Doing::Join, 3),
+    Call::Tell(What::States),
 ];
 
 /// A variable, and what the operations on it come to.
@@ -60,7 +61,7 @@ const TAKEN: [(u8, &str); 4] = [
 #[test]
 fn each_source_takes_the_operations_of_its_kind(rt: HostRuntime) -> Result<(), Fail> {
     for (var, wanted) in &TAKEN {
-        check_story(rt.alloc(), FOUR, Story::Updates(*var, &EACH), wanted)?;
+        check_story(rt.alloc(), FOUR, Story::On(*var), [&EACH, &[], &[]], wanted)?;
     }
     Ok(())
 }
