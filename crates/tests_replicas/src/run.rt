@@ -6,6 +6,7 @@ mod limits;
 mod merges;
 mod runs;
 
+use crate::wrong::Wrong;
 use lasp_edge::{MemFiles, MemSink};
 use lasp_fns::Library;
 use lasp_run::one_thread;
@@ -42,46 +43,98 @@ fn files_of(alloc: Global, graph: &str, script: &str) -> Result<MemFiles, AllocE
     Ok(files)
 }
 
-/// What the program answers and writes, where the outputs have room for so many bytes.
+/// What the program writes to.
+#[derive(Drop)]
+struct Outputs {
+    out: MemSink,
+    err: MemSink,
+}
+
+impl Outputs {
+    /// Outputs with room for so many bytes.
+    fn new(alloc: Global, room: (u64, u64)) -> Result<Outputs, AllocError> {
+        let out = MemSink::new(alloc, room.0)?;
+        Ok(Outputs {
+            out,
+            err: MemSink::new(alloc, room.1)?,
+        })
+    }
+
+    /// A run answered this status, wrote these bytes, and told this line.
+    fn check(
+        &self,
+        answered: u8,
+        status: u8,
+        written: &[u8],
+        told: &'static str,
+    ) -> Result<(), Wrong> {
+        if answered != status {
+            Err(Wrong::Status(answered))
+        } else if self.out.bytes() != written {
+            Err(Wrong::Written(told))
+        } else if self.err.bytes() != told.as_bytes() {
+            Err(Wrong::Told(told))
+        } else {
+            Ok(())
+        }
+    }
+}
+
+/// The status that the program answers over a library of no functions.
 fn run(
     alloc: Global,
     line: &str,
     files: &mut MemFiles,
-    room: (u64, u64),
-) -> Result<(u8, MemSink, MemSink), AllocError> {
+    outputs: &mut Outputs,
+) -> Result<u8, AllocError> {
     let words = words_of(alloc, line)?;
     let lib = Library::new(alloc);
-    let mut out = MemSink::new(alloc, room.0)?;
-    let mut err = MemSink::new(alloc, room.1)?;
-    let status = one_thread(alloc, &words, files, &mut out, &mut err, &lib);
-    Ok((status, out, err))
+    let Outputs { out, err } = outputs;
+    Ok(one_thread(alloc, &words, files, out, err, &lib))
 }
 
-/// Whether the program ends with this status and writes these bytes and this line.
-fn ends(
+/// The program ends with this status and writes these bytes and this line, where the outputs have room for so many bytes.
+fn check_within(
     alloc: Global,
     line: &str,
     files: &mut MemFiles,
-    status: u8,
-    written: &[u8],
-    told: &str,
-) -> Result<bool, AllocError> {
-    let (ended, out, err) = run(alloc, line, files, (4096, 256))?;
-    Ok(ended == status && out.bytes() == written && err.bytes() == told.as_bytes())
+    room: (u64, u64),
+    end: (u8, &[u8], &'static str),
+) -> Result<(), Wrong> {
+    let mut outputs = Outputs::new(alloc, room)?;
+    let answered = run(alloc, line, files, &mut outputs)?;
+    outputs.check(answered, end.0, end.1, end.2)
+}
+
+/// The program ends with this status and writes these bytes and this line.
+fn check_run(
+    alloc: Global,
+    line: &str,
+    files: &mut MemFiles,
+    end: (u8, &[u8], &'static str),
+) -> Result<(), Wrong> {
+    check_within(alloc, line, files, (4096, 256), end)
+}
+
+/// The same over a graph and a script.
+fn check_plain(
+    alloc: Global,
+    line: &str,
+    graph: &str,
+    script: &str,
+    end: (u8, &[u8], &'static str),
+) -> Result<(), Wrong> {
+    let mut files = files_of(alloc, graph, script)?;
+    check_run(alloc, line, &mut files, end)
 }
 
 /// A graph and a script, with the status, what is written and the line that is told.
-type Row<'a> = (&'a str, &'a str, u8, &'a [u8], &'a str);
+type Row = (&'static str, &'static str, u8, &'static [u8], &'static str);
 
-/// The first row that ends otherwise under these words.
-fn first_other(alloc: Global, line: &str, rows: &[Row]) -> Result<Option<u64>, AllocError> {
-    let mut at = 0u64;
+/// Each row ends as it says under these words.
+fn check_rows(alloc: Global, line: &str, rows: &[Row]) -> Result<(), Wrong> {
     for (graph, script, status, written, told) in rows {
-        let mut files = files_of(alloc, graph, script)?;
-        if !ends(alloc, line, &mut files, *status, written, told)? {
-            return Ok(Some(at));
-        }
-        at = at.saturating_add(1);
+        check_plain(alloc, line, graph, script, (*status, *written, *told))?;
     }
-    Ok(None)
+    Ok(())
 }

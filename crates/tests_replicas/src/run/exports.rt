@@ -1,7 +1,6 @@
 //! The bytes of a node's message.
 
-use super::{COUNTER, FIRST, Row, SECOND, SET, first_other};
-use std::alloc::{AllocError, Global};
+use super::{COUNTER, FIRST, Row, SECOND, SET, check_rows};
 use std::test::Fail;
 
 const FIRST_NODE: [Row; 5] = [
@@ -55,28 +54,9 @@ const NO_NODE: [Row; 1] = [(SET, r#"[["nodes",8]]"#, 1, b"", "usage\n")];
 
 #[test]
 fn a_node_exports_its_message(rt: HostRuntime) -> Result<(), Fail> {
-    let alloc = rt.alloc();
-    assert_eq!(rt;
-        first_other(alloc, "export g.json s.json 0", &FIRST_NODE)?,
-        None
-    );
-    assert_eq!(rt;
-        first_other(alloc, "export g.json s.json 1", &SECOND_NODE)?,
-        None
-    );
+    check_rows(rt.alloc(), "export g.json s.json 0", &FIRST_NODE)?;
+    check_rows(rt.alloc(), "export g.json s.json 1", &SECOND_NODE)?;
     Ok(())
-}
-
-/// The first words that are others than those of an export.
-fn first_form(alloc: Global, lines: &[&str]) -> Result<Option<u64>, AllocError> {
-    let mut at = 0u64;
-    for line in lines {
-        if first_other(alloc, line, &NO_NODE)?.is_some() {
-            return Ok(Some(at));
-        }
-        at = at.saturating_add(1);
-    }
-    Ok(None)
 }
 
 const WRONG: [&str; 6] = [
@@ -90,6 +70,8 @@ const WRONG: [&str; 6] = [
 
 #[test]
 fn a_node_is_one_digit(rt: HostRuntime) -> Result<(), Fail> {
-    assert_eq!(rt; first_form(rt.alloc(), &WRONG)?, None);
+    for line in &WRONG {
+        check_rows(rt.alloc(), line, &NO_NODE)?;
+    }
     Ok(())
 }

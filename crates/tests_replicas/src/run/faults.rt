@@ -1,9 +1,8 @@
 //! Reads and writes of exports and merges that fail, and files at the limit of what is read.
 
-use super::{COUNTER, FIRST, PLAIN, SECOND, SET, ends, files_of, run, words_of};
-use lasp_edge::{MemFiles, MemSink};
-use lasp_fns::Library;
-use lasp_run::one_thread;
+use super::{COUNTER, FIRST, Outputs, PLAIN, SECOND, SET, check_run, check_within, files_of, run};
+use crate::wrong::Wrong;
+use lasp_edge::MemFiles;
 use std::alloc::{AllocError, Global};
 use std::test::Fail;
 
@@ -13,16 +12,21 @@ const EXPORT: &str = "export g.json s.json 0";
 
 const MERGE: &str = "merge g.json first second";
 
+/// Puts two messages among the files.
+fn put_messages(alloc: Global, files: &mut MemFiles) -> Result<(), AllocError> {
+    files.put_file(alloc, "first", FIRST)?;
+    files.put_file(alloc, "second", SECOND)
+}
+
 /// A graph, a script and two messages as files in memory.
 fn all_files(alloc: Global) -> Result<MemFiles, AllocError> {
     let mut files = files_of(alloc, SET, SCRIPT)?;
-    files.put_file(alloc, "first", FIRST)?;
-    files.put_file(alloc, "second", SECOND)?;
+    put_messages(alloc, &mut files)?;
     Ok(files)
 }
 
 /// The words, the read that is set to fail, and the file that is told.
-const UNREAD: [(&str, u64, &str); 5] = [
+const UNREAD: [(&str, u64, &'static str); 5] = [
     (EXPORT, 0, "read fault g.json\n"),
     (EXPORT, 1, "read fault s.json\n"),
     (MERGE, 0, "read fault g.json\n"),
@@ -30,91 +34,84 @@ const UNREAD: [(&str, u64, &str); 5] = [
     (MERGE, 2, "read fault second\n"),
 ];
 
-/// The first row that ends otherwise.
-fn first_read(alloc: Global, rows: &[(&str, u64, &str)]) -> Result<Option<u64>, AllocError> {
-    let mut at = 0u64;
-    for (line, call, told) in rows {
-        let mut files = all_files(alloc)?;
-        files.fail_at(*call)?;
-        if !ends(alloc, line, &mut files, 4, b"", told)? {
-            return Ok(Some(at));
-        }
-        at = at.saturating_add(1);
-    }
-    Ok(None)
+/// A run ends so where this read is set to fail.
+fn check_unread(alloc: Global, line: &str, call: u64, told: &'static str) -> Result<(), Wrong> {
+    let mut files = all_files(alloc)?;
+    files.fail_at(call)?;
+    check_run(alloc, line, &mut files, (4, b"", told))
 }
 
 #[test]
 fn files_that_cannot_be_read_are_named(rt: HostRuntime) -> Result<(), Fail> {
-    assert_eq!(rt; first_read(rt.alloc(), &UNREAD)?, None);
+    for (line, call, told) in &UNREAD {
+        check_unread(rt.alloc(), line, *call, told)?;
+    }
     Ok(())
 }
 
-/// Whether the program ends so where a message has so many bytes, all of them spaces.
-fn ends_after(alloc: Global, length: usize, status: u8, told: &str) -> Result<bool, AllocError> {
+/// Files with a message of so many bytes, all of them spaces.
+fn long_files(alloc: Global, length: usize) -> Result<MemFiles, AllocError> {
     let bytes = vec![in alloc; b' '; length]?;
     let mut files = all_files(alloc)?;
     files.put_file(alloc, "second", &bytes)?;
-    ends(alloc, MERGE, &mut files, status, b"", told)
+    Ok(files)
+}
+
+/// The program ends so where a message has so many bytes, all of them spaces.
+fn check_long(alloc: Global, length: usize, status: u8, told: &'static str) -> Result<(), Wrong> {
+    let mut files = long_files(alloc, length)?;
+    check_run(alloc, MERGE, &mut files, (status, b"", told))
 }
 
 #[test]
 fn messages_are_read_up_to_16777216_bytes(rt: HostRuntime) -> Result<(), Fail> {
-    let alloc = rt.alloc();
-    assert!(rt; ends_after(alloc, 16_777_216, 9, "state second 0 Magic\n")?);
-    assert!(rt; ends_after(alloc, 16_777_217, 4, "too long second 16777216\n")?);
+    check_long(rt.alloc(), 16_777_216, 9, "state second 0 Magic\n")?;
+    check_long(rt.alloc(), 16_777_217, 4, "too long second 16777216\n")?;
     Ok(())
 }
 
-/// Whether a first write that fails after so many bytes leaves just these, and tells the fault.
-fn leaves(alloc: Global, line: &str, taken: u64, whole: &[u8]) -> Result<bool, AllocError> {
-    let words = words_of(alloc, line)?;
-    let lib = Library::new(alloc);
-    let mut files = all_files(alloc)?;
-    let mut out = MemSink::new(alloc, 256)?;
-    let mut err = MemSink::new(alloc, 256)?;
-    out.fail_at(0, taken)?;
-    let status = one_thread(alloc, &words, &mut files, &mut out, &mut err, &lib);
-    let first = whole.get(..taken as usize).unwrap_or(b"");
-    Ok(status == 5 && out.bytes() == first && err.bytes() == b"write fault\n".as_slice())
+/// Outputs of which the first takes so many bytes and then fails.
+fn failing(alloc: Global, taken: u64) -> Result<Outputs, AllocError> {
+    let mut outputs = Outputs::new(alloc, (256, 256))?;
+    outputs.out.fail_at(0, taken)?;
+    Ok(outputs)
 }
 
-/// The first number of bytes after which a failed write leaves anything else.
-fn first_left(alloc: Global, line: &str, whole: &[u8]) -> Result<Option<u64>, AllocError> {
+/// A first write that fails after so many bytes leaves just these, and tells the fault.
+fn check_cut(alloc: Global, line: &str, taken: u64, whole: &[u8]) -> Result<(), Wrong> {
+    let mut files = all_files(alloc)?;
+    let mut outputs = failing(alloc, taken)?;
+    let status = run(alloc, line, &mut files, &mut outputs)?;
+    let first = whole.get(..taken as usize).unwrap_or(b"");
+    outputs.check(status, 5, first, "write fault\n")
+}
+
+/// So does each first write that fails.
+fn check_cuts(alloc: Global, line: &str, whole: &[u8]) -> Result<(), Wrong> {
     for taken in 0..whole.len() as u64 {
-        if !leaves(alloc, line, taken, whole)? {
-            return Ok(Some(taken));
-        }
+        check_cut(alloc, line, taken, whole)?;
     }
-    Ok(None)
+    Ok(())
 }
 
 #[test]
 fn a_failed_write_leaves_a_first_part(rt: HostRuntime) -> Result<(), Fail> {
-    let alloc = rt.alloc();
-    assert_eq!(rt; first_left(alloc, EXPORT, FIRST)?, None);
-    assert_eq!(rt; first_left(alloc, MERGE, b"a [5,6]\nknown 1 1\n")?, None);
+    check_cuts(rt.alloc(), EXPORT, FIRST)?;
+    check_cuts(rt.alloc(), MERGE, b"a [5,6]\nknown 1 1\n")?;
     Ok(())
 }
 
-/// Whether the program ends with this status and tells this first part of its line, where there is room for no more.
-fn tells(
-    alloc: Global,
-    line: &str,
-    files: &mut MemFiles,
-    status: u8,
-    told: &[u8],
-) -> Result<bool, AllocError> {
-    let (ended, out, err) = run(alloc, line, files, (256, told.len() as u64))?;
-    Ok(ended == status && out.bytes().is_empty() && err.bytes() == told)
+/// The program ends with this status and tells this first part of its line, where there is room for no more.
+fn check_cut_line(alloc: Global, line: &str, status: u8, told: &'static str) -> Result<(), Wrong> {
+    let script = r#"[["nodes",1],["inc",0,"c",3],["await",0,"c",["count",4]]]"#;
+    let mut files = files_of(alloc, COUNTER, script)?;
+    let room = (256, told.len() as u64);
+    check_within(alloc, line, &mut files, room, (status, b"", told))
 }
 
 #[test]
 fn a_fault_of_the_line_changes_no_status(rt: HostRuntime) -> Result<(), Fail> {
-    let alloc = rt.alloc();
-    let script = r#"[["nodes",1],["inc",0,"c",3],["await",0,"c",["count",4]]]"#;
-    let mut files = files_of(alloc, COUNTER, script)?;
-    assert!(rt; tells(alloc, PLAIN, &mut files, 8, b"not")?);
-    assert!(rt; tells(alloc, "merge g.json s.json", &mut files, 9, b"state s.j")?);
+    check_cut_line(rt.alloc(), PLAIN, 8, "not")?;
+    check_cut_line(rt.alloc(), "merge g.json s.json", 9, "state s.j")?;
     Ok(())
 }

@@ -1,6 +1,7 @@
 //! Files of messages, merged.
 
-use super::{FIRST, SECOND, SET, ends};
+use super::{FIRST, SECOND, SET, check_run};
+use crate::wrong::Wrong;
 use lasp_edge::MemFiles;
 use std::alloc::{AllocError, Global};
 use std::test::Fail;
@@ -34,38 +35,28 @@ const FILES: [(&str, &[u8]); 7] = [
     ("swapped", SWAPPED),
 ];
 
-/// A graph and messages as files in memory.
-fn messages_of(
+/// Puts messages among the files.
+fn put_messages(
     alloc: Global,
-    graph: &str,
+    files: &mut MemFiles,
     messages: &[(&str, &[u8])],
-) -> Result<MemFiles, AllocError> {
-    let mut files = MemFiles::new(alloc);
-    files.put_file(alloc, "g.json", graph.as_bytes())?;
+) -> Result<(), AllocError> {
     for (name, bytes) in messages {
         files.put_file(alloc, name, bytes)?;
     }
-    Ok(files)
+    Ok(())
 }
 
 /// A graph and words, with the status, the text and the line that is told.
-type Merge<'a> = (&'a str, &'a str, u8, &'a str, &'a str);
+type Merge = (&'static str, &'static str, u8, &'static str, &'static str);
 
-/// The first row that ends otherwise over the files.
-fn first_other(
-    alloc: Global,
-    messages: &[(&str, &[u8])],
-    rows: &[Merge],
-) -> Result<Option<u64>, AllocError> {
-    let mut at = 0u64;
-    for (graph, line, status, text, told) in rows {
-        let mut files = messages_of(alloc, graph, messages)?;
-        if !ends(alloc, line, &mut files, *status, text.as_bytes(), told)? {
-            return Ok(Some(at));
-        }
-        at = at.saturating_add(1);
-    }
-    Ok(None)
+/// A merge of these messages ends as its row says.
+fn check_merge(alloc: Global, row: &Merge) -> Result<(), Wrong> {
+    let (graph, line, status, text, told) = *row;
+    let mut files = MemFiles::new(alloc);
+    files.put_file(alloc, "g.json", graph.as_bytes())?;
+    put_messages(alloc, &mut files, &FILES)?;
+    check_run(alloc, line, &mut files, (status, text.as_bytes(), told))
 }
 
 const MERGED: [Merge; 6] = [
@@ -110,7 +101,9 @@ const MERGED: [Merge; 6] = [
 
 #[test]
 fn messages_merge_in_any_order_and_number(rt: HostRuntime) -> Result<(), Fail> {
-    assert_eq!(rt; first_other(rt.alloc(), &FILES, &MERGED)?, None);
+    for row in &MERGED {
+        check_merge(rt.alloc(), row)?;
+    }
     Ok(())
 }
 
@@ -204,6 +197,8 @@ const REFUSED: [Merge; 16] = [
 
 #[test]
 fn other_files_are_refused_by_their_first_cause(rt: HostRuntime) -> Result<(), Fail> {
-    assert_eq!(rt; first_other(rt.alloc(), &FILES, &REFUSED)?, None);
+    for row in &REFUSED {
+        check_merge(rt.alloc(), row)?;
+    }
     Ok(())
 }
