@@ -5,6 +5,8 @@ use Rattle.model_states.specs.Threshold.{Threshold}
 use Rattle.model_graph.specs.Graph.{Decl}
 use Rattle.model_graph.specs.Evaluation.{content_at, first_large}
 use Rattle.model_world.specs.World.{Peer, shown_at}
+use Rattle.model_journal.specs.Entry.{Entry}
+use Rattle.lasp_drive.specs.Reads.{Reads}
 use Rattle.lasp_drive.specs.declared.node.NodeStop.{NodeStop}
 use Rattle.lasp_drive.specs.declared.node.NodeStop.TheVariants as node
 
@@ -33,6 +35,14 @@ abbrev pub Settles : {A : Type 0} → Option ℕ → Result A NodeStop → Type 
 Settles large (Ok done) = large ≡ None
 Settles large (Err (node.TooLarge x)) = large ≡ Some x
 Settles large (Err node.Memory) = Unit {0}
+
+-- a call that was refused has left the node as it was
+pub record IsUnchanged {N : Type 0} (decls : N → List Decl) (peer : N → Peer) (calls : N → List Entry) (shown : N → List Content) (reads : N → Reads) (old new : N) : Type 0 where
+  pub graph : decls new ≡ decls old
+  pub peer_is : peer new ≡ peer old
+  pub calls_are : calls new ≡ calls old
+  pub shown_is : shown new ≡ shown old
+  pub reads_are : reads new ≡ reads old
 
 -- node p of a run of so many nodes over a graph
 pub record IsNode {N : Type 0} (decls : N → List Decl) (number among : N → ℕ) (g : List Decl) (many p : ℕ) (n : N) : Type 0 where

@@ -20,7 +20,7 @@ ghost use Rattle.lasp_state.specs.State as state;
 ghost use Rattle.lasp_state.specs.State.{shown_state, op_of, IsOpOf};
 ghost use Rattle.lasp_state.specs.Threshold.{threshold_of};
 ghost use Rattle.lasp_graph.specs.Library.{library_of};
-ghost use Rattle.lasp_drive.specs.Node.{Awaited, awaits, Updates, Delivers, Settles, IsNode};
+ghost use Rattle.lasp_drive.specs.Node.{Awaited, awaits, Updates, Delivers, Settles, IsUnchanged, IsNode};
 ghost use Rattle.lasp_drive.specs.Reads.{Reads, no_reads, next_read, opens, closes, releases};
 
 use lasp_fns::Library;
@@ -105,7 +105,8 @@ pub trait Node: Drop + Sized {
         ensures node { IsNode decls number among (decls self.old) (among self.old) (number self.old) self.new }
         ensures done { Updates (updated (number self.old) x (op_of op.now) (peer self.old)) x result (peer self.new) }
         ensures calls { OnOk result (calls self.new ≡ calls self.old ++ fed (model.Update x (op_of op.now)) ∷ []) }
-        ensures reads { OnOk result (reads self.new ≡ releases (shown self.new) (reads self.old)) };
+        ensures reads { OnOk result (reads self.new ≡ releases (shown self.new) (reads self.old)) }
+        ensures unchanged { OnErr result (IsUnchanged decls peer calls shown reads self.old self.new) };
 
     /// What a source holds, shared.
     fn source(&self, x: u8) -> &Arc<State>
@@ -126,7 +127,8 @@ pub trait Node: Drop + Sized {
         ensures node { IsNode decls number among (decls self.old) (among self.old) (number self.old) self.new }
         ensures done { Delivers (delivered (decls self.old) (arc_value m.now) (peer self.old)) result (peer self.new) }
         ensures calls { OnOk result (calls self.new ≡ calls self.old ++ fed (model.Deliver i (arc_value m.now)) ∷ []) }
-        ensures reads { OnOk result (reads self.new ≡ releases (shown self.new) (reads self.old)) };
+        ensures reads { OnOk result (reads self.new ≡ releases (shown self.new) (reads self.old)) }
+        ensures unchanged { OnErr result (IsUnchanged decls peer calls shown reads self.old self.new) };
 
     /// Goes on with a graph that has one declaration more, of which nothing has happened.
     fn extend(&mut self, alloc: Global, graph: &Arc<Graph>) -> Result<(), AllocError>
@@ -134,7 +136,9 @@ pub trait Node: Drop + Sized {
         ensures node { OnOk result (IsNode decls number among (arc_value graph.now) (among self.old) (number self.old) self.new) }
         ensures peer { (d : Decl) → arc_value graph.now ≡ decls self.old ++ d ∷ [] → OnOk result (peer self.new ≡ extended (among self.old) d (peer self.old)) }
         ensures calls { (d : Decl) → arc_value graph.now ≡ decls self.old ++ d ∷ [] → OnOk result (calls self.new ≡ calls self.old ++ fed (model.Extend d) ∷ []) }
-        ensures reads { OnOk result (reads self.new ≡ reads self.old) };
+        ensures reads { OnOk result (reads self.new ≡ reads self.old) }
+        ensures kept { OnErr result (IsNode decls number among (decls self.old) (among self.old) (number self.old) self.new) }
+        ensures unchanged { OnErr result (IsUnchanged decls peer calls shown reads self.old self.new) };
 
     /// Brings every derived variable to what its process gives on the present sources.
     fn settle(&mut self, alloc: Global, lib: &Library) -> Result<(), NodeStop>

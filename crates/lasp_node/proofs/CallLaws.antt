@@ -1,15 +1,16 @@
 -- The calls and the reads that a node's core has after a call.
-use Rattle.std.proofs.Common.{ℕ, ◌≡◌, Bool, true, false, cond, not, if◌then◌else◌, refl, sym, ap, subst, ◌∙◌}
-use Rattle.std.specs.Prelude.{List, [], ◌∷◌, ◌++◌, filter}
+use Rattle.std.proofs.Common.{◌≡◌, Bool, true, false, cond, not, if◌then◌else◌, refl, sym, ap, subst, ◌∙◌}
+use Rattle.std.specs.Prelude.{List, [], ◌∷◌, ◌++◌, Result, Ok, Err, OnErr}
 use Rattle.std.specs.List.{AllByRecursion}
 use Rattle.model_graph.specs.Graph.{Decl}
 use Rattle.model_journal.specs.Entry.{Act, Entry, Extend}
-use Rattle.model_journal.specs.Journal.{vals}
+use Rattle.model_journal.specs.Journal.{graph, vals}
 use Rattle.model_replica.specs.Core.{Core, entered}
-use Rattle.model_replica.specs.Peer.{entry}
+use Rattle.model_replica.specs.Peer.{entry, peer_of}
 use Rattle.model_calls.specs.Calls.{fed, is_bind, unbound}
 use Rattle.model_calls.proofs.MatchLaws.{append-nothing}
 use Rattle.lasp_core.specs.Core.{declared}
+use Rattle.lasp_drive.specs.Node.{IsUnchanged}
 use Rattle.lasp_drive.specs.Reads.{releases}
 use Rattle.lasp_node.specs.Reads.{reads_of}
 use Rattle.lasp_node.specs.Settling.{IsOwnBind, HasBound}
@@ -46,3 +47,21 @@ settled-calls old new bound =
 
 pub settled-reads : (old new : Core) → HasBound old new → reads_of new ≡ releases (vals new.frame new.entries) (reads_of old)
 settled-reads old new bound = λ i. record { waiting = bound.parked i; opened = bound.opened i }
+
+-- a core that is as it was leaves its node as it was
+pub same-core : {N : Type 0} (core : N → Core) (old new : N) → core new ≡ core old
+    → IsUnchanged (λ n. graph (core n).frame (core n).entries) (λ n. peer_of (core n).frame (core n).entries) (λ n. unbound (core n).entries) (λ n. vals (core n).frame (core n).entries) (λ n. reads_of (core n)) old new
+same-core core old new same = record {
+  graph = ap (λ (c : Core). graph c.frame c.entries) same;
+  peer_is = ap (λ (c : Core). peer_of c.frame c.entries) same;
+  calls_are = ap (λ (c : Core). unbound c.entries) same;
+  shown_is = ap (λ (c : Core). vals c.frame c.entries) same;
+  reads_are = ap reads_of same;
+}
+
+pub on-err : {A E P Q : Type 0} (r : Result A E) → (P → Q) → OnErr r P → OnErr r Q
+on-err (Ok a) f p = tt
+on-err (Err e) f p = f p
+
+pub as-err : {A E : Type 0} (P : Type 0) (r s : Result A E) → r ≡ s → OnErr s P → OnErr r P
+as-err {A} {E} P r s same p = subst (λ (t : Result A E). OnErr t P) (sym same) p

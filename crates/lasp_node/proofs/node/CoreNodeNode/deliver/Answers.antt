@@ -7,11 +7,12 @@ use Rattle.model_replica.specs.Peer.{entry, peer_of}
 use Rattle.model_replica.proofs.PeerLaws.{graph-delivered}
 use Rattle.lasp_drive.specs.Node.{Delivers}
 use Rattle.lasp_drive.specs.declared.node.NodeStop.{NodeStop}
-use Rattle.std.specs.Prelude.{◌≡◌, [], ◌∷◌, ◌++◌, OnOk}
+use Rattle.std.specs.Prelude.{◌≡◌, [], ◌∷◌, ◌++◌, Ok, Err, OnOk}
 use Rattle.model_calls.specs.Calls.{fed, unbound}
 use Rattle.lasp_drive.specs.Reads.{releases}
 use Rattle.lasp_node.specs.Reads.{reads_of}
-use Rattle.lasp_node.proofs.CallLaws.{entered-calls, entered-reads}
+use Rattle.lasp_node.specs.declared.node.CoreNode.{CoreNode}
+use Rattle.lasp_node.proofs.CallLaws.{entered-calls, entered-reads, same-core, as-err}
 use Rattle.lasp_node.proofs.NodeLaws.{same-graph, not-wrong, delivered-ok, delivered-large}
 use Rattle.lasp_node.proofs.node.CoreNodeNode.deliver.Goals.{in-Ok, in-Err-TooManyRows, in-Err-Memory}
 use Rattle.lasp_node.proofs.node.CoreNodeNode.deliver.Goals as goal
@@ -59,4 +60,12 @@ returns-clause-reads c =
       | in-Ok w ↦ subst (λ (r : Result (Unit {0}) NodeStop). OnOk r (reads_of new ≡ releases (vals new.frame new.entries) (reads_of core))) (sym w.result-is) (entered-reads core new (entry 0 (Deliver c.args.i (arc_value c.args.m.now))) w.in-Ok.ensures.ok)
       | in-Err-TooManyRows w ↦ subst (λ (r : Result (Unit {0}) NodeStop). OnOk r (reads_of new ≡ releases (vals new.frame new.entries) (reads_of core))) (sym w.result-is) tt
       | in-Err-Memory w ↦ subst (λ (r : Result (Unit {0}) NodeStop). OnOk r (reads_of new ≡ releases (vals new.frame new.entries) (reads_of core))) (sym w.result-is) tt
+    ]
+
+pub returns-clause-unchanged : goal.returns-clause-unchanged
+returns-clause-unchanged c =
+    elim c.match-deliver.branch [
+      | in-Ok w ↦ as-err _ c.match-deliver.result (Ok tt) w.result-is tt
+      | in-Err-TooManyRows w ↦ as-err _ c.match-deliver.result (Err _) w.result-is (same-core (λ (n : CoreNode). n.core) _ _ w.in-Err-TooManyRows.ensures.err)
+      | in-Err-Memory w ↦ as-err _ c.match-deliver.result (Err _) w.result-is (same-core (λ (n : CoreNode). n.core) _ _ w.in-Err-Memory.ensures.err)
     ]

@@ -4,7 +4,8 @@ use Rattle.model_journal.specs.Entry.{Frame}
 use Rattle.model_journal.specs.Journal.{graph}
 use Rattle.lasp_graph.specs.Decl.{decl_of}
 use Rattle.lasp_node.proofs.NodeLaws.{on-ok, last-decl, extended-same, extended-peer}
-use Rattle.lasp_node.proofs.CallLaws.{declared-calls}
+use Rattle.lasp_node.specs.declared.node.CoreNode.{CoreNode}
+use Rattle.lasp_node.proofs.CallLaws.{declared-calls, same-core, on-err}
 use Rattle.lasp_node.proofs.node.CoreNodeNode.extend.Goals as goal
 
 pub extend-requires-clause-next : goal.extend-requires-clause-next
@@ -36,3 +37,6 @@ returns-clause-calls c d is =
     let last = last-decl (graph core.frame core.entries) (arc_value c.args.graph.now) c.deref.result.now c.deref-2.result.now d (decl_of c.at.result.now) c.len.result
     is c.deref.ensures c.deref-2.ensures c.len.ensures.graph c.len.ensures.count c.at.ensures.decl in
     on-ok c.extend.result (declared-calls core c.extend.new.self (decl_of c.at.result.now) d last.same) c.extend.ensures.ok
+
+pub returns-clause-unchanged : goal.returns-clause-unchanged
+returns-clause-unchanged c = on-err c.extend.result (same-core (λ (n : CoreNode). n.core) _ _) c.extend.ensures.err
