@@ -107,31 +107,22 @@ fn numbers(alloc: Global, count: u32) -> Result<OrSet, AllocError> {
     Ok(set)
 }
 
-fn share(alloc: Global, state: State) -> Result<Arc<State>, AllocError> {
-    Ok(Arc::new(alloc, state)?)
-}
-
-/// An empty set and this one.
-fn inputs_of(alloc: Global, second: OrSet) -> Result<Inputs, AllocError> {
-    let second = share(alloc, State::Set(second))?;
-    Ok(Inputs {
-        first: share(alloc, State::empty_set(alloc))?,
-        second: Some(second),
-    })
-}
-
-/// The number of rows of variable 1, where it is a process of these inputs.
-fn rows_of(alloc: Global, g: &Graph, lib: &Library, inputs: &Inputs) -> Result<u64, EvalRefused> {
+/// The number of rows of variable 1, where it is a process of an empty set and this one.
+fn rows_of(alloc: Global, g: &Graph, lib: &Library, second: OrSet) -> Result<u64, EvalRefused> {
     if g.len() < 2 || g.at(1).kind.is_source() || !g.fits(lib) {
         return Ok(0);
     }
-    Ok(eval_node(alloc, g, lib, 1, inputs)?.size())
+    let inputs = Inputs {
+        first: Arc::new(alloc, State::empty_set(alloc))?,
+        second: Some(Arc::new(alloc, State::Set(second))?),
+    };
+    let state = eval_node(alloc, g, lib, 1, &inputs)?;
+    Ok(state.size())
 }
 
 /// The rows of the union with a set of so many, none where they are too many.
 fn united(alloc: Global, g: &Graph, lib: &Library, count: u32) -> Result<Option<u64>, AllocError> {
-    let inputs = inputs_of(alloc, numbers(alloc, count)?)?;
-    match rows_of(alloc, g, lib, &inputs) {
+    match rows_of(alloc, g, lib, numbers(alloc, count)?) {
         Ok(rows) => Ok(Some(rows)),
         Err(EvalRefused::TooManyRows) => Ok(None),
         Err(EvalRefused::Memory) => Err(AllocError),

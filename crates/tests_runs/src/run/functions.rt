@@ -158,12 +158,14 @@ fn itself(alloc: Global) -> Result<StoredLift, AllocError> {
     Ok(StoredLift::new(LiftOp::Itself, Box::new(alloc, l)?))
 }
 
-/// Adds the functions that the graphs name.
-fn add_functions(alloc: Global, lib: &mut Library) -> Result<(), LibraryRefused> {
+/// A library of the functions that the graphs name.
+fn library(alloc: Global) -> Result<Library, LibraryRefused> {
+    let mut lib = Library::new(alloc);
     lib.add_map("abs", map_of(alloc, MapOp::Abs)?)?;
     lib.add_map("succ", map_of(alloc, MapOp::Add(1))?)?;
     lib.add_lift("itself", itself(alloc)?)?;
-    lib.add_pred("even", even(alloc)?)
+    lib.add_pred("even", even(alloc)?)?;
+    Ok(lib)
 }
 
 /// A run ends as its row says.
@@ -183,9 +185,7 @@ fn check_rows(alloc: Global, lib: &Library, rows: &[Run]) -> Result<(), Wrong> {
 
 /// The same over a library of these functions.
 fn check_functions(alloc: Global, rows: &[Run]) -> Result<(), Wrong> {
-    let mut lib = Library::new(alloc);
-    add_functions(alloc, &mut lib)?;
-    check_rows(alloc, &lib, rows)
+    check_rows(alloc, &library(alloc)?, rows)
 }
 
 #[test]
