@@ -3,3 +3,4 @@ pub mod CallLaws
 pub mod DriverLaws
 pub mod SyncLaws
 pub mod PointLaws
+pub mod WaitLaws

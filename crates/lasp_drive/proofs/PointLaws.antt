@@ -13,6 +13,8 @@ use Rattle.model_world.specs.World.{Peer, Run, Reach, act, peer_at, shown_at, sh
 use Rattle.model_world.specs.declared.stop.Stop.{Stop}
 use Rattle.model_world.specs.declared.stop.Stop.TheVariants.{TooLarge, NotReached}
 use Rattle.lasp_drive.specs.Node.{Awaited, awaits, Settles, IsNode, AreNodes, AreSettled, AreSettledBelow}
+use Rattle.lasp_drive.specs.Reads.{Reads}
+use Rattle.lasp_drive.specs.Waiting.{AreWaiting}
 use Rattle.lasp_drive.specs.declared.node.NodeStop.{NodeStop}
 use Rattle.lasp_drive.specs.declared.node.NodeStop.TheVariants as node
 use Rattle.std.specs.declared.vec.Vec.{Vec}
@@ -158,16 +160,17 @@ fresh-push {N} {X} of p fresh nodes new all is =
 -- ---- the run after a point
 
 -- other nodes with the same replicas
-pub settled-ready : {N R A E : Type 0} (decls : N → List Decl) (number among : N → ℕ) (peer : N → Peer) (awaited : R → Awaited) (many c : ℕ) (d : Driver N R) (nodes : Vec N Global) (result : Result A E) → IsReady decls number among peer awaited many c d → length nodes.items ≡ length d.nodes.items → AreNodes decls number among (arc_value d.graph) many nodes.items
-    → map peer nodes.items ≡ map peer d.nodes.items → OnOk result (IsReady decls number among peer awaited many c (record { graph = d.graph; nodes = nodes; network = d.network; marks = d.marks; reads = d.reads; text = d.text }))
-settled-ready decls number among peer awaited many c d nodes (Err e) ready size each same = tt
-settled-ready decls number among peer awaited many c d nodes (Ok done) ready size each same = record {
+pub settled-ready : {N R A E : Type 0} (decls : N → List Decl) (number among : N → ℕ) (peer : N → Peer) (awaited : R → Awaited) (number_of : R → ℕ) (shown : N → List Content) (reads : N → Reads) (many c : ℕ) (d : Driver N R) (nodes : Vec N Global) (result : Result A E) → IsReady decls number among peer awaited number_of shown reads many c d → length nodes.items ≡ length d.nodes.items → AreNodes decls number among (arc_value d.graph) many nodes.items
+    → map peer nodes.items ≡ map peer d.nodes.items → AreWaiting awaited number_of shown reads c nodes.items d.reads.items → OnOk result (IsReady decls number among peer awaited number_of shown reads many c (record { graph = d.graph; nodes = nodes; network = d.network; marks = d.marks; reads = d.reads; text = d.text }))
+settled-ready decls number among peer awaited number_of shown reads many c d nodes (Err e) ready size each same waiting = tt
+settled-ready decls number among peer awaited number_of shown reads many c d nodes (Ok done) ready size each same waiting = record {
   some = ready.some;
   few = ready.few;
   size = size ∙ ready.size;
   nodes = each;
   limit = ready.limit;
   sound = subst (λ (rs : List Peer). IsSound many c (stage_of d) (with_peers (run_of peer awaited d) rs)) (sym same) ready.sound;
+  waiting = waiting;
 }
 
 -- ---- the run after a declaration
@@ -176,10 +179,10 @@ done_with : Run → Result Run Stop
 done_with run = Ok run
 
 -- the nodes went on with the larger graph
-pub extended-ready : {N R : Type 0} (decls : N → List Decl) (number among : N → ℕ) (peer : N → Peer) (awaited : R → Awaited) (many c : ℕ) (d : Driver N R) (decl : Decl) (graph : Arc Graph Global) (nodes : Vec N Global) → IsReady decls number among peer awaited many c d → arc_value graph ≡ arc_value d.graph ++ decl ∷ [] → length d.nodes.items ≡ many
+pub extended-ready : {N R : Type 0} (decls : N → List Decl) (number among : N → ℕ) (peer : N → Peer) (awaited : R → Awaited) (number_of : R → ℕ) (shown : N → List Content) (reads : N → Reads) (many c : ℕ) (d : Driver N R) (decl : Decl) (graph : Arc Graph Global) (nodes : Vec N Global) → IsReady decls number among peer awaited number_of shown reads many c d → arc_value graph ≡ arc_value d.graph ++ decl ∷ [] → length d.nodes.items ≡ many
     → length nodes.items ≡ length d.nodes.items → AreNodes decls number among (arc_value graph) many nodes.items → map peer nodes.items ≡ map (extended many decl) (map peer d.nodes.items)
-    → IsReady decls number among peer awaited many c (record { graph = graph; nodes = nodes; network = d.network; marks = d.marks; reads = d.reads; text = d.text })
-extended-ready decls number among peer awaited many c d decl graph nodes ready is known size each same = record {
+    → AreWaiting awaited number_of shown reads c nodes.items d.reads.items → IsReady decls number among peer awaited number_of shown reads many c (record { graph = graph; nodes = nodes; network = d.network; marks = d.marks; reads = d.reads; text = d.text })
+extended-ready decls number among peer awaited number_of shown reads many c d decl graph nodes ready is known size each same waiting = record {
   some = ready.some;
   few = ready.few;
   size = size ∙ known;
@@ -193,6 +196,7 @@ extended-ready decls number among peer awaited many c d decl graph nodes ready i
       subst (λ (g : List Decl). IsSound many c (record { graph = g; marked = (stage_of d).marked; sent = (stage_of d).sent }) (record { graph = g; peers = map peer nodes.items; sent = run.sent; marks = run.marks; reads = run.reads; text = run.text })) (sym is)
       (subst (λ (rs : List Peer). IsSound many c (record { graph = run.graph ++ decl ∷ []; marked = (stage_of d).marked; sent = (stage_of d).sent }) (record { graph = run.graph ++ decl ∷ []; peers = rs; sent = run.sent; marks = run.marks; reads = run.reads; text = run.text }))
       (ap (λ (k : ℕ). map (extended k decl) (map peer d.nodes.items)) count ∙ sym same) sound);
+  waiting = waiting;
 }
 
 -- ---- the reads of a run
@@ -211,6 +215,10 @@ pub shown-here : {N : Type 0} (decls : N → List Decl) (peer : N → Peer) (sho
 shown-here decls peer shown g nodes p x n settled within found graph =
     ap (λ (cs : List Content). content_at cs x)
     (settled p n (slice_get_read nodes (length nodes) p n refl within found) ∙ ap (λ (h : List Decl). shown_at h (peer n)) graph ∙ ap (shown_at g) (sym (peer-here peer nodes p n within found)))
+
+-- whether the node there is at a threshold
+pub reached-there : {N : Type 0} (shown : N → List Content) (nodes : List N) (p x : ℕ) (n m : N) (t : Threshold) → n ≡ get_or nodes p n → slice_get nodes p ≡ Some m → meets t (content_at (shown m) x) ≡ meets t (content_at (shown n) x)
+reached-there shown nodes p x n m t found at = ap (λ k. meets t (content_at (shown k) x)) (sym (found ∙ get_or_from_slice_get nodes p m n at))
 
 -- a read that was opened of a variable
 pub opened-here : {R : Type 0} (awaited : R → Awaited) (p x : ℕ) (r : R) (t : Threshold) → awaited r ≡ awaits x t → opened p (awaited r).var (awaited r).threshold ≡ opened p x t
@@ -231,8 +239,8 @@ pub reach-stops : (c p x : ℕ) (run : Run) (until : Until) (t : Threshold) (s :
 reach-stops c p x run until t s met is false_here same shown =
     ap (reached_by c run) (sym (sym false_here ∙ is ∙ ap (λ (u : Threshold). meets u s) same ∙ ap (meets (threshold_of run.marks until)) shown))
 
-pub opened-ready : {N R : Type 0} (decls : N → List Decl) (number among : N → ℕ) (peer : N → Peer) (awaited : R → Awaited) (c : ℕ) (d : Driver N R) → IsReady decls number among peer awaited (length d.nodes.items) c d → AreOpened decls number among peer awaited d.nodes.items d.reads.items
-opened-ready {N} {R} decls number among peer awaited c d ready = (run_of peer awaited d, refl, ready.nodes, λ k read at. subst (IsOpened (length d.nodes.items) (arc_value d.graph)) (read-here k read at) (ready.sound.reads k (omega (arith, slice_get_within d.reads.items k read at, length-map d.reads.items (opened_of awaited))))) where
+pub opened-ready : {N R : Type 0} (decls : N → List Decl) (number among : N → ℕ) (peer : N → Peer) (awaited : R → Awaited) (number_of : R → ℕ) (shown : N → List Content) (reads : N → Reads) (c : ℕ) (d : Driver N R) → IsReady decls number among peer awaited number_of shown reads (length d.nodes.items) c d → AreOpened decls number among peer awaited d.nodes.items d.reads.items
+opened-ready {N} {R} decls number among peer awaited number_of shown reads c d ready = (run_of peer awaited d, refl, ready.nodes, λ k read at. subst (IsOpened (length d.nodes.items) (arc_value d.graph)) (read-here k read at) (ready.sound.reads k (omega (arith, slice_get_within d.reads.items k read at, length-map d.reads.items (opened_of awaited))))) where
   read-here : (k : ℕ) (read : OpenRead R) → slice_get d.reads.items k ≡ Some read → read_at (map (opened_of awaited) d.reads.items) k ≡ opened_of awaited read
   read-here k read at = get_or_from_slice_get (map (opened_of awaited) d.reads.items) k (opened_of awaited read) no_read (mapped d.reads.items k read at) where
     mapped : (reads : List (OpenRead R)) (k : ℕ) (read : OpenRead R) → slice_get reads k ≡ Some read → slice_get (map (opened_of awaited) reads) k ≡ Some (opened_of awaited read)

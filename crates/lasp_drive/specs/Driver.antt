@@ -1,6 +1,7 @@
 -- The driver as a run of the world, and what its acts leave.
-use Rattle.std.specs.Prelude.{◌≡◌, ℕ, ◌≤◌, List, map, length, slice_get, Some, string_bytes, Result, Ok, Err}
+use Rattle.std.specs.Prelude.{◌≡◌, ℕ, ◌≤◌, Bool, IsTrue, IsFalse, List, map, length, slice_get, Some, string_bytes, Result, Ok, Err}
 use Rattle.std.specs.Arc.{arc_value}
+use Rattle.model_states.specs.Content.{Content}
 use Rattle.model_graph.specs.Graph.{Decl}
 use Rattle.model_world.specs.Lawful.{Stage}
 use Rattle.model_world.specs.World.{Peer, Marked, Opened, Run, network_limit}
@@ -9,6 +10,8 @@ use Rattle.model_world.specs.declared.stop.Stop.TheVariants as stop
 use Rattle.model_held.specs.Sound.{IsSound, IsOpened}
 use Rattle.lasp_state.specs.State.{content_of, shape_of}
 use Rattle.lasp_drive.specs.Node.{Awaited, AreNodes}
+use Rattle.lasp_drive.specs.Reads.{Reads}
+use Rattle.lasp_drive.specs.Waiting.{AreWaiting}
 use Rattle.lasp_drive.specs.declared.halt.Halt.{Halt}
 use Rattle.lasp_drive.specs.declared.halt.Halt.TheVariants as halt
 use Rattle.lasp_drive.specs.declared.driver.Mark.{Mark}
@@ -37,14 +40,15 @@ AreOpened {N} {R} decls number among peer awaited nodes reads =
     (run : Run) × (map peer nodes ≡ run.peers) × AreNodes decls number among run.graph (length nodes) nodes
     × ((k : ℕ) (read : OpenRead R) → slice_get reads k ≡ Some read → IsOpened (length nodes) run.graph (opened_of awaited read))
 
--- before command number c: the nodes are those of one run, which is sound
-pub record IsReady {N R : Type 0} (decls : N → List Decl) (number among : N → ℕ) (peer : N → Peer) (awaited : R → Awaited) (many c : ℕ) (d : Driver N R) : Type 0 where
+-- before command number c: the nodes are those of one run, which is sound; and of its reads those wait that aren't met
+pub record IsReady {N R : Type 0} (decls : N → List Decl) (number among : N → ℕ) (peer : N → Peer) (awaited : R → Awaited) (number_of : R → ℕ) (shown : N → List Content) (reads : N → Reads) (many c : ℕ) (d : Driver N R) : Type 0 where
   pub some : 1 ≤ many
   pub few : many ≤ 8
   pub size : length d.nodes.items ≡ many
   pub nodes : AreNodes decls number among (arc_value d.graph) many d.nodes.items
   pub limit : d.network.limit ≡ network_limit
   pub sound : IsSound many c (stage_of d) (run_of peer awaited d)
+  pub waiting : AreWaiting awaited number_of shown reads c d.nodes.items d.reads.items
 
 -- a run that didn't go on stopped where the world stops, or memory was wanting
 abbrev pub Halts : {B : Type 0} → Result B Stop → Halt → Type 0
@@ -57,3 +61,19 @@ Halts expected halt.Memory = Unit {0}
 abbrev pub Does : {A B : Type 0} → Result B Stop → Result A Halt → B → Type 0
 Does expected (Ok done) new = expected ≡ Ok new
 Does expected (Err why) new = Halts expected why
+
+-- the run went on because its threshold was met, or stopped at command number c because it wasn't, or memory was wanting
+abbrev pub Reaches : {A : Type 0} → ℕ → Bool → Result A Halt → Type 0
+Reaches c met (Ok done) = IsTrue met
+Reaches c met (Err (halt.NotReached k)) = (k ≡ c) × IsFalse met
+Reaches c met (Err halt.Memory) = Unit {0}
+Reaches c met (Err (halt.TooLarge k p x)) = ⊥
+Reaches c met (Err (halt.NetworkFull k)) = ⊥
+
+-- whether it was done or refused, unless memory was wanting
+abbrev pub UnlessMemory : {A : Type 0} → Result A Halt → Type 0 → Type 0
+UnlessMemory (Ok done) P = P
+UnlessMemory (Err halt.Memory) P = Unit {0}
+UnlessMemory (Err (halt.TooLarge k p x)) P = P
+UnlessMemory (Err (halt.NetworkFull k)) P = P
+UnlessMemory (Err (halt.NotReached k)) P = P

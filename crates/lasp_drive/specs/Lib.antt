@@ -2,3 +2,4 @@ pub mod Node
 pub mod Driver
 pub mod Calls
 pub mod Reads
+pub mod Waiting

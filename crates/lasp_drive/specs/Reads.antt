@@ -1,5 +1,5 @@
 -- The reads of a node: which of them wait, and how many were opened.
-use Rattle.std.specs.Prelude.{◌≡◌, ℕ, ◌+◌, ◌-◌, ◌^◌, ◌==◌, min, Bool, not, if◌then◌else◌, List, [], ◌∷◌, ◌++◌, map, filter, slice_get, slice_set, slice_index_or, Some}
+use Rattle.std.specs.Prelude.{◌≡◌, ℕ, ◌+◌, ◌-◌, ◌^◌, ◌==◌, min, Bool, not, if◌then◌else◌, IsTrue, List, [], ◌∷◌, ◌++◌, map, filter, slice_get, slice_set, slice_index_or, Some}
 use Rattle.model_states.specs.Content.{Content}
 use Rattle.model_states.specs.Threshold.{Threshold, meets}
 use Rattle.model_graph.specs.Evaluation.{content_at}
@@ -29,9 +29,17 @@ opens r met s = record { waiting = (if met then s.waiting else s.waiting ++ r �
 abbrev pub closes : ℕ → Reads → Reads
 closes number s = record { waiting = filter (λ r. not (r.number == number)) s.waiting; opened = s.opened }
 
+-- those of the reads whose variables haven't come to their thresholds
+abbrev pub unmet : List Content → List Read → List Read
+unmet shown rs = filter (λ r. not (meets r.threshold (content_at shown r.var))) rs
+
 -- the reads whose variables have come to their thresholds wait no more
 abbrev pub releases : List Content → Reads → Reads
-releases shown s = record { waiting = filter (λ r. not (meets r.threshold (content_at shown r.var))) s.waiting; opened = s.opened }
+releases shown s = record { waiting = unmet shown s.waiting; opened = s.opened }
+
+-- each variable holds at least what it held: it is at every threshold that it has been at, `at_least` what it held among them
+abbrev pub Grows : List Content → List Content → Type 0
+Grows old new = (x : ℕ) (threshold : Threshold) → IsTrue (meets threshold (content_at old x)) → IsTrue (meets threshold (content_at new x))
 
 -- a read was opened and closed again
 abbrev pub looks : Reads → Reads

@@ -74,7 +74,7 @@ impl<N: Node> Driver<N> {
     pub fn new(alloc: Global, graph: &Arc<Graph>, nodes: u8) -> Result<Driver<N>, AllocError>
         requires some { 1 ≤ nodes }
         requires few { nodes ≤ 8 }
-        ensures ready { IfOk result (IsReady N.decls N.number N.among N.peer N.awaited nodes 1) }
+        ensures ready { IfOk result (IsReady N.decls N.number N.among N.peer N.awaited N.number_of N.shown N.reads nodes 1) }
         ensures start { IfOk result (λ d. run_of N.peer N.awaited d ≡ start (arc_value graph.now) nodes) }
         ensures stage { IfOk result (λ d. stage_of d ≡ opening_stage (arc_value graph.now)) }
         ensures calls { IfOk result (λ d. map N.calls d.nodes.items ≡ replicate nodes []) }

@@ -8,6 +8,7 @@ ghost use Rattle.model_states.specs.Counts.{count_at};
 ghost use Rattle.model_states.specs.Threshold.{suits, meets};
 ghost use Rattle.model_graph.specs.Graph.{Decl, is_source, kind_at};
 ghost use Rattle.model_graph.specs.Evaluation.{content_at, first_large};
+ghost use Rattle.model_graph.specs.Order.{ContentsAtMost};
 ghost use Rattle.model_graph.specs.Lawful.{shape_of};
 ghost use Rattle.model_world.specs.World.{Peer, fresh_peer, updated, delivered, extended, shown_at, message_at};
 ghost use Rattle.model_world.specs.Line.{shown_content};
@@ -21,7 +22,7 @@ ghost use Rattle.lasp_state.specs.State.{shown_state, op_of, IsOpOf};
 ghost use Rattle.lasp_state.specs.Threshold.{threshold_of};
 ghost use Rattle.lasp_graph.specs.Library.{library_of};
 ghost use Rattle.lasp_drive.specs.Node.{Awaited, awaits, Updates, Delivers, Settles, IsUnchanged, IsNode};
-ghost use Rattle.lasp_drive.specs.Reads.{Reads, no_reads, next_read, opens, closes, releases};
+ghost use Rattle.lasp_drive.specs.Reads.{Reads, no_reads, next_read, opens, closes, releases, Grows};
 
 use lasp_fns::Library;
 use lasp_graph::Graph;
@@ -73,7 +74,7 @@ pub trait Node: Drop + Sized {
     // its calls: the entries of its journal that are no results
     ghost calls: { Self → List model.Entry };
 
-    // what its variables hold: since a settle, what they show
+    // what its variables hold
     ghost shown: { Self → List Content };
 
     // its reads: those that wait, and how many were opened
@@ -94,6 +95,12 @@ pub trait Node: Drop + Sized {
         ensures calls { IfOk result (λ n. calls n ≡ []) }
         ensures reads { IfOk result (λ n. reads n ≡ no_reads) };
 
+    /// Recalls, at no cost, what always holds of a node: it shows of a source what its replica holds, of no variable more than the graph gives on the sources, and no read waits whose variable has come to its threshold.
+    fn recall(&self)
+        ensures sources { (x : ℕ) → x < length (decls self.now) → IsTrue (is_source (kind_at (decls self.now) x)) → content_at (shown self.now) x ≡ content_at (peer self.now).contents x }
+        ensures bounded { ContentsAtMost (shown self.now) (shown_at (decls self.now) (peer self.now)) }
+        ensures unmet { reads self.now ≡ releases (shown self.now) (reads self.now) };
+
     /// Updates a source: its delta is joined in and the update is counted.
     fn update(&mut self, alloc: Global, x: u8, op: &Op) -> Result<(), NodeStop>
         requires held { IsHeld (among self.old) (decls self.old) (peer self.old) }
@@ -106,6 +113,7 @@ pub trait Node: Drop + Sized {
         ensures done { Updates (updated (number self.old) x (op_of op.now) (peer self.old)) x result (peer self.new) }
         ensures calls { OnOk result (calls self.new ≡ calls self.old ++ fed (model.Update x (op_of op.now)) ∷ []) }
         ensures reads { OnOk result (reads self.new ≡ releases (shown self.new) (reads self.old)) }
+        ensures grew { OnOk result (Grows (shown self.old) (shown self.new)) }
         ensures unchanged { OnErr result (IsUnchanged decls peer calls shown reads self.old self.new) };
 
     /// What a source holds, shared.
@@ -128,6 +136,7 @@ pub trait Node: Drop + Sized {
         ensures done { Delivers (delivered (decls self.old) (arc_value m.now) (peer self.old)) result (peer self.new) }
         ensures calls { OnOk result (calls self.new ≡ calls self.old ++ fed (model.Deliver i (arc_value m.now)) ∷ []) }
         ensures reads { OnOk result (reads self.new ≡ releases (shown self.new) (reads self.old)) }
+        ensures grew { OnOk result (Grows (shown self.old) (shown self.new)) }
         ensures unchanged { OnErr result (IsUnchanged decls peer calls shown reads self.old self.new) };
 
     /// Goes on with a graph that has one declaration more, of which nothing has happened.
@@ -137,6 +146,7 @@ pub trait Node: Drop + Sized {
         ensures peer { (d : Decl) → arc_value graph.now ≡ decls self.old ++ d ∷ [] → OnOk result (peer self.new ≡ extended (among self.old) d (peer self.old)) }
         ensures calls { (d : Decl) → arc_value graph.now ≡ decls self.old ++ d ∷ [] → OnOk result (calls self.new ≡ calls self.old ++ fed (model.Extend d) ∷ []) }
         ensures reads { OnOk result (reads self.new ≡ reads self.old) }
+        ensures grew { OnOk result (Grows (shown self.old) (shown self.new)) }
         ensures kept { OnErr result (IsNode decls number among (decls self.old) (among self.old) (number self.old) self.new) }
         ensures unchanged { OnErr result (IsUnchanged decls peer calls shown reads self.old self.new) };
 
@@ -149,7 +159,8 @@ pub trait Node: Drop + Sized {
         ensures done { Settles (first_large 0 (shown_at (decls self.old) (peer self.old))) result }
         ensures shown { OnOk result (shown self.new ≡ shown_at (decls self.old) (peer self.old)) }
         ensures calls { calls self.new ≡ calls self.old }
-        ensures reads { reads self.new ≡ releases (shown self.new) (reads self.old) };
+        ensures reads { reads self.new ≡ releases (shown self.new) (reads self.old) }
+        ensures grew { Grows (shown self.old) (shown self.new) };
 
     /// The state of a variable of a settled node: what is shown of it.
     fn state(&self, x: u8) -> &State

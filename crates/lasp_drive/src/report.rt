@@ -59,7 +59,7 @@ fn push_reads<N: Node>(
 impl<N: Node> Driver<N> {
     /// The report: the lines that were printed, what each node knows, and which reads came to their thresholds.
     pub fn report(self) -> Result<Vec<u8>, AllocError>
-        requires ready { (c : ℕ) × IsReady N.decls N.number N.among N.peer N.awaited (length self.nodes.items) c self }
+        requires ready { (c : ℕ) × IsReady N.decls N.number N.among N.peer N.awaited N.number_of N.shown N.reads (length self.nodes.items) c self }
         requires settled { AreSettled N.decls N.peer N.shown self.nodes.items }
         ensures { IfOk result (λ text. text.items ≡ report_of (run_of N.peer N.awaited self)) }
     {
@@ -76,7 +76,7 @@ impl<N: Node> Driver<N> {
 
     /// The bytes of what node p would send now.
     pub fn export(&self, alloc: Global, p: u8) -> Result<Vec<u8>, AllocError>
-        requires ready { (c : ℕ) × (c ≤ 100000) × IsReady N.decls N.number N.among N.peer N.awaited (length self.now.nodes.items) c self.now }
+        requires ready { (c : ℕ) × (c ≤ 100000) × IsReady N.decls N.number N.among N.peer N.awaited N.number_of N.shown N.reads (length self.now.nodes.items) c self.now }
         requires node { p < length self.now.nodes.items }
         ensures { IfOk result (λ bytes. bytes.items ≡ spelled (message_at (run_of N.peer N.awaited self.now).graph (peer_at (run_of N.peer N.awaited self.now).peers p))) }
     {

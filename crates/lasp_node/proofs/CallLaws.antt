@@ -3,15 +3,20 @@ use Rattle.std.proofs.Common.{◌≡◌, Bool, true, false, cond, not, if◌then
 use Rattle.std.specs.Prelude.{List, [], ◌∷◌, ◌++◌, Result, Ok, Err, OnErr}
 use Rattle.std.specs.List.{AllByRecursion}
 use Rattle.model_graph.specs.Graph.{Decl}
-use Rattle.model_journal.specs.Entry.{Act, Entry, Extend}
-use Rattle.model_journal.specs.Journal.{graph, vals}
-use Rattle.model_replica.specs.Core.{Core, entered}
+use Rattle.model_journal.specs.Entry.{Act, Entry, Extend, Frame}
+use Rattle.model_journal.specs.Journal.{graph, vals, val}
+use Rattle.model_journal.specs.Legal.{IsLegal}
+use Rattle.model_journal.proofs.JournalLaws.{journal-later}
+use Rattle.model_journal.proofs.LegalLaws.{legal-first}
+use Rattle.model_replica.specs.Core.{Core, Read, IsParked, entered}
 use Rattle.model_replica.specs.Peer.{entry, peer_of}
+use Rattle.model_replica.proofs.ReadLaws.{meets-grows}
+use Rattle.model_replica.proofs.ValidLaws.{val-ordered}
 use Rattle.model_calls.specs.Calls.{fed, is_bind, unbound}
 use Rattle.model_calls.proofs.MatchLaws.{append-nothing}
 use Rattle.lasp_core.specs.Core.{declared}
 use Rattle.lasp_drive.specs.Node.{IsUnchanged}
-use Rattle.lasp_drive.specs.Reads.{releases}
+use Rattle.lasp_drive.specs.Reads.{releases, unmet, Grows}
 use Rattle.lasp_node.specs.Reads.{reads_of}
 use Rattle.lasp_node.specs.Settling.{IsOwnBind, HasBound}
 
@@ -47,6 +52,34 @@ settled-calls old new bound =
 
 pub settled-reads : (old new : Core) → HasBound old new → reads_of new ≡ releases (vals new.frame new.entries) (reads_of old)
 settled-reads old new bound = λ i. record { waiting = bound.parked i; opened = bound.opened i }
+
+-- ---- what it shows
+
+-- more entries, and each variable holds at least what it held
+grows-behind : (X : Frame) (h more : List Entry) → IsLegal X (h ++ more) → Grows (vals X h) (vals X (h ++ more))
+grows-behind X h more legal x threshold met =
+    meets-grows threshold (val X h x) (val X (h ++ more) x) (val-ordered X h (legal-first X h more legal) x) (val-ordered X (h ++ more) legal x) ((journal-later X h more).grown x) met
+
+pub core-grows : (old new : Core) (more : List Entry) → new.frame ≡ old.frame → new.entries ≡ old.entries ++ more → IsLegal new.frame new.entries → Grows (vals old.frame old.entries) (vals new.frame new.entries)
+core-grows old new more frame entries legal =
+    subst (λ (X : Frame). Grows (vals old.frame old.entries) (vals X new.entries)) (sym frame)
+    (subst (λ (h : List Entry). Grows (vals old.frame old.entries) (vals old.frame h)) (sym entries)
+    (grows-behind old.frame old.entries more (subst (λ (h : List Entry). IsLegal old.frame h) entries (subst (λ (X : Frame). IsLegal X new.entries) frame legal))))
+
+pub entered-grows : (old new : Core) (e : Entry) → new ≡ entered e old → IsLegal new.frame new.entries → Grows (vals old.frame old.entries) (vals new.frame new.entries)
+entered-grows old new e is = core-grows old new (e ∷ []) (ap (λ (c : Core). c.frame) is) (ap (λ (c : Core). c.entries) is)
+
+pub declared-grows : (old new : Core) (e : Entry) → new ≡ declared e old → IsLegal new.frame new.entries → Grows (vals old.frame old.entries) (vals new.frame new.entries)
+declared-grows old new e is = core-grows old new (e ∷ []) (ap (λ (c : Core). c.frame) is) (ap (λ (c : Core). c.entries) is)
+
+pub settled-grows : (old new : Core) → HasBound old new → IsLegal new.frame new.entries → Grows (vals old.frame old.entries) (vals new.frame new.entries)
+settled-grows old new bound = core-grows old new bound.binds.0 bound.frame bound.binds.1
+
+-- no parked read is met
+pub parked-unmet : (X : Frame) (h : List Entry) (rs : List Read) → AllByRecursion (IsParked X h) rs → rs ≡ unmet (vals X h) rs
+parked-unmet X h [] all = refl
+parked-unmet X h (r ∷ rs) all =
+    ap (λ (more : List Read). r ∷ more) (parked-unmet X h rs all.1) ∙ sym (ap (λ (b : Bool). if not b then r ∷ unmet (vals X h) rs else unmet (vals X h) rs) all.0.unmet)
 
 -- a core that is as it was leaves its node as it was
 pub same-core : {N : Type 0} (core : N → Core) (old new : N) → core new ≡ core old

@@ -61,9 +61,16 @@ impl Node for CoreNode {
         })
     }
 
+    fn recall(&self) {
+        self.core.recall();
+        self.core.recall_states();
+    }
+
     fn update(&mut self, _alloc: Global, x: u8, op: &Op) -> Result<(), NodeStop> {
         self.core.recall();
-        match self.core.update(0, x, op) {
+        let updated = self.core.update(0, x, op);
+        self.core.recall();
+        match updated {
             Ok(_) => Ok(()),
             Err(UpdateRefused::TooManyRows) => Err(NodeStop::TooLarge(x)),
             Err(UpdateRefused::Memory) => Err(NodeStop::Memory),
@@ -82,7 +89,9 @@ impl Node for CoreNode {
 
     fn deliver(&mut self, _alloc: Global, i: u32, m: &Arc<Message>) -> Result<(), NodeStop> {
         self.core.recall();
-        match self.core.deliver(0, i, m) {
+        let delivered = self.core.deliver(0, i, m);
+        self.core.recall();
+        match delivered {
             Ok(_) => Ok(()),
             Err(DeliverRefused::TooManyRows(x)) => Err(NodeStop::TooLarge(x)),
             Err(DeliverRefused::Memory) => Err(NodeStop::Memory),
@@ -92,12 +101,16 @@ impl Node for CoreNode {
 
     fn extend(&mut self, _alloc: Global, graph: &Arc<Graph>) -> Result<(), AllocError> {
         self.core.recall();
-        self.core.extend(0, graph.at(graph.len() - 1))
+        let extended = self.core.extend(0, graph.at(graph.len() - 1));
+        self.core.recall();
+        extended
     }
 
     fn settle(&mut self, alloc: Global, lib: &Library) -> Result<(), NodeStop> {
         self.core.recall();
-        settle(alloc, &mut self.core, &mut StepLib::new(lib))
+        let settled = settle(alloc, &mut self.core, &mut StepLib::new(lib));
+        self.core.recall();
+        settled
     }
 
     fn state(&self, x: u8) -> &State {

@@ -3,6 +3,7 @@ use Rattle.std.proofs.Common.{zero, suc, sym, ap, subst, arith}
 use Rattle.std.specs.Prelude.{◌≡◌, ℕ, ◌+◌, List, [], ◌∷◌, map, length, slice_get, Some, Result, Ok, Err, OnOk}
 use Rattle.std.proofs.lemmas.List.{length-map}
 use Rattle.model_values.specs.Value.{Val}
+use Rattle.model_states.specs.Content.{Content}
 use Rattle.model_graph.specs.Chain.{◌>>=◌}
 use Rattle.model_graph.specs.Graph.{Decl}
 use Rattle.model_wire.specs.Lawful as wire
@@ -14,19 +15,21 @@ use Rattle.model_world.specs.declared.stop.Stop.{Stop}
 use Rattle.model_world.proofs.StopLaws.{point-same}
 use Rattle.model_held.proofs.SoundLaws.{sound-later}
 use Rattle.lasp_drive.specs.Node.{Awaited}
+use Rattle.lasp_drive.specs.Reads.{Reads}
 use Rattle.lasp_drive.specs.Driver.{marked_of, run_of, stage_of, IsReady, Does}
 use Rattle.lasp_drive.specs.declared.driver.Mark.{Mark}
 use Rattle.lasp_drive.specs.declared.driver.Driver.{Driver}
 use Rattle.lasp_drive.specs.declared.halt.Halt.{Halt}
 use Rattle.lasp_drive.proofs.SyncLaws.{halts-first}
+use Rattle.lasp_drive.proofs.WaitLaws.{all-later}
 use Rattle.lasp_run.specs.Play.{IsUntilWithin}
 use Rattle.lasp_script.specs.Command.{until_of}
 use Rattle.lasp_script.specs.declared.command.Until.{Until}
 use Rattle.lasp_script.specs.declared.command.Until.TheVariants as until
 
-module _ {N R : Type 0} (decls : N → List Decl) (number among : N → ℕ) (peer : N → Peer) (awaited : R → Awaited) where
+module _ {N R : Type 0} (decls : N → List Decl) (number among : N → ℕ) (peer : N → Peer) (awaited : R → Awaited) (number_of : R → ℕ) (shown : N → List Content) (reads : N → Reads) where
   -- a driver before a command stands before a later one, too
-  pub ready-later : (many c : ℕ) (d : Driver N R) → IsReady decls number among peer awaited many c d → IsReady decls number among peer awaited many (c + 1) d
+  pub ready-later : (many c : ℕ) (d : Driver N R) → IsReady decls number among peer awaited number_of shown reads many c d → IsReady decls number among peer awaited number_of shown reads many (c + 1) d
   ready-later many c d ready = record {
     some = ready.some;
     few = ready.few;
@@ -34,15 +37,16 @@ module _ {N R : Type 0} (decls : N → List Decl) (number among : N → ℕ) (pe
     nodes = ready.nodes;
     limit = ready.limit;
     sound = sound-later many c (stage_of d) (run_of peer awaited d) ready.sound;
+    waiting = all-later awaited number_of shown reads c d.nodes.items d.reads.items ready.waiting;
   }
 
-  pub ok-later : {A : Type 0} (result : Result A Halt) (many c : ℕ) (d : Driver N R) → OnOk result (IsReady decls number among peer awaited many c d) → OnOk result (IsReady decls number among peer awaited many (c + 1) d)
+  pub ok-later : {A : Type 0} (result : Result A Halt) (many c : ℕ) (d : Driver N R) → OnOk result (IsReady decls number among peer awaited number_of shown reads many c d) → OnOk result (IsReady decls number among peer awaited number_of shown reads many (c + 1) d)
   ok-later (Ok done) many c d h = ready-later many c d h
   ok-later (Err why) many c d h = tt
 
   -- as many nodes as it has
-  pub ready-here : (many c : ℕ) (d : Driver N R) → IsReady decls number among peer awaited many c d → IsReady decls number among peer awaited (length d.nodes.items) c d
-  ready-here many c d ready = subst (λ (k : ℕ). IsReady decls number among peer awaited k c d) (sym ready.size) ready
+  pub ready-here : (many c : ℕ) (d : Driver N R) → IsReady decls number among peer awaited number_of shown reads many c d → IsReady decls number among peer awaited number_of shown reads (length d.nodes.items) c d
+  ready-here many c d ready = subst (λ (k : ℕ). IsReady decls number among peer awaited number_of shown reads k c d) (sym ready.size) ready
 
 -- a command of one act
 pub does-one : {A : Type 0} (c : ℕ) (run : Run) (a : Act) (result : Result A Halt) (new : Run) → Does (act c run a) result new → Does (each c run (a ∷ [])) result new
@@ -79,9 +83,13 @@ until-within nodes x s (until.Removed vs) many same may = tt
 
 -- ---- two acts
 
-module _ {N R : Type 0} (decls : N → List Decl) (number among : N → ℕ) (peer : N → Peer) (awaited : R → Awaited) where
-  pub ok-here : {A : Type 0} (result : Result A Halt) (many k c : ℕ) (d : Driver N R) → k ≡ many → OnOk result (IsReady decls number among peer awaited k c d) → OnOk result (IsReady decls number among peer awaited many (c + 1) d)
-  ok-here result many k c d same h = ok-later decls number among peer awaited result many c d (subst (λ (n : ℕ). OnOk result (IsReady decls number among peer awaited n c d)) same h)
+module _ {N R : Type 0} (decls : N → List Decl) (number among : N → ℕ) (peer : N → Peer) (awaited : R → Awaited) (number_of : R → ℕ) (shown : N → List Content) (reads : N → Reads) where
+  pub ok-here : {A : Type 0} (result : Result A Halt) (many k c : ℕ) (d : Driver N R) → k ≡ many → OnOk result (IsReady decls number among peer awaited number_of shown reads k c d) → OnOk result (IsReady decls number among peer awaited number_of shown reads many (c + 1) d)
+  ok-here result many k c d same h = ok-later decls number among peer awaited number_of shown reads result many c d (subst (λ (n : ℕ). OnOk result (IsReady decls number among peer awaited number_of shown reads n c d)) same h)
+
+  -- the same where it stands before the next command already
+  pub ok-next : {A : Type 0} (result : Result A Halt) (many k c : ℕ) (d : Driver N R) → k ≡ many → OnOk result (IsReady decls number among peer awaited number_of shown reads k (c + 1) d) → OnOk result (IsReady decls number among peer awaited number_of shown reads many (c + 1) d)
+  ok-next result many k c d same h = subst (λ (n : ℕ). OnOk result (IsReady decls number among peer awaited number_of shown reads n (c + 1) d)) same h
 
 pub ok-stage : {A : Type 0} (result : Result A Halt) (new middle old : Stage) → middle ≡ old → OnOk result (new ≡ middle) → OnOk result (new ≡ old)
 ok-stage result new middle old same h = subst (λ (s : Stage). OnOk result (new ≡ s)) same h

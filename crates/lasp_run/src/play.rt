@@ -42,10 +42,10 @@ fn do_command<N: Node>(
     c: u32,
     command: &Command,
 ) -> Result<(), Halt>
-    requires may { MayStep N.decls N.number N.among N.peer N.awaited c driver.old (command_of command.now) }
+    requires may { MayStep N.decls N.number N.among N.peer N.awaited N.number_of N.shown N.reads c driver.old (command_of command.now) }
     requires graph { IsGraph (grown (arc_value driver.old.graph) (command_of command.now ∷ [])) }
     requires fits { FitsAll (library_of lib.now) (arc_value driver.old.graph) }
-    ensures steps { Steps N.decls N.number N.among N.peer N.awaited c driver.old (command_of command.now) result driver.new }
+    ensures steps { Steps N.decls N.number N.among N.peer N.awaited N.number_of N.shown N.reads c driver.old (command_of command.now) result driver.new }
     ensures calls { OnOk result (GoOnByCommand N.calls N.peer N.awaited c driver.old (command_of command.now) driver.new) }
 {
     match command {
@@ -74,13 +74,13 @@ fn play<N: Node>(
     lib: &Library,
     script: &Script,
 ) -> Result<(), Halt>
-    requires ready { IsReady N.decls N.number N.among N.peer N.awaited (length driver.old.nodes.items) 1 driver.old }
+    requires ready { IsReady N.decls N.number N.among N.peer N.awaited N.number_of N.shown N.reads (length driver.old.nodes.items) 1 driver.old }
     requires stage { stage_of driver.old ≡ opening_stage (arc_value driver.old.graph) }
     requires lawful { AreLawful (length driver.old.nodes.items) (opening_stage (arc_value driver.old.graph)) script.now.commands }
     requires few { length script.now.commands < 100000 }
     requires graph { IsGraph (grown (arc_value driver.old.graph) script.now.commands) }
     requires fits { FitsAll (library_of lib.now) (grown (arc_value driver.old.graph) script.now.commands) }
-    ensures ready { OnOk result ((c : ℕ) × (c ≤ 100000) × IsReady N.decls N.number N.among N.peer N.awaited (length driver.new.nodes.items) c driver.new) }
+    ensures ready { OnOk result ((c : ℕ) × (c ≤ 100000) × IsReady N.decls N.number N.among N.peer N.awaited N.number_of N.shown N.reads (length driver.new.nodes.items) c driver.new) }
     ensures size { OnOk result (length driver.new.nodes.items ≡ length driver.old.nodes.items) }
     ensures settled { OnOk result (AreSettled N.decls N.peer N.shown driver.new.nodes.items) }
     ensures calls { OnOk result (GoOnByCalls N.calls driver.old.nodes.items driver.new.nodes.items (λ p. calls 1 (run_of N.peer N.awaited driver.old) p script.now.commands)) }
@@ -108,7 +108,7 @@ pub fn run_on<N: Node>(
     requires graph { IsGraph (grown (arc_value graph.now) script.now.commands) }
     requires fits { FitsAll (library_of lib.now) (grown (arc_value graph.now) script.now.commands) }
     ensures size { IfOk result (λ d. length d.nodes.items ≡ script.now.nodes) }
-    ensures ready { IfOk result (λ d. (c : ℕ) × (c ≤ 100000) × IsReady N.decls N.number N.among N.peer N.awaited (length d.nodes.items) c d) }
+    ensures ready { IfOk result (λ d. (c : ℕ) × (c ≤ 100000) × IsReady N.decls N.number N.among N.peer N.awaited N.number_of N.shown N.reads (length d.nodes.items) c d) }
     ensures settled { IfOk result (λ d. AreSettled N.decls N.peer N.shown d.nodes.items) }
     ensures calls { IfOk result (λ d. (p : ℕ) → p < script.now.nodes → calls_at N.calls d.nodes.items p ≡ calls 1 (start (arc_value graph.now) script.now.nodes) p script.now.commands) }
     ensures done { ComesTo N.peer N.awaited (ended (arc_value graph.now) script.now) result }

@@ -1,6 +1,6 @@
 //! Points: every node is settled.
 
-ghost use Rattle.std.specs.Prelude.{◌≡◌, ◌<◌, ◌≤◌, ℕ, length, map, OnOk};
+ghost use Rattle.std.specs.Prelude.{◌≡◌, ◌<◌, ◌≤◌, ℕ, List, length, map, OnOk};
 ghost use Rattle.std.specs.Arc.{arc_value};
 ghost use Rattle.model_readings.specs.Lawful.{FitsAll};
 ghost use Rattle.model_held.specs.Held.{IsHeld};
@@ -9,6 +9,8 @@ ghost use Rattle.lasp_graph.specs.Library.{library_of};
 ghost use Rattle.lasp_drive.specs.Node.{AreNodes, AreSettled};
 ghost use Rattle.model_calls.specs.Calls.{call_of};
 ghost use Rattle.lasp_drive.specs.Calls.{GoOnByCalls};
+ghost use Rattle.lasp_drive.specs.declared.driver.OpenRead.{OpenRead};
+ghost use Rattle.lasp_drive.specs.Waiting.{AreWaiting, OpensNone, opened_counts};
 ghost use Rattle.lasp_drive.specs.Driver.{run_of, stage_of, IsReady, Does};
 
 use crate::driver::Driver;
@@ -35,6 +37,8 @@ fn settle_all<N: Node>(
     ensures nodes { AreNodes N.decls N.number N.among graph.now (length nodes.old.items) nodes.new.items }
     ensures settled { OnOk result (AreSettled N.decls N.peer N.shown nodes.new.items) }
     ensures calls { OnOk result (map N.calls nodes.new.items ≡ map N.calls nodes.old.items) }
+    ensures opened { opened_counts N.reads nodes.new.items ≡ opened_counts N.reads nodes.old.items }
+    ensures waiting { (before : ℕ) (opened : List (OpenRead N.Read)) → AreWaiting N.awaited N.number_of N.shown N.reads before nodes.old.items opened → AreWaiting N.awaited N.number_of N.shown N.reads before nodes.new.items opened }
     ensures done { (run : Run) → run.graph ≡ graph.now → Does (point_from c 0 (map N.peer nodes.old.items) run) result run }
 {
     for p in 0..nodes.len() {
@@ -50,13 +54,14 @@ fn settle_all<N: Node>(
 impl<N: Node> Driver<N> {
     /// Command number c settles every node, nodes ascending.
     pub fn point(&mut self, alloc: Global, lib: &Library, c: u32) -> Result<(), Halt>
-        requires ready { IsReady N.decls N.number N.among N.peer N.awaited (length self.old.nodes.items) c self.old }
+        requires ready { IsReady N.decls N.number N.among N.peer N.awaited N.number_of N.shown N.reads (length self.old.nodes.items) c self.old }
         requires fits { FitsAll (library_of lib.now) (arc_value self.old.graph) }
-        ensures ready { OnOk result (IsReady N.decls N.number N.among N.peer N.awaited (length self.old.nodes.items) c self.new) }
+        ensures ready { OnOk result (IsReady N.decls N.number N.among N.peer N.awaited N.number_of N.shown N.reads (length self.old.nodes.items) c self.new) }
         ensures stage { OnOk result (stage_of self.new ≡ stage_of self.old) }
         ensures settled { OnOk result (AreSettled N.decls N.peer N.shown self.new.nodes.items) }
         ensures done { Does (act c (run_of N.peer N.awaited self.old) Point) result (run_of N.peer N.awaited self.new) }
         ensures calls { OnOk result (GoOnByCalls N.calls self.old.nodes.items self.new.nodes.items (λ q. call_of (run_of N.peer N.awaited self.old) q Point)) }
+        ensures reads { OnOk result (OpensNone N.reads self.old self.new) }
     {
         settle_all(&mut self.nodes, alloc, &self.graph, lib, c)
     }

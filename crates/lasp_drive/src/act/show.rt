@@ -1,6 +1,6 @@
 //! What a settled node shows: a printed line, or whether a threshold is reached.
 
-ghost use Rattle.std.specs.Prelude.{◌≡◌, ◌<◌, length, IfOk, OnOk, IsTrue};
+ghost use Rattle.std.specs.Prelude.{◌≡◌, ◌<◌, ◌+◌, length, slice_get, Some, IfOk, OnOk, IsTrue};
 ghost use Rattle.std.specs.Arc.{arc_value};
 ghost use Rattle.model_states.specs.Threshold.{suits, meets};
 ghost use Rattle.model_graph.specs.Graph.{kind_at};
@@ -14,7 +14,8 @@ ghost use Rattle.lasp_drive.specs.Node.{IsNode, AreSettled};
 ghost use Rattle.model_calls.specs.Calls.{call_of};
 ghost use Rattle.lasp_drive.specs.Calls.{GoOnByCalls};
 ghost use Rattle.lasp_drive.specs.Reads.{looks, LooksAt};
-ghost use Rattle.lasp_drive.specs.Driver.{run_of, stage_of, IsReady, Does};
+ghost use Rattle.lasp_drive.specs.Waiting.{OpensNone};
+ghost use Rattle.lasp_drive.specs.Driver.{run_of, stage_of, IsReady, Does, Reaches, UnlessMemory};
 
 use crate::driver::Driver;
 use crate::halt::Halt;
@@ -36,6 +37,7 @@ fn has_reached<N: Node>(
     ensures node { IsNode N.decls N.number N.among (N.decls node.old) (N.among node.old) (N.number node.old) node.new }
     ensures peer { N.peer node.new ≡ N.peer node.old }
     ensures calls { N.calls node.new ≡ N.calls node.old }
+    ensures shown { N.shown node.new ≡ N.shown node.old }
     ensures reads { OnOk result (N.reads node.new ≡ looks (N.reads node.old)) }
     ensures reached { IfOk result (λ reached. reached ≡ meets (threshold_of threshold) (content_at (N.shown node.old) x)) }
 {
@@ -48,14 +50,15 @@ fn has_reached<N: Node>(
 impl<N: Node> Driver<N> {
     /// Prints variable x of node p.
     pub fn show(&mut self, c: u32, p: u8, x: u8) -> Result<(), Halt>
-        requires ready { IsReady N.decls N.number N.among N.peer N.awaited (length self.old.nodes.items) c self.old }
+        requires ready { IsReady N.decls N.number N.among N.peer N.awaited N.number_of N.shown N.reads (length self.old.nodes.items) c self.old }
         requires settled { AreSettled N.decls N.peer N.shown self.old.nodes.items }
         requires node { p < length self.old.nodes.items }
         requires var { x < length (arc_value self.old.graph) }
-        ensures ready { OnOk result (IsReady N.decls N.number N.among N.peer N.awaited (length self.old.nodes.items) c self.new) }
+        ensures ready { OnOk result (IsReady N.decls N.number N.among N.peer N.awaited N.number_of N.shown N.reads (length self.old.nodes.items) c self.new) }
         ensures stage { OnOk result (stage_of self.new ≡ stage_of self.old) }
         ensures done { Does (act c (run_of N.peer N.awaited self.old) (Show p x)) result (run_of N.peer N.awaited self.new) }
         ensures calls { OnOk result (GoOnByCalls N.calls self.old.nodes.items self.new.nodes.items (λ q. call_of (run_of N.peer N.awaited self.old) q (Show p x))) }
+        ensures reads { OnOk result (OpensNone N.reads self.old self.new) }
     {
         let state = self.nodes[p as usize].state(x);
         print_line(
@@ -76,17 +79,19 @@ impl<N: Node> Driver<N> {
         x: u8,
         threshold: Threshold,
     ) -> Result<(), Halt>
-        requires ready { IsReady N.decls N.number N.among N.peer N.awaited (length self.old.nodes.items) c self.old }
+        requires ready { IsReady N.decls N.number N.among N.peer N.awaited N.number_of N.shown N.reads (length self.old.nodes.items) c self.old }
         requires settled { AreSettled N.decls N.peer N.shown self.old.nodes.items }
         requires node { p < length self.old.nodes.items }
         requires var { x < length (arc_value self.old.graph) }
         requires suits { IsTrue (suits (threshold_of threshold) (shape_of (length self.old.nodes.items) (kind_at (arc_value self.old.graph) x))) }
-        ensures ready { OnOk result (IsReady N.decls N.number N.among N.peer N.awaited (length self.old.nodes.items) c self.new) }
+        ensures ready { OnOk result (IsReady N.decls N.number N.among N.peer N.awaited N.number_of N.shown N.reads (length self.old.nodes.items) (c + 1) self.new) }
         ensures stage { OnOk result (stage_of self.new ≡ stage_of self.old) }
         ensures done { (until : Until) → threshold_of threshold ≡ world.threshold_of (run_of N.peer N.awaited self.old).marks until
             → Does (act c (run_of N.peer N.awaited self.old) (Reach p x until)) result (run_of N.peer N.awaited self.new) }
         ensures calls { (until : Until) → OnOk result (GoOnByCalls N.calls self.old.nodes.items self.new.nodes.items (λ q. call_of (run_of N.peer N.awaited self.old) q (Reach p x until))) }
-        ensures reads { OnOk result (LooksAt N.reads self.old.nodes.items p self.new.nodes.items) }
+        ensures reached { (n : N) → slice_get self.old.nodes.items p ≡ Some n → Reaches c (meets (threshold_of threshold) (content_at (N.shown n) x)) result }
+        ensures reads { UnlessMemory result (LooksAt N.reads self.old.nodes.items p self.new.nodes.items) }
+        ensures same { OnOk result (self.new.reads ≡ self.old.reads) }
     {
         if has_reached(&mut self.nodes[p as usize], alloc, x, threshold)? {
             Ok(())

@@ -9,8 +9,8 @@ use std::alloc::Global;
 
 /// Marks what a source holds.
 pub fn mark<N: Node>(driver: &mut Driver<N>, c: u32, p: u8, x: u8) -> Result<(), Halt>
-    requires may { MayStep N.decls N.number N.among N.peer N.awaited c driver.old (plain.Mark p x) }
-    ensures steps { Steps N.decls N.number N.among N.peer N.awaited c driver.old (plain.Mark p x) result driver.new }
+    requires may { MayStep N.decls N.number N.among N.peer N.awaited N.number_of N.shown N.reads c driver.old (plain.Mark p x) }
+    ensures steps { Steps N.decls N.number N.among N.peer N.awaited N.number_of N.shown N.reads c driver.old (plain.Mark p x) result driver.new }
     ensures calls { OnOk result (GoOnByCommand N.calls N.peer N.awaited c driver.old (plain.Mark p x) driver.new) }
 {
     driver.keep(c, p, x)
@@ -18,8 +18,8 @@ pub fn mark<N: Node>(driver: &mut Driver<N>, c: u32, p: u8, x: u8) -> Result<(),
 
 /// A node sends.
 pub fn send<N: Node>(driver: &mut Driver<N>, alloc: Global, c: u32, p: u8) -> Result<(), Halt>
-    requires may { MayStep N.decls N.number N.among N.peer N.awaited c driver.old (plain.Send p) }
-    ensures steps { Steps N.decls N.number N.among N.peer N.awaited c driver.old (plain.Send p) result driver.new }
+    requires may { MayStep N.decls N.number N.among N.peer N.awaited N.number_of N.shown N.reads c driver.old (plain.Send p) }
+    ensures steps { Steps N.decls N.number N.among N.peer N.awaited N.number_of N.shown N.reads c driver.old (plain.Send p) result driver.new }
     ensures calls { OnOk result (GoOnByCommand N.calls N.peer N.awaited c driver.old (plain.Send p) driver.new) }
 {
     driver.post(alloc, c, p)
@@ -33,8 +33,8 @@ pub fn deliver<N: Node>(
     p: u8,
     i: u32,
 ) -> Result<(), Halt>
-    requires may { MayStep N.decls N.number N.among N.peer N.awaited c driver.old (plain.Deliver p i) }
-    ensures steps { Steps N.decls N.number N.among N.peer N.awaited c driver.old (plain.Deliver p i) result driver.new }
+    requires may { MayStep N.decls N.number N.among N.peer N.awaited N.number_of N.shown N.reads c driver.old (plain.Deliver p i) }
+    ensures steps { Steps N.decls N.number N.among N.peer N.awaited N.number_of N.shown N.reads c driver.old (plain.Deliver p i) result driver.new }
     ensures calls { OnOk result (GoOnByCommand N.calls N.peer N.awaited c driver.old (plain.Deliver p i) driver.new) }
 {
     driver.take(alloc, c, p, i)
@@ -42,8 +42,8 @@ pub fn deliver<N: Node>(
 
 /// Every node sends, and then each takes the messages of all others.
 pub fn sync<N: Node>(driver: &mut Driver<N>, alloc: Global, c: u32) -> Result<(), Halt>
-    requires may { MayStep N.decls N.number N.among N.peer N.awaited c driver.old (plain.Sync) }
-    ensures steps { Steps N.decls N.number N.among N.peer N.awaited c driver.old (plain.Sync) result driver.new }
+    requires may { MayStep N.decls N.number N.among N.peer N.awaited N.number_of N.shown N.reads c driver.old (plain.Sync) }
+    ensures steps { Steps N.decls N.number N.among N.peer N.awaited N.number_of N.shown N.reads c driver.old (plain.Sync) result driver.new }
     ensures calls { OnOk result (GoOnByCommand N.calls N.peer N.awaited c driver.old (plain.Sync) driver.new) }
 {
     driver.sync(alloc, c)

@@ -18,8 +18,8 @@ pub fn inc<N: Node>(
     x: u8,
     by: u32,
 ) -> Result<(), Halt>
-    requires may { MayStep N.decls N.number N.among N.peer N.awaited c driver.old (plain.Inc p x by) }
-    ensures steps { Steps N.decls N.number N.among N.peer N.awaited c driver.old (plain.Inc p x by) result driver.new }
+    requires may { MayStep N.decls N.number N.among N.peer N.awaited N.number_of N.shown N.reads c driver.old (plain.Inc p x by) }
+    ensures steps { Steps N.decls N.number N.among N.peer N.awaited N.number_of N.shown N.reads c driver.old (plain.Inc p x by) result driver.new }
     ensures calls { OnOk result (GoOnByCommand N.calls N.peer N.awaited c driver.old (plain.Inc p x by) driver.new) }
 {
     driver.update(alloc, c, p, x, &Op::Inc(by))
@@ -34,8 +34,8 @@ pub fn max<N: Node>(
     x: u8,
     number: i64,
 ) -> Result<(), Halt>
-    requires may { MayStep N.decls N.number N.among N.peer N.awaited c driver.old (plain.Max p x number) }
-    ensures steps { Steps N.decls N.number N.among N.peer N.awaited c driver.old (plain.Max p x number) result driver.new }
+    requires may { MayStep N.decls N.number N.among N.peer N.awaited N.number_of N.shown N.reads c driver.old (plain.Max p x number) }
+    ensures steps { Steps N.decls N.number N.among N.peer N.awaited N.number_of N.shown N.reads c driver.old (plain.Max p x number) result driver.new }
     ensures calls { OnOk result (GoOnByCommand N.calls N.peer N.awaited c driver.old (plain.Max p x number) driver.new) }
 {
     driver.update(alloc, c, p, x, &Op::Max(number))
@@ -50,8 +50,8 @@ pub fn bind<N: Node>(
     x: u8,
     mark: u32,
 ) -> Result<(), Halt>
-    requires may { MayStep N.decls N.number N.among N.peer N.awaited c driver.old (plain.Bind p x mark) }
-    ensures steps { Steps N.decls N.number N.among N.peer N.awaited c driver.old (plain.Bind p x mark) result driver.new }
+    requires may { MayStep N.decls N.number N.among N.peer N.awaited N.number_of N.shown N.reads c driver.old (plain.Bind p x mark) }
+    ensures steps { Steps N.decls N.number N.among N.peer N.awaited N.number_of N.shown N.reads c driver.old (plain.Bind p x mark) result driver.new }
     ensures calls { OnOk result (GoOnByCommand N.calls N.peer N.awaited c driver.old (plain.Bind p x mark) driver.new) }
 {
     let state = Arc::try_clone(&driver.marks[mark as usize].state)?;

@@ -24,9 +24,9 @@ pub fn settle<N: Node>(
     lib: &Library,
     c: u32,
 ) -> Result<(), Halt>
-    requires may { MayStep N.decls N.number N.among N.peer N.awaited c driver.old (plain.Settle) }
+    requires may { MayStep N.decls N.number N.among N.peer N.awaited N.number_of N.shown N.reads c driver.old (plain.Settle) }
     requires fits { FitsAll (library_of lib.now) (arc_value driver.old.graph) }
-    ensures steps { Steps N.decls N.number N.among N.peer N.awaited c driver.old (plain.Settle) result driver.new }
+    ensures steps { Steps N.decls N.number N.among N.peer N.awaited N.number_of N.shown N.reads c driver.old (plain.Settle) result driver.new }
     ensures calls { OnOk result (GoOnByCommand N.calls N.peer N.awaited c driver.old (plain.Settle) driver.new) }
 {
     driver.point(alloc, lib, c)
@@ -41,9 +41,9 @@ pub fn print<N: Node>(
     p: u8,
     x: u8,
 ) -> Result<(), Halt>
-    requires may { MayStep N.decls N.number N.among N.peer N.awaited c driver.old (plain.Print p x) }
+    requires may { MayStep N.decls N.number N.among N.peer N.awaited N.number_of N.shown N.reads c driver.old (plain.Print p x) }
     requires fits { FitsAll (library_of lib.now) (arc_value driver.old.graph) }
-    ensures steps { Steps N.decls N.number N.among N.peer N.awaited c driver.old (plain.Print p x) result driver.new }
+    ensures steps { Steps N.decls N.number N.among N.peer N.awaited N.number_of N.shown N.reads c driver.old (plain.Print p x) result driver.new }
     ensures calls { OnOk result (GoOnByCommand N.calls N.peer N.awaited c driver.old (plain.Print p x) driver.new) }
 {
     match driver.point(alloc, lib, c) {
@@ -62,9 +62,9 @@ pub fn wait<N: Node>(
     x: u8,
     until: &Until,
 ) -> Result<(), Halt>
-    requires may { MayStep N.decls N.number N.among N.peer N.awaited c driver.old (plain.Await p x (until_of until.now)) }
+    requires may { MayStep N.decls N.number N.among N.peer N.awaited N.number_of N.shown N.reads c driver.old (plain.Await p x (until_of until.now)) }
     requires fits { FitsAll (library_of lib.now) (arc_value driver.old.graph) }
-    ensures steps { Steps N.decls N.number N.among N.peer N.awaited c driver.old (plain.Await p x (until_of until.now)) result driver.new }
+    ensures steps { Steps N.decls N.number N.among N.peer N.awaited N.number_of N.shown N.reads c driver.old (plain.Await p x (until_of until.now)) result driver.new }
     ensures calls { OnOk result (GoOnByCommand N.calls N.peer N.awaited c driver.old (plain.Await p x (until_of until.now)) driver.new) }
 {
     let threshold = threshold_of(alloc, &driver.marks, until)?;
@@ -82,11 +82,11 @@ pub fn declare<N: Node>(
     c: u32,
     decl: &Decl,
 ) -> Result<(), Halt>
-    requires may { MayStep N.decls N.number N.among N.peer N.awaited c driver.old (plain.Declare (decl_of decl.now)) }
+    requires may { MayStep N.decls N.number N.among N.peer N.awaited N.number_of N.shown N.reads c driver.old (plain.Declare (decl_of decl.now)) }
     requires fits { FitsAll (library_of lib.now) (arc_value driver.old.graph) }
     requires room { length (arc_value driver.old.graph) < variable_limit }
     requires next { IsNext (arc_value driver.old.graph) (decl_of decl.now) }
-    ensures steps { Steps N.decls N.number N.among N.peer N.awaited c driver.old (plain.Declare (decl_of decl.now)) result driver.new }
+    ensures steps { Steps N.decls N.number N.among N.peer N.awaited N.number_of N.shown N.reads c driver.old (plain.Declare (decl_of decl.now)) result driver.new }
     ensures calls { OnOk result (GoOnByCommand N.calls N.peer N.awaited c driver.old (plain.Declare (decl_of decl.now)) driver.new) }
 {
     match driver.point(alloc, lib, c) {
@@ -104,8 +104,8 @@ pub fn read<N: Node>(
     x: u8,
     until: &Until,
 ) -> Result<(), Halt>
-    requires may { MayStep N.decls N.number N.among N.peer N.awaited c driver.old (plain.Read p x (until_of until.now)) }
-    ensures steps { Steps N.decls N.number N.among N.peer N.awaited c driver.old (plain.Read p x (until_of until.now)) result driver.new }
+    requires may { MayStep N.decls N.number N.among N.peer N.awaited N.number_of N.shown N.reads c driver.old (plain.Read p x (until_of until.now)) }
+    ensures steps { Steps N.decls N.number N.among N.peer N.awaited N.number_of N.shown N.reads c driver.old (plain.Read p x (until_of until.now)) result driver.new }
     ensures calls { OnOk result (GoOnByCommand N.calls N.peer N.awaited c driver.old (plain.Read p x (until_of until.now)) driver.new) }
 {
     let threshold = threshold_of(alloc, &driver.marks, until)?;

@@ -20,8 +20,8 @@ pub fn add<N: Node>(
     x: u8,
     value: &Value,
 ) -> Result<(), Halt>
-    requires may { MayStep N.decls N.number N.among N.peer N.awaited c driver.old (plain.Add p x (val_of value.now)) }
-    ensures steps { Steps N.decls N.number N.among N.peer N.awaited c driver.old (plain.Add p x (val_of value.now)) result driver.new }
+    requires may { MayStep N.decls N.number N.among N.peer N.awaited N.number_of N.shown N.reads c driver.old (plain.Add p x (val_of value.now)) }
+    ensures steps { Steps N.decls N.number N.among N.peer N.awaited N.number_of N.shown N.reads c driver.old (plain.Add p x (val_of value.now)) result driver.new }
     ensures calls { OnOk result (GoOnByCommand N.calls N.peer N.awaited c driver.old (plain.Add p x (val_of value.now)) driver.new) }
 {
     recall_value(value);
@@ -38,8 +38,8 @@ pub fn remove<N: Node>(
     x: u8,
     value: &Value,
 ) -> Result<(), Halt>
-    requires may { MayStep N.decls N.number N.among N.peer N.awaited c driver.old (plain.Remove p x (val_of value.now)) }
-    ensures steps { Steps N.decls N.number N.among N.peer N.awaited c driver.old (plain.Remove p x (val_of value.now)) result driver.new }
+    requires may { MayStep N.decls N.number N.among N.peer N.awaited N.number_of N.shown N.reads c driver.old (plain.Remove p x (val_of value.now)) }
+    ensures steps { Steps N.decls N.number N.among N.peer N.awaited N.number_of N.shown N.reads c driver.old (plain.Remove p x (val_of value.now)) result driver.new }
     ensures calls { OnOk result (GoOnByCommand N.calls N.peer N.awaited c driver.old (plain.Remove p x (val_of value.now)) driver.new) }
 {
     recall_value(value);
@@ -56,8 +56,8 @@ pub fn insert<N: Node>(
     x: u8,
     value: &Value,
 ) -> Result<(), Halt>
-    requires may { MayStep N.decls N.number N.among N.peer N.awaited c driver.old (plain.Insert p x (val_of value.now)) }
-    ensures steps { Steps N.decls N.number N.among N.peer N.awaited c driver.old (plain.Insert p x (val_of value.now)) result driver.new }
+    requires may { MayStep N.decls N.number N.among N.peer N.awaited N.number_of N.shown N.reads c driver.old (plain.Insert p x (val_of value.now)) }
+    ensures steps { Steps N.decls N.number N.among N.peer N.awaited N.number_of N.shown N.reads c driver.old (plain.Insert p x (val_of value.now)) result driver.new }
     ensures calls { OnOk result (GoOnByCommand N.calls N.peer N.awaited c driver.old (plain.Insert p x (val_of value.now)) driver.new) }
 {
     recall_value(value);

@@ -19,8 +19,8 @@ declare-requires-clause-next g c =
 pub returns-in-Max-clause-steps : goal.returns-in-Max-clause-steps
 returns-in-Max-clause-steps g c =
     let number : to_z w64 (of_z w64 c.in-Max.number) ≡ c.in-Max.number = search rules in
-    subst (λ (k : Command). Steps g.N.Node.decls g.N.Node.number g.N.Node.among g.N.Node.peer g.N.Node.awaited c.args.c c.args.driver.now (command_of k) c.max.result c.max.new.driver) (sym c.in-Max.is)
-    (subst (λ (n : ℤ). Steps g.N.Node.decls g.N.Node.number g.N.Node.among g.N.Node.peer g.N.Node.awaited c.args.c c.args.driver.now (plain.Max c.in-Max.p c.in-Max.x n) c.max.result c.max.new.driver) number c.max.ensures.steps)
+    subst (λ (k : Command). Steps g.N.Node.decls g.N.Node.number g.N.Node.among g.N.Node.peer g.N.Node.awaited g.N.Node.number_of g.N.Node.shown g.N.Node.reads c.args.c c.args.driver.now (command_of k) c.max.result c.max.new.driver) (sym c.in-Max.is)
+    (subst (λ (n : ℤ). Steps g.N.Node.decls g.N.Node.number g.N.Node.among g.N.Node.peer g.N.Node.awaited g.N.Node.number_of g.N.Node.shown g.N.Node.reads c.args.c c.args.driver.now (plain.Max c.in-Max.p c.in-Max.x n) c.max.result c.max.new.driver) number c.max.ensures.steps)
 
 pub returns-in-Max-clause-calls : goal.returns-in-Max-clause-calls
 returns-in-Max-clause-calls g c =

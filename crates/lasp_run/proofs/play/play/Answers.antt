@@ -55,7 +55,7 @@ loop-i-preserved g c =
       number = omega (arith, c.loop-i.invariant.number);
       within = omega (arith, c.loop-i-test.true, c.len-i-end.ensures);
       size = size ∙ c.loop-i.invariant.size;
-      ready = ready-here g.N.Node.decls g.N.Node.number g.N.Node.among g.N.Node.peer g.N.Node.awaited (length old.nodes.items) (c.loop-i.c + 1) new steps.ready;
+      ready = ready-here g.N.Node.decls g.N.Node.number g.N.Node.among g.N.Node.peer g.N.Node.awaited g.N.Node.number_of g.N.Node.shown g.N.Node.reads (length old.nodes.items) (c.loop-i.c + 1) new steps.ready;
       lawful = subst (λ (n : ℕ). AreLawful n (stage_of new) (drop (c.loop-i.i + 1) ks)) (sym size)
           (subst (λ (s : Stage). AreLawful (length old.nodes.items) s (drop (c.loop-i.i + 1) ks)) (sym steps.stage) lawful.1);
       graph = subst (λ (h : List Decl). IsGraph (grown h (drop (c.loop-i.i + 1) ks))) (sym graph) (subst (λ (rest : List plain.Command). IsGraph (grown (arc_value old.graph) rest)) at c.loop-i.invariant.graph);

@@ -15,7 +15,7 @@ invariant-loop-i g l = record {
   number : l.c ≡ l.i + 1;
   within : l.i ≤ length l.script.commands;
   size : length l.driver.nodes.items ≡ length l.fn.driver.nodes.items;
-  ready : IsReady g.N.Node.decls g.N.Node.number g.N.Node.among g.N.Node.peer g.N.Node.awaited (length l.driver.nodes.items) l.c l.driver;
+  ready : IsReady g.N.Node.decls g.N.Node.number g.N.Node.among g.N.Node.peer g.N.Node.awaited g.N.Node.number_of g.N.Node.shown g.N.Node.reads (length l.driver.nodes.items) l.c l.driver;
   lawful : AreLawful (length l.driver.nodes.items) (stage_of l.driver) (drop l.i l.script.commands);
   graph : IsGraph (grown (arc_value l.driver.graph) (drop l.i l.script.commands));
   fits : FitsAll (library_of l.lib) (grown (arc_value l.driver.graph) (drop l.i l.script.commands));

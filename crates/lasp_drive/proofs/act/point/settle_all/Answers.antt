@@ -9,6 +9,8 @@ use Rattle.model_world.specs.World.{Peer, peer_at, shown_at}
 use Rattle.model_world.specs.declared.stop.Stop.TheVariants.{TooLarge}
 use Rattle.lasp_graph.specs.Library.{library_of}
 use Rattle.lasp_drive.proofs.NodeLaws.{node-here, node-stays, nodes-set, held-here}
+use Rattle.lasp_drive.specs.Reads.{Reads}
+use Rattle.lasp_drive.proofs.WaitLaws.{all-called, counts-stay}
 use Rattle.lasp_drive.proofs.PointLaws.{stopped-first, point-stops, point-passes, all-stay, peers-stay, settled-next, all-settled}
 use Rattle.lasp_drive.proofs.act.point.settle_all.Goals as goal
 
@@ -54,6 +56,8 @@ loop-p-preserved g c =
     record {
       within = omega (arith, within, length-set c.loop-p.nodes.items c.loop-p.p c.settle.new.self);
       size = length-set c.loop-p.nodes.items c.loop-p.p c.settle.new.self ∙ c.loop-p.invariant.size;
+      opened = counts-stay g.N.Node.reads c.loop-p.nodes.items c.loop-p.p c.index_mut.result.now c.settle.new.self c.index_mut.ensures.value (ap (λ (s : Reads). s.opened) c.settle.ensures.reads) ∙ c.loop-p.invariant.opened;
+      waiting = λ before opened all. all-called g.N.Node.awaited g.N.Node.number_of g.N.Node.shown g.N.Node.reads before c.loop-p.p c.loop-p.nodes.items opened c.index_mut.result.now c.settle.new.self within c.index_mut.ensures.value c.settle.ensures.grew c.settle.ensures.reads (c.loop-p.invariant.waiting before opened all);
       calls = all-stay g.N.Node.calls c.loop-p.nodes.items c.loop-p.p c.index_mut.result.now c.settle.new.self c.index_mut.ensures.value c.settle.ensures.calls ∙ c.loop-p.invariant.calls;
       same = peers-stay g.N.Node.peer c.loop-p.nodes.items c.loop-p.p c.index_mut.result.now c.settle.new.self c.index_mut.ensures.value c.settle.ensures.peer ∙ c.loop-p.invariant.same;
       nodes = nodes-set g.N.Node.decls g.N.Node.number g.N.Node.among c.args.graph.now (length c.args.nodes.now.items) c.loop-p.nodes.items c.loop-p.p c.settle.new.self c.loop-p.invariant.nodes
@@ -65,3 +69,19 @@ loop-p-preserved g c =
 
 pub returns-clause-settled : goal.returns-clause-settled
 returns-clause-settled g c = all-settled g.N.Node.decls g.N.Node.peer g.N.Node.shown c.loop-p.nodes.items c.loop-p.p (omega (arith, c.loop-p-test.false, c.len-p-end.ensures, c.loop-p.invariant.size)) c.loop-p.invariant.settled
+
+pub returns-in-Err-TooLarge-clause-opened : goal.returns-in-Err-TooLarge-clause-opened
+returns-in-Err-TooLarge-clause-opened g c = counts-stay g.N.Node.reads c.loop-p.nodes.items c.loop-p.p c.index_mut.result.now c.settle.new.self c.index_mut.ensures.value (ap (λ (s : Reads). s.opened) c.settle.ensures.reads) ∙ c.loop-p.invariant.opened
+
+pub returns-in-Err-TooLarge-clause-waiting : goal.returns-in-Err-TooLarge-clause-waiting
+returns-in-Err-TooLarge-clause-waiting g c before opened all =
+    let within : c.loop-p.p < length c.loop-p.nodes.items = omega (arith, c.loop-p-test.true, c.len-p-end.ensures, c.loop-p.invariant.size) in
+    all-called g.N.Node.awaited g.N.Node.number_of g.N.Node.shown g.N.Node.reads before c.loop-p.p c.loop-p.nodes.items opened c.index_mut.result.now c.settle.new.self within c.index_mut.ensures.value c.settle.ensures.grew c.settle.ensures.reads (c.loop-p.invariant.waiting before opened all)
+
+pub returns-in-Err-Memory-clause-opened : goal.returns-in-Err-Memory-clause-opened
+returns-in-Err-Memory-clause-opened g c = counts-stay g.N.Node.reads c.loop-p.nodes.items c.loop-p.p c.index_mut.result.now c.settle.new.self c.index_mut.ensures.value (ap (λ (s : Reads). s.opened) c.settle.ensures.reads) ∙ c.loop-p.invariant.opened
+
+pub returns-in-Err-Memory-clause-waiting : goal.returns-in-Err-Memory-clause-waiting
+returns-in-Err-Memory-clause-waiting g c before opened all =
+    let within : c.loop-p.p < length c.loop-p.nodes.items = omega (arith, c.loop-p-test.true, c.len-p-end.ensures, c.loop-p.invariant.size) in
+    all-called g.N.Node.awaited g.N.Node.number_of g.N.Node.shown g.N.Node.reads before c.loop-p.p c.loop-p.nodes.items opened c.index_mut.result.now c.settle.new.self within c.index_mut.ensures.value c.settle.ensures.grew c.settle.ensures.reads (c.loop-p.invariant.waiting before opened all)

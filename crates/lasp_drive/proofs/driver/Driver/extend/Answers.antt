@@ -17,8 +17,8 @@ extend_all-requires-clause-nodes g c =
 pub returns-clause-ready : goal.returns-clause-ready
 returns-clause-ready g c =
     let graph : arc_value c.in_ok-grown.grown ≡ arc_value c.args.self.now.graph ++ decl_of c.args.decl.now ∷ [] = search rules in
-    extended-ready g.N.Node.decls g.N.Node.number g.N.Node.among g.N.Node.peer g.N.Node.awaited (length c.args.self.now.nodes.items) c.args.c c.args.self.now (decl_of c.args.decl.now) c.in_ok-grown.grown c.extend_all.new.nodes
-    c.requires.ready graph refl c.extend_all.ensures.size c.in_ok-extend_all.ensures.nodes c.in_ok-extend_all.ensures.peers
+    extended-ready g.N.Node.decls g.N.Node.number g.N.Node.among g.N.Node.peer g.N.Node.awaited g.N.Node.number_of g.N.Node.shown g.N.Node.reads (length c.args.self.now.nodes.items) c.args.c c.args.self.now (decl_of c.args.decl.now) c.in_ok-grown.grown c.extend_all.new.nodes
+    c.requires.ready graph refl c.extend_all.ensures.size c.in_ok-extend_all.ensures.nodes c.in_ok-extend_all.ensures.peers (c.in_ok-extend_all.ensures.waiting c.args.c c.args.self.now.reads.items c.requires.ready.waiting)
 
 pub returns-clause-calls : goal.returns-clause-calls
 returns-clause-calls g c = calls-each g.N.Node.calls c.args.self.now.nodes.items c.extend_all.new.nodes.items (fed (model.Extend (decl_of c.args.decl.now)) ∷ []) c.in_ok-extend_all.ensures.calls

@@ -34,6 +34,7 @@ returns-clause-ready g c =
       sound = marks-sound (length nodes) c.args.c graph (length c.args.self.now.network.sent) (with_marks (run_of g.N.Node.peer g.N.Node.awaited c.args.self.now) (map marked_of c.push.new.self.items)) (map (λ (m : Mark). m.var) c.args.self.now.marks.items ++ c.args.x ∷ []) (map (λ (m : Mark). m.var) c.push.new.self.items)
           (ap (map (λ (m : Mark). m.var)) c.in_ok-push.ensures.items ∙ map-append (λ (m : Mark). m.var) c.args.self.now.marks.items _)
           (sound-keep (length nodes) c.args.c c.args.p c.args.x (stage_of c.args.self.now) (run_of g.N.Node.peer g.N.Node.awaited c.args.self.now) _ c.requires.ready.sound c.requires.node c.requires.var c.requires.source (returns-clause-done g c));
+      waiting = c.requires.ready.waiting;
     }
 
 pub returns-clause-calls : goal.returns-clause-calls

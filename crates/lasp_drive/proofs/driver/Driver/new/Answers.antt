@@ -9,7 +9,10 @@ use Rattle.model_held.proofs.SoundLaws.{sound-start}
 use Rattle.lasp_gossip.specs.Network.{Network}
 use Rattle.lasp_drive.specs.Node.{AreNodes}
 use Rattle.lasp_drive.specs.Driver.{run_of, stage_of}
+use Rattle.lasp_drive.specs.Waiting.{AreWaiting}
+use Rattle.lasp_drive.specs.declared.driver.OpenRead.{OpenRead}
 use Rattle.lasp_drive.specs.declared.driver.Driver.{Driver}
+use Rattle.lasp_drive.proofs.WaitLaws.{all-fresh}
 use Rattle.lasp_drive.proofs.driver.Driver.new.Goals as goal
 
 pub returns-clause-ready : goal.returns-clause-ready
@@ -25,4 +28,6 @@ returns-clause-ready g c =
       nodes = subst (λ (h : List Decl). AreNodes g.N.Node.decls g.N.Node.number g.N.Node.among h c.args.nodes c.in_ok-fresh_nodes.field-0.items) (sym graph) c.in_ok-fresh_nodes.ensures.nodes;
       limit = ap (λ (n : Network). n.limit) c.new.ensures;
       sound = subst (λ (r : Run). IsSound c.args.nodes 1 (stage_of d) r) (sym run) (subst (λ (s : Stage). IsSound c.args.nodes 1 s (start (arc_value c.args.graph.now) c.args.nodes)) (sym stage) (sound-start c.args.nodes (arc_value c.args.graph.now)));
+      waiting = subst (λ (rs : List (OpenRead g.row.N-Read.Denot)). AreWaiting g.N.Node.awaited g.N.Node.number_of g.N.Node.shown g.N.Node.reads 1 c.in_ok-fresh_nodes.field-0.items rs) (sym c.new-3.ensures.items)
+          (all-fresh g.N.Node.awaited g.N.Node.number_of g.N.Node.shown g.N.Node.reads c.args.nodes c.in_ok-fresh_nodes.field-0.items c.in_ok-fresh_nodes.ensures.reads);
     }

@@ -55,6 +55,7 @@ returns-in-Ok-clause-ready g c =
           (sound-post (length nodes) c.args.c c.args.p (stage_of c.args.self.now) run _ c.requires.ready.sound c.requires.node
           (post-done run c.args.c c.in_ok-message.message (message_at graph (peer_at (map g.N.Node.peer nodes) c.args.p))
           (c.in_ok-message.ensures ∙ message-here g.N.Node.decls g.N.Node.peer graph nodes c.args.p c.index.result.now here.graph c.requires.node c.index.ensures) (omega (arith, c.in-Ok.ensures.room, c.requires.ready.limit))));
+      waiting = c.requires.ready.waiting;
     }
 
 pub returns-in-Err-NetworkFull-clause-done : goal.returns-in-Err-NetworkFull-clause-done

@@ -1,12 +1,14 @@
-use Rattle.std.proofs.Common.{length}
+use Rattle.std.proofs.Common.{◌+◌, length, refl, sym, ◌∙◌, arith}
 use Rattle.std.specs.Prelude.{slice_set}
 use Rattle.std.specs.Arc.{arc_value}
 use Rattle.std.proofs.lemmas.List.{length-set}
 use Rattle.model_graph.specs.Evaluation.{content_at}
 use Rattle.lasp_state.specs.Threshold.{threshold_of}
-use Rattle.lasp_drive.specs.Driver.{run_of}
+use Rattle.lasp_drive.specs.Driver.{run_of, stage_of}
 use Rattle.lasp_drive.proofs.NodeLaws.{node-here, node-stays, nodes-set}
-use Rattle.lasp_drive.proofs.PointLaws.{all-stay, called-same, called-sound, shown-here, reach-done, reach-stops}
+use Rattle.lasp_drive.proofs.PointLaws.{all-stay, called-same, called-sound, shown-here, reached-there, reach-done, reach-stops}
+use Rattle.model_held.proofs.SoundLaws.{sound-later}
+use Rattle.lasp_drive.proofs.WaitLaws.{all-looked}
 use Rattle.lasp_drive.proofs.CallLaws.{calls-stay, looks-at}
 use Rattle.lasp_drive.proofs.driver.Driver.reach.Goals as goal
 
@@ -22,7 +24,8 @@ returns-then-branch-clause-ready g c =
       size = length-set nodes c.args.p c.has_reached.new.node;
       nodes = nodes-set g.N.Node.decls g.N.Node.number g.N.Node.among graph (length nodes) nodes c.args.p c.has_reached.new.node c.requires.ready.nodes stays;
       limit = c.requires.ready.limit;
-      sound = called-sound g.N.Node.peer g.N.Node.awaited (length nodes) c.args.c c.args.self.now c.args.p c.index_mut.result.now c.has_reached.new.node c.index_mut.ensures.value c.has_reached.ensures.peer c.requires.ready.sound;
+      sound = called-sound g.N.Node.peer g.N.Node.awaited (length nodes) (c.args.c + 1) c.args.self.now c.args.p c.index_mut.result.now c.has_reached.new.node c.index_mut.ensures.value c.has_reached.ensures.peer (sound-later (length nodes) c.args.c (stage_of c.args.self.now) (run_of g.N.Node.peer g.N.Node.awaited c.args.self.now) c.requires.ready.sound);
+      waiting = all-looked g.N.Node.awaited g.N.Node.number_of g.N.Node.shown g.N.Node.reads c.args.c c.args.p nodes c.args.self.now.reads.items c.index_mut.result.now c.has_reached.new.node (omega (arith)) c.requires.node c.index_mut.ensures.value c.has_reached.ensures.shown c.in_ok-has_reached.ensures.reads c.requires.ready.waiting;
     }
 
 pub returns-then-branch-clause-done : goal.returns-then-branch-clause-done
@@ -47,6 +50,18 @@ returns-then-branch-clause-calls g c until =
     calls-stay g.N.Node.calls c.args.self.now.nodes.items (slice_set c.args.self.now.nodes.items c.args.p c.has_reached.new.node)
     (all-stay g.N.Node.calls c.args.self.now.nodes.items c.args.p c.index_mut.result.now c.has_reached.new.node c.index_mut.ensures.value c.has_reached.ensures.calls)
 
+pub returns-then-branch-clause-reached : goal.returns-then-branch-clause-reached
+returns-then-branch-clause-reached g c n at =
+    reached-there g.N.Node.shown c.args.self.now.nodes.items c.args.p c.args.x c.index_mut.result.now n (threshold_of c.args.threshold) c.index_mut.ensures.value at ∙ sym c.in_ok-has_reached.ensures.reached ∙ c.if-branch.true
+
+pub returns-else-branch-clause-reached : goal.returns-else-branch-clause-reached
+returns-else-branch-clause-reached g c n at =
+    (refl, reached-there g.N.Node.shown c.args.self.now.nodes.items c.args.p c.args.x c.index_mut.result.now n (threshold_of c.args.threshold) c.index_mut.ensures.value at ∙ sym c.in_ok-has_reached.ensures.reached ∙ c.if-branch.false)
+
 pub returns-then-branch-clause-reads : goal.returns-then-branch-clause-reads
 returns-then-branch-clause-reads g c =
+    looks-at g.N.Node.reads c.args.self.now.nodes.items c.args.p c.index_mut.result.now c.has_reached.new.node c.requires.node c.index_mut.ensures.value c.in_ok-has_reached.ensures.reads
+
+pub returns-else-branch-clause-reads : goal.returns-else-branch-clause-reads
+returns-else-branch-clause-reads g c =
     looks-at g.N.Node.reads c.args.self.now.nodes.items c.args.p c.index_mut.result.now c.has_reached.new.node c.requires.node c.index_mut.ensures.value c.in_ok-has_reached.ensures.reads

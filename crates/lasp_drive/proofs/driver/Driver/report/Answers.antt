@@ -14,7 +14,7 @@ push_reads-requires-clause-opened g c =
     let reads : c.deref-3.result.now ≡ c.args.self.reads.items = search rules in
     subst (λ (ns : List g.row.N.Denot). AreOpened g.N.Node.decls g.N.Node.number g.N.Node.among g.N.Node.peer g.N.Node.awaited ns c.deref-3.result.now) (sym nodes)
     (subst (λ (rs : List (OpenRead g.row.N-Read.Denot)). AreOpened g.N.Node.decls g.N.Node.number g.N.Node.among g.N.Node.peer g.N.Node.awaited c.args.self.nodes.items rs) (sym reads)
-    (opened-ready g.N.Node.decls g.N.Node.number g.N.Node.among g.N.Node.peer g.N.Node.awaited c.requires.ready.0 c.args.self c.requires.ready.1))
+    (opened-ready g.N.Node.decls g.N.Node.number g.N.Node.among g.N.Node.peer g.N.Node.awaited g.N.Node.number_of g.N.Node.shown g.N.Node.reads c.requires.ready.0 c.args.self c.requires.ready.1))
 
 pub returns : goal.returns
 returns g c =

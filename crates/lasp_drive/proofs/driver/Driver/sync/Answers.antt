@@ -4,6 +4,7 @@ use Rattle.std.specs.List.{range_with_len}
 use Rattle.model_world.specs.World.{takes, Post}
 use Rattle.lasp_drive.specs.Driver.{run_of}
 use Rattle.lasp_drive.proofs.SyncLaws.{append-halts, sync-does}
+use Rattle.lasp_drive.proofs.WaitLaws.{ok-none-then}
 use Rattle.lasp_drive.proofs.CallLaws.{sync-calls}
 use Rattle.lasp_drive.proofs.driver.Driver.sync.Goals as goal
 
@@ -20,3 +21,6 @@ pub returns-in-Ok-clause-calls : goal.returns-in-Ok-clause-calls
 returns-in-Ok-clause-calls g c =
     sync-calls g.N.Node.calls c.take_all.result c.args.self.now.nodes.items c.post_all.new.self.nodes.items c.take_all.new.self.nodes.items c.args.c (run_of g.N.Node.peer g.N.Node.awaited c.args.self.now) (run_of g.N.Node.peer g.N.Node.awaited c.post_all.new.self)
     (length c.args.self.now.nodes.items) (length c.args.self.now.network.sent) c.len-first.result c.in-Ok.ensures.ready.size refl c.len-first.ensures.exact c.in-Ok.ensures.done c.in-Ok.ensures.calls c.take_all.ensures.calls
+
+pub returns-in-Ok-clause-reads : goal.returns-in-Ok-clause-reads
+returns-in-Ok-clause-reads g c = ok-none-then g.N.Node.reads c.take_all.result c.args.self.now c.post_all.new.self c.take_all.new.self c.in-Ok.ensures.reads c.take_all.ensures.reads

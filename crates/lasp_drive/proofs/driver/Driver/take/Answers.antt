@@ -13,6 +13,8 @@ use Rattle.lasp_drive.specs.Driver.{run_of, stage_of}
 use Rattle.lasp_drive.specs.declared.driver.Mark.{Mark}
 use Rattle.lasp_drive.proofs.NodeLaws.{node-here, node-stays, nodes-set, held-here, sent-here, sent-read, with_peers, deliver-done, deliver-stops, stopped-delivery}
 use Rattle.lasp_drive.proofs.DriverLaws.{network-done, network-sound}
+use Rattle.lasp_drive.proofs.WaitLaws.{all-called, counts-stay}
+use Rattle.lasp_drive.specs.Reads.{Reads}
 use Rattle.lasp_drive.proofs.CallLaws.{calls-set, taken-there, taken-elsewhere}
 use Rattle.lasp_drive.proofs.driver.Driver.take.Goals as goal
 
@@ -58,6 +60,7 @@ returns-in-Ok-clause-ready g c =
           (sound-take (length nodes) c.args.c c.args.p c.args.i (stage_of c.args.self.now) run next c.requires.ready.sound c.requires.node c.requires.message
           (deliver-done g.N.Node.decls g.N.Node.peer run (arc_value c.in_ok-message.message) (sent_number c.args.self.now.network.sent c.args.i) nodes c.args.c c.args.p c.index_mut.result.now c.deliver.new.self
           refl here.graph (sent-read c.args.self.now.network.sent c.args.i (arc_value c.in_ok-message.message) c.in_ok-message.ensures.message) c.requires.node c.index_mut.ensures.value c.in-Ok.ensures.done.0 c.in-Ok.ensures.done.1));
+      waiting = all-called g.N.Node.awaited g.N.Node.number_of g.N.Node.shown g.N.Node.reads c.args.c c.args.p nodes c.args.self.now.reads.items c.index_mut.result.now c.deliver.new.self c.requires.node c.index_mut.ensures.value c.in-Ok.ensures.grew c.in-Ok.ensures.reads c.requires.ready.waiting;
     }
 
 pub returns-in-Err-TooLarge-clause-done : goal.returns-in-Err-TooLarge-clause-done
@@ -77,3 +80,9 @@ returns-in-Ok-clause-calls g c =
     ∙ ap (λ (m : Message). g.N.Node.calls c.index_mut.result.now ++ fed (Deliver c.args.i m) ∷ []) (sent-read c.args.self.now.network.sent c.args.i (arc_value c.in_ok-message.message) c.in_ok-message.ensures.message)
     ∙ ap (λ (h : List Entry). g.N.Node.calls c.index_mut.result.now ++ h) (sym (taken-there run c.args.p c.args.i)))
     (taken-elsewhere run c.args.p c.args.i)
+
+pub returns-in-Ok-clause-reads : goal.returns-in-Ok-clause-reads
+returns-in-Ok-clause-reads g c = record {
+  counts = counts-stay g.N.Node.reads c.args.self.now.nodes.items c.args.p c.index_mut.result.now c.deliver.new.self c.index_mut.ensures.value (ap (λ (s : Reads). s.opened) c.in-Ok.ensures.reads);
+  reads_are = refl;
+}

@@ -6,6 +6,7 @@ use Rattle.model_calls.specs.Calls.{calls_of_acts}
 use Rattle.lasp_drive.specs.Calls.{GoOnByCalls}
 use Rattle.lasp_drive.specs.Driver.{IsReady, run_of}
 use Rattle.lasp_drive.proofs.SyncLaws.{halts-as, all-takes-next, all-takes-end, all-next, all-halts, all-end, many-halts, many-done}
+use Rattle.lasp_drive.proofs.WaitLaws.{none-then}
 use Rattle.lasp_drive.proofs.CallLaws.{come-more, come-as, come-end}
 use Rattle.lasp_drive.proofs.driver.Driver.take_all.Goals as goal
 
@@ -20,7 +21,8 @@ loop-p-preserved g c =
     let within : c.loop-p.p < length c.args.self.now.nodes.items = omega (arith, c.loop-p-test.true, c.len-p-end.ensures) in
     record {
       within = omega (arith, within);
-      ready = subst (λ (many : ℕ). IsReady g.N.Node.decls g.N.Node.number g.N.Node.among g.N.Node.peer g.N.Node.awaited many c.args.c c.take_others.new.self) c.loop-p.invariant.ready.size c.in-Ok.ensures.ready;
+      ready = subst (λ (many : ℕ). IsReady g.N.Node.decls g.N.Node.number g.N.Node.among g.N.Node.peer g.N.Node.awaited g.N.Node.number_of g.N.Node.shown g.N.Node.reads many c.args.c c.take_others.new.self) c.loop-p.invariant.ready.size c.in-Ok.ensures.ready;
+      reads = none-then g.N.Node.reads c.args.self.now c.loop-p.self c.take_others.new.self c.loop-p.invariant.reads c.in-Ok.ensures.reads;
       stage = c.in-Ok.ensures.stage ∙ c.loop-p.invariant.stage;
       calls = come-more g.N.Node.calls c.args.self.now.nodes.items c.loop-p.self.nodes.items c.take_others.new.self.nodes.items c.args.c (run_of g.N.Node.peer g.N.Node.awaited c.loop-p.self) (run_of g.N.Node.peer g.N.Node.awaited c.take_others.new.self) (takes (length c.args.self.now.nodes.items) c.args.i c.loop-p.p) (flat_map (takes (length c.args.self.now.nodes.items) c.args.i) (drop (c.loop-p.p + 1) (range_with_len 0 (length c.args.self.now.nodes.items)))) (λ q. calls_of_acts c.args.c (run_of g.N.Node.peer g.N.Node.awaited c.args.self.now) q (flat_map (takes (length c.args.self.now.nodes.items) c.args.i) (range_with_len 0 (length c.args.self.now.nodes.items))))
           c.loop-p.invariant.ready.size

@@ -2,6 +2,7 @@ use Rattle.std.proofs.Common.{◌≡◌, ◌≤◌, length, drop}
 use Rattle.std.specs.Prelude.{flat_map}
 use Rattle.std.specs.List.{range_with_len}
 use Rattle.model_world.specs.World.{each, takes}
+use Rattle.lasp_drive.specs.Waiting.{OpensNone}
 use Rattle.lasp_drive.specs.Driver.{IsReady, run_of, stage_of}
 use Rattle.model_calls.specs.Calls.{calls_of_acts}
 use Rattle.lasp_drive.proofs.CallLaws.{AreToCome}
@@ -10,7 +11,8 @@ use Rattle.lasp_drive.proofs.driver.Driver.take_all.Given as goal
 abbrev pub invariant-loop-p : goal.invariant-loop-p
 invariant-loop-p g l = record {
   within : l.p ≤ length l.fn.self.nodes.items;
-  ready : IsReady g.N.Node.decls g.N.Node.number g.N.Node.among g.N.Node.peer g.N.Node.awaited (length l.fn.self.nodes.items) l.c l.self;
+  ready : IsReady g.N.Node.decls g.N.Node.number g.N.Node.among g.N.Node.peer g.N.Node.awaited g.N.Node.number_of g.N.Node.shown g.N.Node.reads (length l.fn.self.nodes.items) l.c l.self;
+  reads : OpensNone g.N.Node.reads l.fn.self l.self;
   stage : stage_of l.self ≡ stage_of l.fn.self;
   calls : AreToCome g.N.Node.calls l.fn.self.nodes.items l.self.nodes.items (λ q. calls_of_acts l.c (run_of g.N.Node.peer g.N.Node.awaited l.self) q (flat_map (takes (length l.fn.self.nodes.items) l.i) (drop l.p (range_with_len 0 (length l.fn.self.nodes.items)))))
       (λ q. calls_of_acts l.c (run_of g.N.Node.peer g.N.Node.awaited l.fn.self) q (flat_map (takes (length l.fn.self.nodes.items) l.i) (range_with_len 0 (length l.fn.self.nodes.items))));

@@ -6,6 +6,8 @@ use Rattle.model_calls.specs.Calls.{calls_of_acts}
 use Rattle.lasp_drive.specs.Driver.{IsReady, run_of, stage_of}
 use Rattle.lasp_drive.specs.declared.driver.Driver.{Driver}
 use Rattle.lasp_drive.proofs.SyncLaws.{halts-as, other-node, own-node, takes_of, takes-other, takes-own, takes-end, take-next, take-own, take-halts, take-end}
+use Rattle.lasp_drive.specs.Waiting.{OpensNone}
+use Rattle.lasp_drive.proofs.WaitLaws.{none-then}
 use Rattle.lasp_drive.proofs.CallLaws.{AreToCome, come-next, come-as, come-end}
 use Rattle.lasp_drive.proofs.driver.Driver.take_others.Goals as goal
 use Rattle.lasp_drive.proofs.driver.Driver.take_others.Goals.{then-q-p+in-Ok, else-q-p}
@@ -22,8 +24,9 @@ loop-q-preserved g c =
     elim c.if-q-p.branch [
       | then-q-p+in-Ok w ↦ record {
         within = omega (arith, within);
-        ready = subst (λ (d : Driver g.row.N.Denot g.row.N-Read.Denot). IsReady g.N.Node.decls g.N.Node.number g.N.Node.among g.N.Node.peer g.N.Node.awaited many c.args.c d) (sym w.self-is)
-            (subst (λ (k : ℕ). IsReady g.N.Node.decls g.N.Node.number g.N.Node.among g.N.Node.peer g.N.Node.awaited k c.args.c w.take.new.self) c.loop-q.invariant.ready.size w.in-Ok.ensures.ready);
+        ready = subst (λ (d : Driver g.row.N.Denot g.row.N-Read.Denot). IsReady g.N.Node.decls g.N.Node.number g.N.Node.among g.N.Node.peer g.N.Node.awaited g.N.Node.number_of g.N.Node.shown g.N.Node.reads many c.args.c d) (sym w.self-is)
+            (subst (λ (k : ℕ). IsReady g.N.Node.decls g.N.Node.number g.N.Node.among g.N.Node.peer g.N.Node.awaited g.N.Node.number_of g.N.Node.shown g.N.Node.reads k c.args.c w.take.new.self) c.loop-q.invariant.ready.size w.in-Ok.ensures.ready);
+        reads = subst (λ (d : Driver g.row.N.Denot g.row.N-Read.Denot). OpensNone g.N.Node.reads c.args.self.now d) (sym w.self-is) (none-then g.N.Node.reads c.args.self.now c.loop-q.self w.take.new.self c.loop-q.invariant.reads w.in-Ok.ensures.reads);
         stage = ap (λ (d : Driver g.row.N.Denot g.row.N-Read.Denot). stage_of d) w.self-is ∙ w.in-Ok.ensures.stage ∙ c.loop-q.invariant.stage;
         calls = subst (λ (d : Driver g.row.N.Denot g.row.N-Read.Denot). AreToCome g.N.Node.calls c.args.self.now.nodes.items d.nodes.items (λ k. calls_of_acts c.args.c (run_of g.N.Node.peer g.N.Node.awaited d) k (takes_of c.args.i c.args.p (drop (c.loop-q.q + 1) (range_with_len 0 many)))) (λ k. calls_of_acts c.args.c (run_of g.N.Node.peer g.N.Node.awaited c.args.self.now) k (takes many c.args.i c.args.p))) (sym w.self-is)
             (come-next g.N.Node.calls c.args.self.now.nodes.items c.loop-q.self.nodes.items w.take.new.self.nodes.items c.args.c (run_of g.N.Node.peer g.N.Node.awaited c.loop-q.self) (run_of g.N.Node.peer g.N.Node.awaited w.take.new.self) (Take c.args.p (c.args.i + c.loop-q.q)) (takes_of c.args.i c.args.p (drop (c.loop-q.q + 1) (range_with_len 0 many))) (λ k. calls_of_acts c.args.c (run_of g.N.Node.peer g.N.Node.awaited c.args.self.now) k (takes many c.args.i c.args.p))
@@ -35,7 +38,8 @@ loop-q-preserved g c =
       }
       | else-q-p w ↦ record {
         within = omega (arith, within);
-        ready = subst (λ (d : Driver g.row.N.Denot g.row.N-Read.Denot). IsReady g.N.Node.decls g.N.Node.number g.N.Node.among g.N.Node.peer g.N.Node.awaited many c.args.c d) (sym w.self-is) c.loop-q.invariant.ready;
+        ready = subst (λ (d : Driver g.row.N.Denot g.row.N-Read.Denot). IsReady g.N.Node.decls g.N.Node.number g.N.Node.among g.N.Node.peer g.N.Node.awaited g.N.Node.number_of g.N.Node.shown g.N.Node.reads many c.args.c d) (sym w.self-is) c.loop-q.invariant.ready;
+        reads = subst (λ (d : Driver g.row.N.Denot g.row.N-Read.Denot). OpensNone g.N.Node.reads c.args.self.now d) (sym w.self-is) c.loop-q.invariant.reads;
         stage = ap (λ (d : Driver g.row.N.Denot g.row.N-Read.Denot). stage_of d) w.self-is ∙ c.loop-q.invariant.stage;
         calls = subst (λ (d : Driver g.row.N.Denot g.row.N-Read.Denot). AreToCome g.N.Node.calls c.args.self.now.nodes.items d.nodes.items (λ k. calls_of_acts c.args.c (run_of g.N.Node.peer g.N.Node.awaited d) k (takes_of c.args.i c.args.p (drop (c.loop-q.q + 1) (range_with_len 0 many)))) (λ k. calls_of_acts c.args.c (run_of g.N.Node.peer g.N.Node.awaited c.args.self.now) k (takes many c.args.i c.args.p))) (sym w.self-is)
             (come-as g.N.Node.calls c.args.self.now.nodes.items c.loop-q.self.nodes.items c.args.c (run_of g.N.Node.peer g.N.Node.awaited c.loop-q.self) _ _ _ (takes-own many c.args.i c.args.p c.loop-q.q within (own-node c.loop-q.q c.args.p w.if-q-p.false)) c.loop-q.invariant.calls);

@@ -1,3 +1,4 @@
+use Rattle.std.specs.Prelude.{slice_set}
 use Rattle.std.proofs.Common.{length, List, ◌++◌, refl, sym, ap, ◌∙◌}
 use Rattle.std.specs.Arc.{arc_value}
 use Rattle.std.proofs.lemmas.List.{length-set}
@@ -8,6 +9,8 @@ use Rattle.model_calls.specs.Calls.{call_of}
 use Rattle.lasp_state.specs.State.{op_of}
 use Rattle.lasp_drive.specs.Driver.{run_of, stage_of}
 use Rattle.lasp_drive.proofs.NodeLaws.{node-here, node-stays, nodes-set, held-here, update-here, suits-here, room-here, member-here, var-here, update-done, update-stops, stopped-large}
+use Rattle.lasp_drive.proofs.WaitLaws.{all-later, all-called, counts-stay}
+use Rattle.lasp_drive.specs.Reads.{Reads}
 use Rattle.lasp_drive.proofs.CallLaws.{calls-set, updated-there, updated-elsewhere}
 use Rattle.lasp_drive.proofs.driver.Driver.update.Goals as goal
 
@@ -67,6 +70,8 @@ returns-in-Ok-clause-ready g c =
       sound = sound-update (length nodes) c.args.c c.args.p c.args.x (stage_of c.args.self.now) (op_of c.args.op.now) (run_of g.N.Node.peer g.N.Node.awaited c.args.self.now) _ c.requires.ready.sound c.requires.number c.requires.node c.requires.var c.requires.op
           (update-done g.N.Node.number g.N.Node.peer (run_of g.N.Node.peer g.N.Node.awaited c.args.self.now) nodes c.args.c c.args.p c.args.x (op_of c.args.op.now) c.index_mut.result.now c.update.new.self
           refl here.replica c.requires.node c.index_mut.ensures.value c.in-Ok.ensures.done.0 c.in-Ok.ensures.done.1);
+      waiting = all-later g.N.Node.awaited g.N.Node.number_of g.N.Node.shown g.N.Node.reads c.args.c (slice_set nodes c.args.p c.update.new.self) c.args.self.now.reads.items
+          (all-called g.N.Node.awaited g.N.Node.number_of g.N.Node.shown g.N.Node.reads c.args.c c.args.p nodes c.args.self.now.reads.items c.index_mut.result.now c.update.new.self c.requires.node c.index_mut.ensures.value c.in-Ok.ensures.grew c.in-Ok.ensures.reads c.requires.ready.waiting);
     }
 
 pub returns-in-Err-TooLarge-clause-done : goal.returns-in-Err-TooLarge-clause-done
@@ -82,3 +87,9 @@ returns-in-Ok-clause-calls g c =
     calls-set g.N.Node.calls c.args.self.now.nodes.items c.args.p c.index_mut.result.now c.update.new.self (λ q. call_of run q (Update c.args.p c.args.x op)) c.requires.node c.index_mut.ensures.value
     (c.in-Ok.ensures.calls ∙ ap (λ (h : List Entry). g.N.Node.calls c.index_mut.result.now ++ h) (sym (updated-there run c.args.p c.args.x op)))
     (updated-elsewhere run c.args.p c.args.x op)
+
+pub returns-in-Ok-clause-reads : goal.returns-in-Ok-clause-reads
+returns-in-Ok-clause-reads g c = record {
+  counts = counts-stay g.N.Node.reads c.args.self.now.nodes.items c.args.p c.index_mut.result.now c.update.new.self c.index_mut.ensures.value (ap (λ (s : Reads). s.opened) c.in-Ok.ensures.reads);
+  reads_are = refl;
+}

@@ -1,11 +1,12 @@
 use Rattle.std.proofs.Common.{ap}
 use Rattle.std.specs.Arc.{arc_value}
-use Rattle.model_journal.specs.Entry.{Frame}
+use Rattle.model_journal.specs.Entry.{Frame, Extend}
 use Rattle.model_journal.specs.Journal.{graph}
 use Rattle.lasp_graph.specs.Decl.{decl_of}
 use Rattle.lasp_node.proofs.NodeLaws.{on-ok, last-decl, extended-same, extended-peer}
+use Rattle.model_replica.specs.Peer.{entry}
 use Rattle.lasp_node.specs.declared.node.CoreNode.{CoreNode}
-use Rattle.lasp_node.proofs.CallLaws.{declared-calls, same-core, on-err}
+use Rattle.lasp_node.proofs.CallLaws.{declared-calls, declared-grows, same-core, on-err}
 use Rattle.lasp_node.proofs.node.CoreNodeNode.extend.Goals as goal
 
 pub extend-requires-clause-next : goal.extend-requires-clause-next
@@ -40,3 +41,6 @@ returns-clause-calls c d is =
 
 pub returns-clause-unchanged : goal.returns-clause-unchanged
 returns-clause-unchanged c = on-err c.extend.result (same-core (λ (n : CoreNode). n.core) _ _) c.extend.ensures.err
+
+pub returns-clause-grew : goal.returns-clause-grew
+returns-clause-grew c = on-ok c.extend.result (λ done. declared-grows c.args.self.now.core c.extend.new.self (entry 0 (Extend (decl_of c.at.result.now))) done c.recall-2.ensures.core.legal) c.extend.ensures.ok

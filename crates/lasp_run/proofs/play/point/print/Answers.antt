@@ -8,7 +8,7 @@ use Rattle.lasp_run.proofs.play.point.print.Goals as goal
 pub returns-in-Ok : goal.returns-in-Ok
 returns-in-Ok g c = record {
   steps = record {
-    ready = ok-here g.N.Node.decls g.N.Node.number g.N.Node.among g.N.Node.peer g.N.Node.awaited c.show.result (length c.args.driver.now.nodes.items) (length c.point.new.self.nodes.items) c.args.c c.show.new.self c.in-Ok.ensures.ready.size c.show.ensures.ready;
+    ready = ok-here g.N.Node.decls g.N.Node.number g.N.Node.among g.N.Node.peer g.N.Node.awaited g.N.Node.number_of g.N.Node.shown g.N.Node.reads c.show.result (length c.args.driver.now.nodes.items) (length c.point.new.self.nodes.items) c.args.c c.show.new.self c.in-Ok.ensures.ready.size c.show.ensures.ready;
     stage = ok-stage c.show.result (stage_of c.show.new.self) (stage_of c.point.new.self) (stage_of c.args.driver.now) c.in-Ok.ensures.stage c.show.ensures.stage;
     done = does-two c.args.c (run_of g.N.Node.peer g.N.Node.awaited c.args.driver.now) (run_of g.N.Node.peer g.N.Node.awaited c.point.new.self) Point (Show c.args.p c.args.x) c.show.result (run_of g.N.Node.peer g.N.Node.awaited c.show.new.self) c.in-Ok.ensures.done c.show.ensures.done;
   };

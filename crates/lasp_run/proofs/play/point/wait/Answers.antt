@@ -5,7 +5,7 @@ use Rattle.lasp_script.specs.Command.{until_of}
 use Rattle.lasp_drive.specs.Driver.{marked_of, run_of, stage_of}
 use Rattle.lasp_drive.specs.declared.driver.Mark.{Mark}
 use Rattle.lasp_run.proofs.CallLaws.{ok-two}
-use Rattle.lasp_run.proofs.StepLaws.{ok-here, ok-stage, does-two, marks-stay}
+use Rattle.lasp_run.proofs.StepLaws.{ok-next, ok-stage, does-two, marks-stay}
 use Rattle.lasp_run.proofs.play.point.wait.Goals as goal
 
 pub returns-in-Ok : goal.returns-in-Ok
@@ -17,7 +17,7 @@ returns-in-Ok g c =
     ∙ ap (λ (ms : List Marked). threshold_of ms (until_of c.args.until.now)) (sym (marks-stay c.args.c old now c.in-Ok.ensures.done))) in
     record {
       steps = record {
-        ready = ok-here g.N.Node.decls g.N.Node.number g.N.Node.among g.N.Node.peer g.N.Node.awaited c.reach.result (length c.args.driver.now.nodes.items) (length c.point.new.self.nodes.items) c.args.c c.reach.new.self c.in-Ok.ensures.ready.size c.reach.ensures.ready;
+        ready = ok-next g.N.Node.decls g.N.Node.number g.N.Node.among g.N.Node.peer g.N.Node.awaited g.N.Node.number_of g.N.Node.shown g.N.Node.reads c.reach.result (length c.args.driver.now.nodes.items) (length c.point.new.self.nodes.items) c.args.c c.reach.new.self c.in-Ok.ensures.ready.size c.reach.ensures.ready;
         stage = ok-stage c.reach.result (stage_of c.reach.new.self) (stage_of c.point.new.self) (stage_of c.args.driver.now) c.in-Ok.ensures.stage c.reach.ensures.stage;
         done = does-two c.args.c old now Point (Reach c.args.p c.args.x (until_of c.args.until.now)) c.reach.result (run_of g.N.Node.peer g.N.Node.awaited c.reach.new.self) c.in-Ok.ensures.done
             reached;
