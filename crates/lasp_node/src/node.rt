@@ -68,10 +68,11 @@ impl Node for CoreNode {
 
     fn update(&mut self, _alloc: Global, x: u8, op: &Op) -> Result<(), NodeStop> {
         self.core.recall();
-        let updated = self.core.update(0, x, op);
-        self.core.recall();
-        match updated {
-            Ok(_) => Ok(()),
+        match self.core.update(0, x, op) {
+            Ok(_) => {
+                self.core.recall();
+                Ok(())
+            }
             Err(UpdateRefused::TooManyRows) => Err(NodeStop::TooLarge(x)),
             Err(UpdateRefused::Memory) => Err(NodeStop::Memory),
             Err(_) => unreachable!(),
@@ -89,10 +90,11 @@ impl Node for CoreNode {
 
     fn deliver(&mut self, _alloc: Global, i: u32, m: &Arc<Message>) -> Result<(), NodeStop> {
         self.core.recall();
-        let delivered = self.core.deliver(0, i, m);
-        self.core.recall();
-        match delivered {
-            Ok(_) => Ok(()),
+        match self.core.deliver(0, i, m) {
+            Ok(_) => {
+                self.core.recall();
+                Ok(())
+            }
             Err(DeliverRefused::TooManyRows(x)) => Err(NodeStop::TooLarge(x)),
             Err(DeliverRefused::Memory) => Err(NodeStop::Memory),
             Err(DeliverRefused::WrongGraph) => unreachable!(),

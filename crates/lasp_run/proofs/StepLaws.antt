@@ -1,5 +1,5 @@
 -- Laws of a command: its acts, one after the other.
-use Rattle.std.proofs.Common.{zero, suc, sym, ap, subst, arith}
+use Rattle.std.proofs.Common.{zero, suc, refl, sym, ap, subst, arith}
 use Rattle.std.specs.Prelude.{◌≡◌, ℕ, ◌+◌, List, [], ◌∷◌, map, length, slice_get, Some, Result, Ok, Err, OnOk}
 use Rattle.std.proofs.lemmas.List.{length-map}
 use Rattle.model_values.specs.Value.{Val}
@@ -10,7 +10,7 @@ use Rattle.model_wire.specs.Lawful as wire
 use Rattle.model_world.specs.Command as plain
 use Rattle.model_world.specs.Lawful.{Stage, stage_after, MayAsk, IsMarkOf}
 use Rattle.model_world.specs.Lawful as lawful
-use Rattle.model_world.specs.World.{Peer, Run, Act, Point, act, each, mark_at}
+use Rattle.model_world.specs.World.{Peer, Run, Act, Point, act, acts, each, sync_acts, mark_at}
 use Rattle.model_world.specs.declared.stop.Stop.{Stop}
 use Rattle.model_world.proofs.StopLaws.{point-same}
 use Rattle.model_held.proofs.SoundLaws.{sound-later}
@@ -22,7 +22,7 @@ use Rattle.lasp_drive.specs.declared.driver.Driver.{Driver}
 use Rattle.lasp_drive.specs.declared.halt.Halt.{Halt}
 use Rattle.lasp_drive.proofs.SyncLaws.{halts-first}
 use Rattle.lasp_drive.proofs.WaitLaws.{all-later}
-use Rattle.lasp_run.specs.Play.{IsUntilWithin}
+use Rattle.lasp_run.specs.Play.{IsUntilWithin, Steps}
 use Rattle.lasp_script.specs.Command.{until_of}
 use Rattle.lasp_script.specs.declared.command.Until.{Until}
 use Rattle.lasp_script.specs.declared.command.Until.TheVariants as until
@@ -90,6 +90,25 @@ module _ {N R : Type 0} (decls : N → List Decl) (number among : N → ℕ) (pe
   -- the same where it stands before the next command already
   pub ok-next : {A : Type 0} (result : Result A Halt) (many k c : ℕ) (d : Driver N R) → k ≡ many → OnOk result (IsReady decls number among peer awaited number_of shown reads k (c + 1) d) → OnOk result (IsReady decls number among peer awaited number_of shown reads many (c + 1) d)
   ok-next result many k c d same h = subst (λ (n : ℕ). OnOk result (IsReady decls number among peer awaited number_of shown reads n (c + 1) d)) same h
+
+  -- a command of one act
+  pub steps-one : {A : Type 0} (result : Result A Halt) (c : ℕ) (old new : Driver N R) (k : plain.Command) (a : Act) → acts (run_of peer awaited old) k ≡ a ∷ [] → OnOk result (IsReady decls number among peer awaited number_of shown reads (length old.nodes.items) c new)
+      → OnOk result (stage_of new ≡ stage_after (length old.nodes.items) (stage_of old) k) → Does (act c (run_of peer awaited old) a) result (run_of peer awaited new) → Steps decls number among peer awaited number_of shown reads c old k result new
+  steps-one result c old new k a is ready stage done = record {
+    ready = ok-later decls number among peer awaited number_of shown reads result (length old.nodes.items) c new ready;
+    stage = stage;
+    done = subst (λ (many : List Act). Does (each c (run_of peer awaited old) many) result (run_of peer awaited new)) (sym is) (does-one c (run_of peer awaited old) a result (run_of peer awaited new) done);
+  }
+
+  -- a sync
+  pub steps-sync : {A : Type 0} (result : Result A Halt) (c : ℕ) (old new : Driver N R) → OnOk result (IsReady decls number among peer awaited number_of shown reads (length old.nodes.items) c new)
+      → OnOk result (stage_of new ≡ stage_after (length old.nodes.items) (stage_of old) plain.Sync) → Does (each c (run_of peer awaited old) (sync_acts (length old.nodes.items) (length old.network.sent))) result (run_of peer awaited new)
+      → Steps decls number among peer awaited number_of shown reads c old plain.Sync result new
+  steps-sync result c old new ready stage done = record {
+    ready = ok-later decls number among peer awaited number_of shown reads result (length old.nodes.items) c new ready;
+    stage = stage;
+    done = subst (λ (many : ℕ). Does (each c (run_of peer awaited old) (sync_acts many (length old.network.sent))) result (run_of peer awaited new)) (sym (length-map old.nodes.items peer)) done;
+  }
 
 pub ok-stage : {A : Type 0} (result : Result A Halt) (new middle old : Stage) → middle ≡ old → OnOk result (new ≡ middle) → OnOk result (new ≡ old)
 ok-stage result new middle old same h = subst (λ (s : Stage). OnOk result (new ≡ s)) same h

@@ -35,7 +35,7 @@ returns-clause-done c =
     let m = arc_value c.args.m.now in
     let expected = delivered (graph core.frame core.entries) m (peer_of core.frame core.entries) in
     let new = peer_of c.deliver.new.self.frame c.deliver.new.self.entries in
-    elim c.match-delivered.branch [
+    elim c.match-deliver.branch [
       | in-Ok w ↦ subst (λ (r : Result (Unit {0}) NodeStop). Delivers expected r new) (sym w.result-is) (delivered-ok core c.deliver.new.self 0 c.args.i m c.recall.ensures.core.legal w.in-Ok.ensures.ok w.in-Ok.ensures.answer.1)
       | in-Err-TooManyRows w ↦ subst (λ (r : Result (Unit {0}) NodeStop). Delivers expected r new) (sym w.result-is)
           (delivered-large core m w.in-Err-TooManyRows.field-0 w.in-Err-TooManyRows.x c.recall.ensures.core.legal w.in-Err-TooManyRows.field-0-is w.in-Err-TooManyRows.ensures.answer)
@@ -46,7 +46,7 @@ pub returns-clause-calls : goal.returns-clause-calls
 returns-clause-calls c =
     let core = c.args.self.now.core in
     let new = c.deliver.new.self in
-    elim c.match-delivered.branch [
+    elim c.match-deliver.branch [
       | in-Ok w ↦ subst (λ (r : Result (Unit {0}) NodeStop). OnOk r (unbound new.entries ≡ unbound core.entries ++ fed (Deliver c.args.i (arc_value c.args.m.now)) ∷ [])) (sym w.result-is) (entered-calls core new (Deliver c.args.i (arc_value c.args.m.now)) refl w.in-Ok.ensures.ok)
       | in-Err-TooManyRows w ↦ subst (λ (r : Result (Unit {0}) NodeStop). OnOk r (unbound new.entries ≡ unbound core.entries ++ fed (Deliver c.args.i (arc_value c.args.m.now)) ∷ [])) (sym w.result-is) tt
       | in-Err-Memory w ↦ subst (λ (r : Result (Unit {0}) NodeStop). OnOk r (unbound new.entries ≡ unbound core.entries ++ fed (Deliver c.args.i (arc_value c.args.m.now)) ∷ [])) (sym w.result-is) tt
@@ -56,7 +56,7 @@ pub returns-clause-reads : goal.returns-clause-reads
 returns-clause-reads c =
     let core = c.args.self.now.core in
     let new = c.deliver.new.self in
-    elim c.match-delivered.branch [
+    elim c.match-deliver.branch [
       | in-Ok w ↦ subst (λ (r : Result (Unit {0}) NodeStop). OnOk r (reads_of new ≡ releases (vals new.frame new.entries) (reads_of core))) (sym w.result-is) (entered-reads core new (entry 0 (Deliver c.args.i (arc_value c.args.m.now))) w.in-Ok.ensures.ok)
       | in-Err-TooManyRows w ↦ subst (λ (r : Result (Unit {0}) NodeStop). OnOk r (reads_of new ≡ releases (vals new.frame new.entries) (reads_of core))) (sym w.result-is) tt
       | in-Err-Memory w ↦ subst (λ (r : Result (Unit {0}) NodeStop). OnOk r (reads_of new ≡ releases (vals new.frame new.entries) (reads_of core))) (sym w.result-is) tt
@@ -64,18 +64,18 @@ returns-clause-reads c =
 
 pub returns-clause-unchanged : goal.returns-clause-unchanged
 returns-clause-unchanged c =
-    elim c.match-delivered.branch [
-      | in-Ok w ↦ as-err _ c.match-delivered.result (Ok tt) w.result-is tt
-      | in-Err-TooManyRows w ↦ as-err _ c.match-delivered.result (Err _) w.result-is (same-core (λ (n : CoreNode). n.core) _ _ w.in-Err-TooManyRows.ensures.err)
-      | in-Err-Memory w ↦ as-err _ c.match-delivered.result (Err _) w.result-is (same-core (λ (n : CoreNode). n.core) _ _ w.in-Err-Memory.ensures.err)
+    elim c.match-deliver.branch [
+      | in-Ok w ↦ as-err _ c.match-deliver.result (Ok tt) w.result-is tt
+      | in-Err-TooManyRows w ↦ as-err _ c.match-deliver.result (Err _) w.result-is (same-core (λ (n : CoreNode). n.core) _ _ w.in-Err-TooManyRows.ensures.err)
+      | in-Err-Memory w ↦ as-err _ c.match-deliver.result (Err _) w.result-is (same-core (λ (n : CoreNode). n.core) _ _ w.in-Err-Memory.ensures.err)
     ]
 
 pub returns-clause-grew : goal.returns-clause-grew
 returns-clause-grew c =
     let core = c.args.self.now.core in
     let new = c.deliver.new.self in
-    elim c.match-delivered.branch [
-      | in-Ok w ↦ subst (λ (r : Result (Unit {0}) NodeStop). OnOk r (Grows (vals core.frame core.entries) (vals new.frame new.entries))) (sym w.result-is) (entered-grows core new (entry 0 (Deliver c.args.i (arc_value c.args.m.now))) w.in-Ok.ensures.ok c.recall-2.ensures.core.legal)
+    elim c.match-deliver.branch [
+      | in-Ok w ↦ subst (λ (r : Result (Unit {0}) NodeStop). OnOk r (Grows (vals core.frame core.entries) (vals new.frame new.entries))) (sym w.result-is) (entered-grows core new (entry 0 (Deliver c.args.i (arc_value c.args.m.now))) w.in-Ok.ensures.ok w.recall-in-Ok.ensures.core.legal)
       | in-Err-TooManyRows w ↦ subst (λ (r : Result (Unit {0}) NodeStop). OnOk r (Grows (vals core.frame core.entries) (vals new.frame new.entries))) (sym w.result-is) tt
       | in-Err-Memory w ↦ subst (λ (r : Result (Unit {0}) NodeStop). OnOk r (Grows (vals core.frame core.entries) (vals new.frame new.entries))) (sym w.result-is) tt
     ]

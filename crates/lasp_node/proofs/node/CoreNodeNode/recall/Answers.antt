@@ -8,10 +8,10 @@ use Rattle.lasp_node.proofs.node.CoreNodeNode.recall.Goals as goal
 
 pub returns-clause-sources : goal.returns-clause-sources
 returns-clause-sources c x low source =
-    let core = c.args.self.core in
+    let core = c.args.self.now.core in
     sym (sources-source (graph core.frame core.entries) (vals core.frame core.entries) x low source)
 
 pub returns-clause-unmet : goal.returns-clause-unmet
 returns-clause-unmet c =
-    let core = c.args.self.core in
+    let core = c.args.self.now.core in
     ap (λ (rs : List Read). record { waiting = rs; opened = core.opened }) (parked-unmet core.frame core.entries core.parked c.recall.ensures.core.parked)

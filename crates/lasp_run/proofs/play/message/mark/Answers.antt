@@ -1,8 +1,14 @@
+use Rattle.std.proofs.Common.{refl}
+use Rattle.model_world.specs.Command as plain
 use Rattle.model_world.specs.World.{Keep}
 use Rattle.lasp_drive.specs.Driver.{run_of}
+use Rattle.lasp_run.proofs.StepLaws.{steps-one}
 use Rattle.lasp_run.proofs.CallLaws.{ok-one}
 use Rattle.lasp_run.proofs.play.message.mark.Goals as goal
 
 pub returns-clause-calls : goal.returns-clause-calls
 returns-clause-calls g c =
     ok-one g.N.Node.calls c.keep.result c.args.driver.now.nodes.items c.keep.new.self.nodes.items c.args.c (run_of g.N.Node.peer g.N.Node.awaited c.args.driver.now) (run_of g.N.Node.peer g.N.Node.awaited c.keep.new.self) (Keep c.args.p c.args.x) c.keep.ensures.done c.keep.ensures.calls
+
+pub returns-clause-steps : goal.returns-clause-steps
+returns-clause-steps g c = steps-one g.N.Node.decls g.N.Node.number g.N.Node.among g.N.Node.peer g.N.Node.awaited g.N.Node.number_of g.N.Node.shown g.N.Node.reads c.keep.result c.args.c c.args.driver.now c.keep.new.self (plain.Mark c.args.p c.args.x) (Keep c.args.p c.args.x) refl c.keep.ensures.ready c.keep.ensures.stage c.keep.ensures.done

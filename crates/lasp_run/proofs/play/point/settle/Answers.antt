@@ -1,8 +1,14 @@
+use Rattle.std.proofs.Common.{refl}
+use Rattle.model_world.specs.Command as plain
 use Rattle.model_world.specs.World.{Point}
 use Rattle.lasp_drive.specs.Driver.{run_of}
+use Rattle.lasp_run.proofs.StepLaws.{steps-one}
 use Rattle.lasp_run.proofs.CallLaws.{ok-one}
 use Rattle.lasp_run.proofs.play.point.settle.Goals as goal
 
 pub returns-clause-calls : goal.returns-clause-calls
 returns-clause-calls g c =
     ok-one g.N.Node.calls c.point.result c.args.driver.now.nodes.items c.point.new.self.nodes.items c.args.c (run_of g.N.Node.peer g.N.Node.awaited c.args.driver.now) (run_of g.N.Node.peer g.N.Node.awaited c.point.new.self) (Point) c.point.ensures.done c.point.ensures.calls
+
+pub returns-clause-steps : goal.returns-clause-steps
+returns-clause-steps g c = steps-one g.N.Node.decls g.N.Node.number g.N.Node.among g.N.Node.peer g.N.Node.awaited g.N.Node.number_of g.N.Node.shown g.N.Node.reads c.point.result c.args.c c.args.driver.now c.point.new.self (plain.Settle) (Point) refl c.point.ensures.ready c.point.ensures.stage c.point.ensures.done
