@@ -48,10 +48,10 @@ pub trait Jobs {
     // the whole core, where it is the caller's alone
     ghost core: { Self → Option Core };
 
-    /// Recalls, at no cost, that its list is legal, and that a whole core that is told is this one.
+    /// Recalls, at no cost, that its list is legal, and that a whole core that is told is this one, which looks for no entries of others and is told of none.
     fn recall_legal(&self)
         ensures legal { IsLegal (frame self.now) (list self.now) }
-        ensures whole { IfSome (core self.now) (λ c. (c.frame ≡ frame self.now) × (c.entries ≡ list self.now) × (looks self.now ≡ None)) };
+        ensures whole { IfSome (core self.now) (λ c. (c.frame ≡ frame self.now) × (c.entries ≡ list self.now) × (rows_owed self.now ≡ c.owed) × (looks self.now ≡ None) × (told self.now ≡ None)) };
 
     /// How many changed rows the jobs had that were handed out, held at the greatest number of 64 bits.
     fn owed(&self) -> u64

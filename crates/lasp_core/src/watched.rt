@@ -16,9 +16,9 @@ use std::sync::Arc;
 /// A call that may find its replica in another's hands.
 #[derive(Drop)]
 pub enum Try<E> {
-    /// It was; nothing changed.
+    /// The replica was in another's hands. The call changed nothing but the count of misses.
     Busy,
-    /// The call was refused.
+    /// The call had its replica, and was refused.
     Refused(E),
 }
 
@@ -61,6 +61,10 @@ pub trait Watched {
         ensures misses { misses self.old ≤ misses self.new }
         ensures looks { looks self.old ≤ looks self.new }
         ensures busy { IsBusy result ↔ (misses self.old < misses self.new) }
+        ensures unlooked { IsBusy result → looks self.new ≡ looks self.old }
+        ensures kept { IsBusy result → (x : ℕ) → now self.new x ≡ now self.old x }
+        ensures still { IsBusy result → (IsFresh self.new ↔ IsFresh self.old) }
+        ensures closed { IsBusy result → (other : Read) → IsOpen self.new other → IsOpen self.old other }
         ensures looked { OnOk result (looks self.old < looks self.new) }
         ensures fresh { OnOk result (IsFresh self.new) }
         ensures met { IfOk result (λ found. is_some found ≡ meets (read_of r.now).threshold (now self.new (read_of r.now).var).content) }
