@@ -1,6 +1,6 @@
 -- The calls and the reads that a node's core has after a call.
-use Rattle.std.proofs.Common.{◌≡◌, Bool, true, false, cond, not, if◌then◌else◌, refl, sym, ap, subst, ◌∙◌}
-use Rattle.std.specs.Prelude.{List, [], ◌∷◌, ◌++◌, Result, Ok, Err, OnErr}
+use Rattle.std.proofs.Common.{ℕ, ◌≡◌, ◌+◌, Bool, true, false, cond, not, if◌then◌else◌, refl, sym, ap, subst, ◌∙◌}
+use Rattle.std.specs.Prelude.{List, [], ◌∷◌, ◌++◌, length, Result, Ok, Err, OnErr}
 use Rattle.std.specs.List.{AllByRecursion}
 use Rattle.model_graph.specs.Graph.{Decl}
 use Rattle.model_journal.specs.Entry.{Act, Entry, Extend, Frame}
@@ -18,7 +18,7 @@ use Rattle.lasp_core.specs.Core.{declared}
 use Rattle.lasp_drive.specs.Node.{IsUnchanged}
 use Rattle.lasp_drive.specs.Reads.{releases, unmet, Grows}
 use Rattle.lasp_node.specs.Reads.{reads_of}
-use Rattle.lasp_node.specs.Settling.{IsOwnBind, HasBound}
+use Rattle.lasp_node.specs.Settling.{AreBinds, HasBound}
 
 -- what is no result in one list and in another behind it
 pub unbound-append : (h k : List Entry) → unbound (h ++ k) ≡ unbound h ++ unbound k
@@ -42,13 +42,14 @@ pub entered-reads : (old new : Core) (e : Entry) → new ≡ entered e old → r
 entered-reads old new e is = subst (λ (c : Core). reads_of c ≡ releases (vals c.frame c.entries) (reads_of old)) (sym is) refl
 
 -- results alone
-none-called : (more : List Entry) → AllByRecursion IsOwnBind more → unbound more ≡ []
-none-called [] all = refl
-none-called (e ∷ more) all = ap (λ (a : Act). if not (is_bind a) then e ∷ unbound more else unbound more) all.0.3 ∙ none-called more all.1
+none-called : (low high place : ℕ) (more : List Entry) → AreBinds low high place more → unbound more ≡ []
+none-called low high place [] all = refl
+none-called low high place (e ∷ more) all =
+    ap (λ (d : Entry). if not (is_bind d.act) then e ∷ unbound more else unbound more) all.3 ∙ none-called (all.0 + 1) high (place + 1) more all.4
 
 pub settled-calls : (old new : Core) → HasBound old new → unbound new.entries ≡ unbound old.entries
 settled-calls old new bound =
-    ap unbound bound.binds.1 ∙ unbound-append old.entries bound.binds.0 ∙ ap (λ (h : List Entry). unbound old.entries ++ h) (none-called bound.binds.0 bound.binds.2) ∙ append-nothing (unbound old.entries)
+    ap unbound bound.binds.1 ∙ unbound-append old.entries bound.binds.0 ∙ ap (λ (h : List Entry). unbound old.entries ++ h) (none-called 0 (length (graph old.frame old.entries)) (length old.entries) bound.binds.0 bound.binds.2) ∙ append-nothing (unbound old.entries)
 
 pub settled-reads : (old new : Core) → HasBound old new → reads_of new ≡ releases (vals new.frame new.entries) (reads_of old)
 settled-reads old new bound = λ i. record { waiting = bound.parked i; opened = bound.opened i }

@@ -1,8 +1,9 @@
 -- Which job is next in an idle core, what it stands for, and what its result leaves clean.
 use Rattle.std.proofs.Common.{zero, suc, ℕ, ◌≡◌, ◌+◌, ◌-◌, ◌≤◌, ◌<◌, ◌⊎◌, inl, inr, Bool, true, false, not, cond, IsTrue, nat_lt, filter, refl, sym, ap, subst, ◌∙◌, append-nil, append_assoc, arith}
-use Rattle.std.specs.Prelude.{List, [], ◌∷◌, ◌++◌, length, take, slice_set, slice_index_or, Some, None}
+use Rattle.std.specs.Prelude.{List, [], ◌∷◌, ◌++◌, length, take, drop, slice_set, slice_index_or, Some, None}
 use Rattle.std.specs.Arc.{arc_value}
 use Rattle.std.proofs.Math.Seq.{take-length}
+use Rattle.std.proofs.lemmas.List.{length-append}
 use Rattle.std.specs.List.{AllByRecursion}
 use Rattle.std.proofs.lemmas.Bool.Decides.{nat_tests}
 use Rattle.model_states.specs.Content.{Content, size_of, row_limit}
@@ -26,9 +27,9 @@ use Rattle.model_core.proofs.OneLaws.{same-or-apart}
 use Rattle.lasp_state.specs.State.{content_of}
 use Rattle.lasp_graph.specs.Evaluated.{process, second_of}
 use Rattle.lasp_job.specs.declared.job.Job.{Job}
-use Rattle.lasp_core.specs.Jobs.{IsUnclean, IsFirst, IsNext, IsJobNow, counted_up}
+use Rattle.lasp_core.specs.Jobs.{IsUnclean, IsFirst, IsNext, IsJobNow, greatest_count, counted_up, unread_rows}
 use Rattle.lasp_core.specs.Core.{taken, returned, IsSettled}
-use Rattle.lasp_node.specs.Settling.{IsIdle, IsIdleBut, AreCleanBelow, IsOwnBind, HasBound}
+use Rattle.lasp_node.specs.Settling.{IsIdle, IsIdleBut, AreCleanBelow, AreBinds, HasBoundIn, HasBound, rows_behind, rows_bound, rows_since}
 
 -- ---- which job is next
 
@@ -143,13 +144,28 @@ unmet-before X h more legal r unmet = choose (is_met X h r) refl where
   choose true met = ap not (sym (met-stays X h more legal r met)) ∙ unmet
   choose false met = refl
 
-all-both : (es fs : List Entry) → AllByRecursion IsOwnBind es → AllByRecursion IsOwnBind fs → AllByRecursion IsOwnBind (es ++ fs)
-all-both [] fs own more = more
-all-both (e ∷ es) fs own more = (own.0, all-both es fs own.1 more)
+-- binds of variables from a later number on
+binds-lower : (low from high place : ℕ) (es : List Entry) → low ≤ from → AreBinds from high place es → AreBinds low high place es
+binds-lower low from high place [] before all = tt
+binds-lower low from high place (e ∷ es) before all = (all.0, omega (arith, before, all.1), all.2, all.3, all.4)
+
+-- binds of variables below a lesser number
+binds-wider : (low high higher place : ℕ) (es : List Entry) → high ≤ higher → AreBinds low high place es → AreBinds low higher place es
+binds-wider low high higher place [] within all = tt
+binds-wider low high higher place (e ∷ es) within all = (all.0, all.1, omega (arith, within, all.2), all.3, binds-wider (all.0 + 1) high higher (place + 1) es within all.4)
+
+-- binds, and behind them binds of later variables
+binds-both : (low mid from high place : ℕ) (es fs : List Entry) → low ≤ from → mid ≤ from → from ≤ high → AreBinds low mid place es → AreBinds from high (place + length es) fs → AreBinds low high place (es ++ fs)
+binds-both low mid from high place [] fs before after within own more =
+    binds-lower low from high place fs before (subst (λ (n : ℕ). AreBinds from high n fs) (let none : place + length {A = Entry} [] ≡ place = omega arith in none) more)
+binds-both low mid from high place (e ∷ es) fs before after within own more =
+    (own.0, own.1, omega (arith, own.2, after, within), own.3, binds-both (own.0 + 1) mid from high (place + 1) es fs (omega (arith, own.2, after)) after within own.4 (subst (λ (n : ℕ). AreBinds from high n fs) longer more)) where
+      longer : place + length (e ∷ es) ≡ place + 1 + length es
+      longer = omega arith
 
 -- a core in which nothing was taken in, with a job that comes back
-pub bound-back : (c new : Core) (y : ℕ) → IsCore c → new ≡ returned y c → IsIdleBut y c.busy → HasBound c new
-bound-back c new y core is idle = subst (λ (d : Core). HasBound c d) (sym is) (record {
+pub bound-back : (c new : Core) (y : ℕ) → IsCore c → new ≡ returned y c → IsIdleBut y c.busy → HasBoundIn y (y + 1) c new
+bound-back c new y core is idle = subst (λ (d : Core). HasBoundIn y (y + 1) c d) (sym is) (record {
   frame = refl;
   graph_is = refl;
   peer = refl;
@@ -159,7 +175,7 @@ bound-back c new y core is idle = subst (λ (d : Core). HasBound c d) (sym is) (
   idle = idle;
 })
 
-pub bound-start : (c : Core) → IsCore c → IsIdle c.busy → HasBound c c
+pub bound-start : (c : Core) → IsCore c → IsIdle c.busy → HasBoundIn 0 0 c c
 bound-start c core idle = record {
   frame = refl;
   graph_is = refl;
@@ -170,15 +186,32 @@ bound-start c core idle = record {
   idle = idle;
 }
 
--- binds before a job was taken, and those after it
-pub bound-more : (a b out c : Core) (y rows : ℕ) → IsLegal c.frame c.entries → out ≡ taken y rows b → HasBound a b → HasBound out c → HasBound a c
-bound-more a b out c y rows legal is one two = there (subst (λ (d : Core). HasBound d c) is two) where
-  there : HasBound (taken y rows b) c → HasBound a c
+-- a core after binds of some variables is one after binds of these and more
+pub bound-wider : (high higher : ℕ) (a b : Core) → high ≤ higher → HasBoundIn 0 high a b → HasBoundIn 0 higher a b
+bound-wider high higher a b within bound = record {
+  frame = bound.frame;
+  graph_is = bound.graph_is;
+  peer = bound.peer;
+  binds = (bound.binds.0, bound.binds.1, binds-wider 0 high higher (length a.entries) bound.binds.0 within bound.binds.2);
+  parked = bound.parked;
+  opened = bound.opened;
+  idle = bound.idle;
+}
+
+-- binds before a job of a later variable was taken, and the bind of that variable
+pub bound-more : (a b out c : Core) (mid y rows : ℕ) → mid ≤ y → IsLegal c.frame c.entries → out ≡ taken y rows b → HasBoundIn 0 mid a b → HasBoundIn y (y + 1) out c → HasBoundIn 0 (y + 1) a c
+bound-more a b out c mid y rows late legal is one two = there (subst (λ (d : Core). HasBoundIn y (y + 1) d c) is two) where
+  there : HasBoundIn y (y + 1) (taken y rows b) c → HasBoundIn 0 (y + 1) a c
   there next = record {
     frame = next.frame ∙ one.frame;
     graph_is = next.graph_is ∙ one.graph_is;
     peer = next.peer ∙ one.peer;
-    binds = (one.binds.0 ++ next.binds.0, next.binds.1 ∙ ap (λ (h : List Entry). h ++ next.binds.0) one.binds.1 ∙ append_assoc a.entries one.binds.0 next.binds.0, all-both one.binds.0 next.binds.0 one.binds.2 next.binds.2);
+    binds = (
+      one.binds.0 ++ next.binds.0,
+      next.binds.1 ∙ ap (λ (h : List Entry). h ++ next.binds.0) one.binds.1 ∙ append_assoc a.entries one.binds.0 next.binds.0,
+      binds-both 0 mid y (y + 1) (length a.entries) one.binds.0 next.binds.0 (omega arith) late (omega arith) one.binds.2
+          (subst (λ (n : ℕ). AreBinds y (y + 1) n next.binds.0) (ap (λ (h : List Entry). length h) one.binds.1 ∙ length-append a.entries one.binds.0) next.binds.2),
+    );
     parked = next.parked ∙ ap (filter unmet) one.parked ∙ narrower (λ r. not (is_met b.frame b.entries r)) unmet before a.parked;
     opened = next.opened ∙ one.opened;
     idle = next.idle;
@@ -192,12 +225,12 @@ bound-more a b out c y rows legal is one two = there (subst (λ (d : Core). HasB
 
 module _ (c new : Core) (by y n : ℕ) (mine : by ≡ 0) (is : new ≡ returned y (entered (entry by (Bind y n)) c)) where
   -- the result was taken in
-  pub bound-done : IsLegal c.frame c.entries → IsDerived (graph c.frame c.entries) y → IsIdleBut y c.busy → HasBound c new
-  bound-done legal derived idle = subst (λ (d : Core). HasBound c d) (sym is) (record {
+  pub bound-done : n ≡ length c.entries → IsLegal c.frame c.entries → IsDerived (graph c.frame c.entries) y → IsIdleBut y c.busy → HasBoundIn y (y + 1) c new
+  bound-done now legal derived idle = subst (λ (d : Core). HasBoundIn y (y + 1) c d) (sym is) (record {
     frame = refl;
     graph_is = graph-bound c.frame c.entries (entry by (Bind y n)) y n refl;
     peer = peer-bound c.frame c.entries legal (entry by (Bind y n)) y n refl derived;
-    binds = (entry by (Bind y n) ∷ [], refl, ((mine, y, n, refl), tt));
+    binds = (entry by (Bind y n) ∷ [], refl, (y, omega arith, omega arith, (λ i. entry (mine i) (Bind y (now i))), tt));
     parked = refl;
     opened = refl;
     idle = idle;
@@ -220,11 +253,105 @@ module _ (c new : Core) (by y n : ℕ) (mine : by ≡ 0) (is : new ≡ returned 
 -- ---- the whole of it
 
 -- what is too large on the present sources is so on those before
-pub large-bound : (a b : Core) → HasBound a b → first_large 0 (eval (graph a.frame a.entries) (sources a.frame a.entries)) ≡ first_large 0 (eval (graph b.frame b.entries) (sources b.frame b.entries))
-large-bound a b bound i = first_large 0 (eval (sym bound.graph_is i) (ap (λ (r : Peer). r.contents) (sym bound.peer) i))
+pub large-bound : (many : ℕ) (a b : Core) → HasBoundIn 0 many a b → first_large 0 (eval (graph a.frame a.entries) (sources a.frame a.entries)) ≡ first_large 0 (eval (graph b.frame b.entries) (sources b.frame b.entries))
+large-bound many a b bound i = first_large 0 (eval (sym bound.graph_is i) (ap (λ (r : Peer). r.contents) (sym bound.peer) i))
 
-pub small-settled : (a b : Core) → HasBound a b → IsLegal b.frame b.entries → IsSettled b → first_large 0 (eval (graph a.frame a.entries) (sources a.frame a.entries)) ≡ None
-small-settled a b bound legal settled = large-bound a b bound ∙ settled-small b.frame b.entries legal settled
+pub small-settled : (many : ℕ) (a b : Core) → HasBoundIn 0 many a b → IsLegal b.frame b.entries → IsSettled b → first_large 0 (eval (graph a.frame a.entries) (sources a.frame a.entries)) ≡ None
+small-settled many a b bound legal settled = large-bound many a b bound ∙ settled-small b.frame b.entries legal settled
 
-pub shown-settled : (a b : Core) → HasBound a b → IsLegal b.frame b.entries → IsSettled b → vals b.frame b.entries ≡ eval (graph a.frame a.entries) (sources a.frame a.entries)
-shown-settled a b bound legal settled = settled-all b.frame b.entries legal settled ∙ (λ i. eval (bound.graph_is i) (ap (λ (r : Peer). r.contents) bound.peer i))
+pub shown-settled : (many : ℕ) (a b : Core) → HasBoundIn 0 many a b → IsLegal b.frame b.entries → IsSettled b → vals b.frame b.entries ≡ eval (graph a.frame a.entries) (sources a.frame a.entries)
+shown-settled many a b bound legal settled = settled-all b.frame b.entries legal settled ∙ (λ i. eval (bound.graph_is i) (ap (λ (r : Peer). r.contents) bound.peer i))
+
+-- what was reached so far: the variables below some number, which is at least this one, are clean, by binds of those alone
+pub record IsBoundBelow (many : ℕ) (old new : Core) : Type 0 where
+  pub reached : ℕ
+  pub late : many ≤ reached
+  pub within : reached ≤ length (graph old.frame old.entries)
+  pub bound : HasBoundIn 0 reached old new
+  pub clean : AreCleanBelow reached new
+
+pub below-start : (c : Core) → IsCore c → IsIdle c.busy → IsBoundBelow 0 c c
+below-start c core idle = record { reached = 0; late = omega arith; within = omega arith; bound = bound-start c core idle; clean = λ y low. absurd (omega (arith, low)) }
+
+-- all that was bound so far was bound
+pub below-bound : (many : ℕ) (a b : Core) → IsBoundBelow many a b → HasBound a b
+below-bound many a b below = bound-wider below.reached (length (graph a.frame a.entries)) a b below.within below.bound
+
+-- one turn: a job of the least variable that lacks something was taken, and it or none was bound
+module _ (many : ℕ) (a b out c : Core) (y rows : ℕ) (core : IsLegal c.frame c.entries) (next : IsNext b.frame b.entries b.busy y) (is : out ≡ taken y rows b) (below : IsBoundBelow many a b) (bound : HasBoundIn y (y + 1) out c) where
+  turn : IsTurn b out below.reached y
+  turn = turn-taken b out below.reached y rows below.bound.idle below.clean next is
+
+  place : y < length (graph a.frame a.entries)
+  place = omega (arith, turn.declared, ap (λ (ds : List Decl). length ds) below.bound.graph_is)
+
+  both : HasBoundIn 0 (y + 1) a c
+  both = bound-more a b out c below.reached y rows turn.late core is below.bound bound
+
+  pub turn-bound : HasBound a c
+  turn-bound = bound-wider (y + 1) (length (graph a.frame a.entries)) a c (omega (arith, place)) both
+
+  pub turn-below : AreCleanBelow (y + 1) c → IsBoundBelow (many + 1) a c
+  turn-below clean = record { reached = y + 1; late = omega (arith, below.late, turn.late); within = omega (arith, place); bound = both; clean = clean }
+
+  -- where all were clean at first and the core is as it was, there was no job to take
+  pub turn-none : IsSettled a → b ≡ a → ⊥
+  turn-none settled same =
+      let first = next-first b.frame b.entries b.busy y below.bound.idle next in
+      first.holds.lacks ((subst IsSettled (sym same) settled) y first.holds.derived)
+
+-- ---- what it costs
+
+drop-behind : (h k : List Entry) → drop (length h) (h ++ k) ≡ k
+drop-behind [] k = refl
+drop-behind (e ∷ h) k = drop-behind h k
+
+rows-more : (X : Frame) (h es : List Entry) (e : Entry) → rows_bound X h (es ++ e ∷ []) ≡ rows_bound X h es + rows_behind X (h ++ es) e.act
+rows-more X h [] e =
+    let same : rows_behind X (h ++ []) e.act ≡ rows_behind X h e.act = ap (λ (k : List Entry). rows_behind X k e.act) (append-nil h) in
+    omega (arith, same)
+rows-more X h (d ∷ es) e =
+    let rest : rows_bound X (h ++ d ∷ []) (es ++ e ∷ []) ≡ rows_bound X (h ++ d ∷ []) es + rows_behind X ((h ++ d ∷ []) ++ es) e.act = rows-more X (h ++ d ∷ []) es e in
+    let same : rows_behind X ((h ++ d ∷ []) ++ es) e.act ≡ rows_behind X (h ++ d ∷ es) e.act = ap (λ (k : List Entry). rows_behind X k e.act) (append_assoc h (d ∷ []) es) in
+    omega (arith, rest, same)
+
+rows-are : (a c : Core) (es : List Entry) → c.entries ≡ a.entries ++ es → rows_since a c ≡ rows_bound a.frame a.entries es
+rows-are a c es is = ap (rows_bound a.frame a.entries) (ap (λ (h : List Entry). drop (length a.entries) h) is ∙ drop-behind a.entries es)
+
+-- so many ticks more, and so many rows owed more, as rows changed
+pub record HasCost (old new : Core) (before after : ℕ) : Type 0 where
+  pub owed : new.owed ≡ counted_up old.owed (rows_since old new)
+  pub ticks : after ≤ before + rows_since old new
+
+pub cost-none : (c : Core) (n : ℕ) → c.owed ≤ greatest_count → HasCost c c n n
+cost-none c n low = record { owed = omega (arith, low, none); ticks = omega arith } where
+  none : rows_since c c ≡ 0
+  none = rows-are c c [] (sym (append-nil c.entries))
+
+-- the ticks stay below what is owed, unless that stands still
+pub cost-within : (a b : Core) (m n : ℕ) → HasCost a b m n → b.owed < greatest_count → n + a.owed ≤ m + b.owed
+cost-within a b m n cost low = omega (arith, cost.owed, cost.ticks, low)
+
+module _ (a b out c : Core) (y n rows before now after : ℕ) (is : out ≡ taken y rows b) (cost : HasCost a b before now) (owed : c.owed ≡ out.owed) (ticks : after ≤ now + rows) where
+  owed-is : c.owed ≡ counted_up b.owed rows
+  owed-is = owed ∙ ap (λ (d : Core). d.owed) is
+
+  pub cost-refused : c.owed < greatest_count → after + a.owed ≤ before + c.owed
+  cost-refused low = omega (arith, cost.owed, cost.ticks, ticks, owed-is, low)
+
+  pub cost-more : (mid : ℕ) → HasBoundIn 0 mid a b → rows ≡ unread_rows b.frame b.entries y → c.entries ≡ out.entries ++ entry 0 (Bind y n) ∷ [] → HasCost a c before after
+  cost-more mid bound unread entered = record { owed = omega (arith, cost.owed, owed-is, more); ticks = omega (arith, cost.ticks, ticks, more) } where
+    es : List Entry
+    es = bound.binds.0
+
+    e : Entry
+    e = entry 0 (Bind y n)
+
+    all : c.entries ≡ a.entries ++ (es ++ e ∷ [])
+    all = entered ∙ ap (λ (d : Core). d.entries ++ e ∷ []) is ∙ ap (λ (h : List Entry). h ++ e ∷ []) bound.binds.1 ∙ append_assoc a.entries es (e ∷ [])
+
+    there : rows_behind a.frame (a.entries ++ es) e.act ≡ rows
+    there = (λ i. unread_rows (sym bound.frame i) (sym bound.binds.1 i) y) ∙ sym unread
+
+    more : rows_since a c ≡ rows_since a b + rows
+    more = rows-are a c (es ++ e ∷ []) all ∙ rows-more a.frame a.entries es e ∙ (λ i. sym (rows-are a b es bound.binds.1) i + there i)

@@ -1,15 +1,17 @@
 //! Settling a core: its jobs are done until none is left.
 
-ghost use Rattle.std.specs.Prelude.{◌≡◌, ◌+◌, OnOk};
+ghost use Rattle.std.specs.Prelude.{◌≡◌, ◌<◌, ◌≤◌, ◌+◌, ◌++◌, ◌∷◌, [], length, OnOk};
 ghost use Rattle.model_graph.specs.Evaluation.{eval, first_large};
 ghost use Rattle.model_readings.specs.Lawful.{FitsAll};
+ghost use Rattle.model_journal.specs.Entry.{Bind};
 ghost use Rattle.model_journal.specs.Journal as journal;
+ghost use Rattle.model_replica.specs.Peer.{entry};
 ghost use Rattle.lasp_fns.specs.Steps as counted;
 ghost use Rattle.lasp_graph.specs.Library.{library_of};
 ghost use Rattle.lasp_drive.specs.Node.{Settles};
 ghost use Rattle.lasp_core.specs.Core.{IsSettled};
-ghost use Rattle.lasp_core.specs.Jobs.{IsJobNow};
-ghost use Rattle.lasp_node.specs.Settling.{IsIdle, IsIdleBut, AreCleanBelow, HasBound, TellsFirst};
+ghost use Rattle.lasp_core.specs.Jobs.{IsJobNow, greatest_count, counted_up};
+ghost use Rattle.lasp_node.specs.Settling.{IsIdle, IsIdleBut, AreCleanBelow, HasBoundIn, HasBound, rows_since, TellsFirst};
 
 use lasp_core::Core;
 use lasp_drive::NodeStop;
@@ -24,10 +26,13 @@ fn do_job(alloc: Global, core: &mut Core, mut job: Job, lib: &mut StepLib) -> Re
     requires out { IsIdleBut job.var core.old.busy }
     requires below { AreCleanBelow job.var core.old }
     requires fits { FitsAll (library_of (counted.library_of lib.old)) (journal.graph core.old.frame core.old.entries) }
-    ensures bound { HasBound core.old core.new }
+    ensures bound { HasBoundIn job.var (job.var + 1) core.old core.new }
+    ensures entry { OnOk result (core.new.entries ≡ core.old.entries ++ entry 0 (Bind job.var job.n) ∷ []) }
     ensures clean { OnOk result (AreCleanBelow (job.var + 1) core.new) }
     ensures large { TellsFirst (first_large 0 (eval (journal.graph core.old.frame core.old.entries) (journal.sources core.old.frame core.old.entries))) result }
+    ensures owed { core.new.owed ≡ core.old.owed }
     ensures library { counted.library_of lib.new ≡ counted.library_of lib.old }
+    ensures ticks { counted.ticks_of lib.new ≤ counted.ticks_of lib.old + length job.first }
 {
     core.recall();
     match job.evaluate(alloc, lib) {
@@ -50,7 +55,7 @@ fn do_job(alloc: Global, core: &mut Core, mut job: Job, lib: &mut StepLib) -> Re
     }
 }
 
-/// Brings every derived variable to what its process gives on the present sources, the least first. It costs what changed since each variable was last evaluated.
+/// Brings every derived variable to what its process gives on the present sources, the least first and each once at most; one that is clean at its turn is passed over, and a core in which all are clean is left as it is. It calls the library's functions at most as often as rows changed in the inputs of the variables that it evaluates, since each was last bound.
 pub fn settle(alloc: Global, core: &mut Core, lib: &mut StepLib) -> Result<(), NodeStop>
     requires idle { IsIdle core.old.busy }
     requires fits { FitsAll (library_of (counted.library_of lib.old)) (journal.graph core.old.frame core.old.entries) }
@@ -58,9 +63,15 @@ pub fn settle(alloc: Global, core: &mut Core, lib: &mut StepLib) -> Result<(), N
     ensures settled { OnOk result (IsSettled core.new) }
     ensures shown { OnOk result (journal.vals core.new.frame core.new.entries ≡ eval (journal.graph core.old.frame core.old.entries) (journal.sources core.old.frame core.old.entries)) }
     ensures done { Settles (first_large 0 (eval (journal.graph core.old.frame core.old.entries) (journal.sources core.old.frame core.old.entries))) result }
+    ensures left { IsSettled core.old → core.new ≡ core.old }
+    ensures owed { OnOk result (core.new.owed ≡ counted_up core.old.owed (rows_since core.old core.new)) }
     ensures library { counted.library_of lib.new ≡ counted.library_of lib.old }
+    ensures ticks { OnOk result (counted.ticks_of lib.new ≤ counted.ticks_of lib.old + rows_since core.old core.new) }
+    ensures within { core.new.owed < greatest_count → counted.ticks_of lib.new + core.old.owed ≤ counted.ticks_of lib.old + core.new.owed }
+    ensures unticked { IsSettled core.old → counted.ticks_of lib.new ≡ counted.ticks_of lib.old }
 {
     core.recall();
+    core.owed();
     for turn in 0..=core.graph().len() {
         match core.take()? {
             None => return Ok(()),

@@ -3,7 +3,8 @@ use Rattle.std.specs.Arc.{arc_value}
 use Rattle.model_graph.specs.Graph.{Decl, kind_at}
 use Rattle.model_readings.specs.Lawful.{FitsAll}
 use Rattle.model_journal.specs.Entry.{Bind}
-use Rattle.model_replica.specs.Core.{entered}
+use Rattle.std.specs.Prelude.{[], ◌∷◌, ◌++◌}
+use Rattle.model_replica.specs.Core.{Core, entered}
 use Rattle.model_replica.specs.Peer.{entry}
 use Rattle.lasp_fns.specs.Steps as counted
 use Rattle.lasp_state.specs.State.{content_of}
@@ -25,7 +26,7 @@ pub returns-in-Ok-finish-clause-bound : goal.returns-in-Ok-finish-clause-bound
 returns-in-Ok-finish-clause-bound g c =
     let is : c.finish.new.self ≡ returned c.args.job.var (entered (entry 0 (Bind c.args.job.var c.args.job.n)) c.args.core.now) =
     c.in-Ok-finish.ensures.ok ∙ (λ i. returned (c.in-Ok.ensures.var.0 i) (entered (entry 0 (Bind (c.in-Ok.ensures.var.0 i) (c.in-Ok.ensures.var.1 i))) c.args.core.now)) in
-    bound-done c.args.core.now c.finish.new.self 0 c.args.job.var c.args.job.n refl is c.recall.ensures.core.legal
+    bound-done c.args.core.now c.finish.new.self 0 c.args.job.var c.args.job.n refl is c.requires.job.now c.recall.ensures.core.legal
     (job-derived c.args.core.now.frame c.args.core.now.entries c.args.job.var c.args.job c.requires.job) c.requires.out
 
 pub returns-in-Ok-finish-clause-clean : goal.returns-in-Ok-finish-clause-clean
@@ -57,3 +58,8 @@ pub returns-clause-bound : goal.returns-clause-bound
 returns-clause-bound g c =
     bound-back c.args.core.now c.give_back-in-Err-Memory.new.self c.args.job.var c.recall.ensures.core
     (c.give_back-in-Err-Memory.ensures ∙ (λ i. returned (c.in-Err-Memory.ensures.var.0 i) c.args.core.now)) c.requires.out
+
+pub returns-in-Ok-finish-clause-entry : goal.returns-in-Ok-finish-clause-entry
+returns-in-Ok-finish-clause-entry g c =
+    ap (λ (d : Core). d.entries) c.in-Ok-finish.ensures.ok
+    ∙ (λ i. c.args.core.now.entries ++ entry 0 (Bind (c.in-Ok.ensures.var.0 i) (c.in-Ok.ensures.var.1 i)) ∷ [])
