@@ -159,7 +159,7 @@ fn itself(alloc: Global) -> Result<StoredLift, AllocError> {
 }
 
 /// A library of the functions that the graphs name.
-fn library(alloc: Global) -> Result<Library, LibraryRefused> {
+pub fn library(alloc: Global) -> Result<Library, LibraryRefused> {
     let mut lib = Library::new(alloc);
     lib.add_map("abs", map_of(alloc, MapOp::Abs)?)?;
     lib.add_map("succ", map_of(alloc, MapOp::Add(1))?)?;
