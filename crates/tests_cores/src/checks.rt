@@ -1,16 +1,18 @@
 //! What holds after each call of a core.
 
-use crate::spelled::{evaluated, spell_core, spell_states};
+use crate::cores::is_derived;
+use crate::spelled::{evaluated, spell_core, spell_reads, spell_state};
 use crate::wrong::Wrong;
 use lasp_core::{Core, Released};
 use lasp_fns::Library;
 use lasp_graph::States;
 use std::alloc::{AllocError, Global};
 
-/// A core before a call: all that a refused one must leave as it is, and how many entries and waiting reads there were.
+/// A core before a call: what stood there, the reads that waited, and how many entries and waiting reads there were.
 #[derive(Drop)]
 pub struct Before {
     text: String,
+    reads: String,
     pub counts: Counts,
 }
 
@@ -36,13 +38,24 @@ impl Before {
     pub fn of(alloc: Global, core: &Core) -> Result<Before, AllocError> {
         Ok(Before {
             text: spell_core(alloc, core)?,
+            reads: spell_reads(alloc, core)?,
             counts: Counts::of(core),
         })
     }
 
+    /// Nothing changed but the reads that wait.
+    pub fn check_kept(&self, alloc: Global, core: &Core) -> Result<(), Wrong> {
+        if spell_core(alloc, core)?.as_str() == self.text.as_str() {
+            Ok(())
+        } else {
+            Err(Wrong::Changed)
+        }
+    }
+
     /// Nothing changed.
     pub fn check_unchanged(&self, alloc: Global, core: &Core) -> Result<(), Wrong> {
-        if spell_core(alloc, core)?.as_str() == self.text.as_str() {
+        self.check_kept(alloc, core)?;
+        if spell_reads(alloc, core)?.as_str() == self.reads.as_str() {
             Ok(())
         } else {
             Err(Wrong::Changed)
@@ -72,35 +85,87 @@ fn ascend(released: &Released) -> bool {
     true
 }
 
-/// The states as a text.
-fn spelled(alloc: Global, states: &States) -> Result<String, AllocError> {
+/// Whether the variable at a place is one of those that are told.
+fn is_told(told: &[bool], place: u64) -> bool {
+    told.get(place as usize) == Some(&true)
+}
+
+/// Whether a variable has followed the sources: it is one, or it is clean and its inputs are such.
+fn has_followed(core: &Core, var: u8, before: &[bool]) -> bool {
+    let graph = core.graph();
+    if u64::from(var) >= graph.len() {
+        return false;
+    }
+    match graph.at(u64::from(var)).kind.inputs() {
+        Some((x, y)) => {
+            is_told(before, u64::from(x))
+                && is_told(before, u64::from(y))
+                && is_derived(core, var)
+                && core.is_clean(var)
+        }
+        None => true,
+    }
+}
+
+/// Which variables have followed the sources.
+fn followed(alloc: Global, core: &Core) -> Result<Vec<bool>, AllocError> {
+    let mut all = Vec::new(alloc);
+    for var in 0..64u8 {
+        if u64::from(var) < core.graph().len() {
+            let has_followed = has_followed(core, var, &all);
+            all.push(has_followed)?;
+        }
+    }
+    Ok(all)
+}
+
+/// The states of the variables that are told, as a text.
+fn spelled(alloc: Global, states: &States, told: &[bool]) -> Result<String, AllocError> {
     let mut out = String::new(alloc);
-    spell_states(&mut out, states)?;
+    for x in 0..states.len() {
+        if is_told(told, x) {
+            spell_state(&mut out, states.at(x))?;
+        }
+    }
     Ok(out)
 }
 
-/// What plain evaluation of the sources gives, as a text.
-fn spelled_evaluated(alloc: Global, core: &Core, lib: &Library) -> Result<String, Wrong> {
+/// The same of what plain evaluation of the sources gives.
+fn spelled_evaluated(
+    alloc: Global,
+    core: &Core,
+    lib: &Library,
+    told: &[bool],
+) -> Result<String, Wrong> {
     let states = evaluated(alloc, core, lib)?;
-    Ok(spelled(alloc, &states)?)
+    Ok(spelled(alloc, &states, told)?)
 }
 
-/// Whether the states are what plain evaluation of the sources gives.
-fn is_evaluated(alloc: Global, core: &Core, lib: &Library) -> Result<bool, Wrong> {
-    let shown = spelled(alloc, core.states())?;
-    let wanted = spelled_evaluated(alloc, core, lib)?;
+/// Whether the states of the variables that are told are what plain evaluation of the sources gives.
+fn is_evaluated(alloc: Global, core: &Core, lib: &Library, told: &[bool]) -> Result<bool, Wrong> {
+    let shown = spelled(alloc, core.states(), told)?;
+    let wanted = spelled_evaluated(alloc, core, lib, told)?;
     Ok(shown.as_str() == wanted.as_str())
 }
 
-/// Whether a core is settled. Then its states are what plain evaluation gives; else a version that is lacking is later than the one that was taken in.
-pub fn check_settled(alloc: Global, core: &Core, lib: &Library) -> Result<bool, Wrong> {
+/// Whether a core is settled; else a version that is lacking is later than the one that was taken in.
+fn is_settled(core: &Core) -> Result<bool, Wrong> {
     match core.check_settled() {
-        Ok(_) => {}
-        Err(lacks) if lacks.applied < lacks.present => return Ok(false),
-        Err(_) => return Err(Wrong::Lacking),
+        Ok(_) => Ok(true),
+        Err(lacks) if lacks.applied < lacks.present => Ok(false),
+        Err(_) => Err(Wrong::Lacking),
     }
-    if is_evaluated(alloc, core, lib)? {
-        Ok(true)
+}
+
+/// Whether a core is settled, which it is where all variables have followed the sources. Those that have are what plain evaluation gives.
+pub fn check_followed(alloc: Global, core: &Core, lib: &Library) -> Result<bool, Wrong> {
+    let told = followed(alloc, core)?;
+    let is_settled = is_settled(core)?;
+    if is_settled != told.iter().all(|has_followed| *has_followed) {
+        return Err(Wrong::Lacking);
+    }
+    if is_evaluated(alloc, core, lib, &told)? {
+        Ok(is_settled)
     } else {
         Err(Wrong::Evaluated)
     }

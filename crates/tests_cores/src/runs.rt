@@ -129,7 +129,7 @@ fn wait(table: &mut Table, var: u8, until: Until, list: &[Call]) -> Result<(), W
     if let Some(read) = table.ask_for(var, until)? {
         calls(table, list)?;
         table.ask(&read)?;
-        table.core.close_read(&read);
+        table.shut(&read)?;
     }
     Ok(())
 }
@@ -214,11 +214,12 @@ fn play(table: &mut Table, dice: &mut Dice, count: u32) -> Result<(), Wrong> {
     calls(table, &SETTLING)
 }
 
-/// What a run came to: how many calls were refused, how often the settled core was compared, its variables, and where it ended settled.
+/// What a run came to: how many calls were refused, how often the core was compared, and how often it was settled then, its variables, and where it ended settled.
 #[derive(Clone, Copy, Debug)]
 pub struct Outcome {
     refused: u32,
     compared: u32,
+    often_settled: u32,
     variables: u64,
     settled: Option<u64>,
 }
@@ -228,6 +229,7 @@ fn outcome_of(table: &Table) -> Outcome {
     Outcome {
         refused: table.refused,
         compared: table.compared,
+        often_settled: table.settled,
         variables: table.core.graph().len(),
         settled: table.core.check_settled().ok(),
     }
@@ -247,7 +249,8 @@ fn check_run(alloc: Global, seed: u64) -> Result<(), Wrong> {
     if outcome.settled.is_some()
         && outcome.variables == 15
         && outcome.refused > 20
-        && outcome.compared > 100
+        && outcome.compared > 200
+        && outcome.often_settled > 50
     {
         Ok(())
     } else {

@@ -5,6 +5,7 @@ ghost use Rattle.lasp_core.specs.Listed.{GoesOn};
 ghost use Rattle.tests_cores.specs.Follows.{Follows};
 
 use crate::call::{Call, Until};
+use crate::checks::Before;
 use crate::cores::declare;
 use crate::functions::library;
 use crate::table::Table;
@@ -12,8 +13,8 @@ use crate::wrong::{Wrong, check_lines};
 use lasp_core::{jobs_stay, reads_stay_open};
 use std::alloc::Global;
 
-/// A call that adds no entry.
-fn arrange(table: &mut Table, call: Call) -> Result<(), Wrong>
+/// A call that adds no entry, and what it comes to.
+fn arrange_one(table: &mut Table, call: Call) -> Result<(), Wrong>
     ensures frame { table.new.core.frame ≡ table.old.core.frame }
     ensures entries { table.new.core.entries ≡ table.old.core.entries }
 {
@@ -32,6 +33,28 @@ fn arrange(table: &mut Table, call: Call) -> Result<(), Wrong>
     Ok(())
 }
 
+/// A call that adds no entry. It leaves the journal, the states and the counts as they are, and the reads that wait unless it opens or closes one.
+fn arrange(table: &mut Table, call: Call) -> Result<(), Wrong>
+    ensures frame { table.new.core.frame ≡ table.old.core.frame }
+    ensures entries { table.new.core.entries ≡ table.old.core.entries }
+{
+    let before = Before::of(table.alloc, &table.core)?;
+    arrange_one(table, call)?;
+    match call {
+        Call::Open(_, _) | Call::Close(_) => before.check_kept(table.alloc, &table.core),
+        _ => before.check_unchanged(table.alloc, &table.core),
+    }
+}
+
+/// Declares a variable.
+fn extend(table: &mut Table, text: &str) -> Result<(), Wrong>
+    ensures frame { table.new.core.frame ≡ table.old.core.frame }
+    ensures entries { GoesOn table.old.core.entries table.new.core.entries }
+{
+    declare(table.alloc, &mut table.core, table.lib, text)?;
+    table.compare()
+}
+
 /// Any call.
 fn act(table: &mut Table, call: Call) -> Result<(), Wrong>
     ensures frame { table.new.core.frame ≡ table.old.core.frame }
@@ -40,7 +63,7 @@ fn act(table: &mut Table, call: Call) -> Result<(), Wrong>
     match call {
         Call::Update(var, doing, n) => table.update(var, doing, n),
         Call::Deliver(number) => table.deliver(number),
-        Call::Declare(text) => declare(table.alloc, &mut table.core, table.lib, text),
+        Call::Declare(text) => extend(table, text),
         Call::Work => table.do_next(),
         Call::WorkAt(var) => table.do_at(var),
         _ => arrange(table, call),
@@ -56,14 +79,13 @@ pub fn call(table: &mut Table, call: Call) -> Result<(), Wrong>
     act(table, call)
 }
 
-/// Calls one after the other. Whenever the core is settled, it is compared with plain evaluation.
+/// Calls one after the other.
 #[tactic(auto, using(crate::proofs::Later::follows_self, crate::proofs::Later::follows_then))]
 pub fn calls(table: &mut Table, list: &[Call]) -> Result<(), Wrong>
     ensures { Follows table.old.core table.new.core }
 {
     for one in list {
         call(table, *one)?;
-        table.compare()?;
     }
     Ok(())
 }

@@ -30,12 +30,16 @@ fn spell_entries(out: &mut String, core: &Core) -> Result<(), AllocError> {
     Ok(())
 }
 
+/// A state with its number of rows.
+pub fn spell_state(out: &mut String, state: &State) -> Result<(), AllocError> {
+    state.print_into(out)?;
+    write!(out, " {}\n", state.size())
+}
+
 /// Each state with its number of rows.
-pub fn spell_states(out: &mut String, states: &States) -> Result<(), AllocError> {
+fn spell_states(out: &mut String, states: &States) -> Result<(), AllocError> {
     for x in 0..states.len() {
-        let state: &State = states.at(x);
-        state.print_into(out)?;
-        write!(out, " {}\n", state.size())?;
+        spell_state(out, states.at(x))?;
     }
     Ok(())
 }
@@ -112,18 +116,24 @@ pub fn spell(
     Ok(())
 }
 
-/// The length of the journal, the states, the counts and the reads that wait.
+/// The length of the journal, the states and the counts.
 fn spell_all(out: &mut String, core: &Core) -> Result<(), AllocError> {
     write!(out, "{}\n", core.journal_len())?;
     spell_states(out, core.states())?;
-    spell_counts(out, core)?;
-    spell_parked(out, core)
+    spell_counts(out, core)
 }
 
-/// All that a refused call must leave as it is.
+/// All that a call that adds no entry must leave as it is, but for the reads that wait.
 pub fn spell_core(alloc: Global, core: &Core) -> Result<String, AllocError> {
     let mut out = String::new(alloc);
     spell_all(&mut out, core)?;
+    Ok(out)
+}
+
+/// The reads that wait.
+pub fn spell_reads(alloc: Global, core: &Core) -> Result<String, AllocError> {
+    let mut out = String::new(alloc);
+    spell_parked(&mut out, core)?;
     Ok(out)
 }
 

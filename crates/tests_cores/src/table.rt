@@ -8,7 +8,7 @@ ghost use Rattle.lasp_core.specs.Jobs.{IsJobOf, IsResultOf};
 ghost use Rattle.tests_cores.specs.Follows.{IsWork, IsAsked, Follows};
 
 use crate::call::{Doing, Until, What};
-use crate::checks::{Before, Counts, check_entered, check_settled, check_waiting};
+use crate::checks::{Before, Counts, check_entered, check_followed, check_waiting};
 use crate::cores::{
     Work, core_of, hand_in, is_derived, next_work, open, put_back, put_back_next, shared_message,
     take_next, update, work_at,
@@ -38,8 +38,10 @@ pub struct Table<'a> {
     pub out: String,
     /// How many calls were refused.
     pub refused: u32,
-    /// How often the core was settled, and compared with plain evaluation.
+    /// How often the core was compared with plain evaluation.
     pub compared: u32,
+    /// How often it was settled then.
+    pub settled: u32,
 }
 
 impl<'a> Table<'a> {
@@ -55,6 +57,7 @@ impl<'a> Table<'a> {
             out: String::new(alloc),
             refused: 0,
             compared: 0,
+            settled: 0,
         })
     }
 
@@ -66,12 +69,13 @@ impl<'a> Table<'a> {
         before.check_unchanged(self.alloc, &self.core)
     }
 
-    /// Tells which reads a call released that added an entry.
+    /// Tells which reads a call released that added an entry, and compares the core with plain evaluation.
     fn tell_entered(&mut self, before: Counts, released: &Released) -> Result<(), Wrong>
         ensures { self.new.core ≡ self.old.core }
     {
         spell_released(&mut self.out, released)?;
-        check_entered(&self.core, before, released)
+        check_entered(&self.core, before, released)?;
+        self.compare()
     }
 
     /// Tells what an update came to.
@@ -170,10 +174,8 @@ impl<'a> Table<'a> {
         ensures frame { self.new.core.frame ≡ self.old.core.frame }
         ensures entries { self.new.core.entries ≡ self.old.core.entries }
     {
-        let before = Before::of(self.alloc, &self.core)?;
         let var = put_back_next(&mut self.core)?;
-        self.tell_taken(var)?;
-        before.check_unchanged(self.alloc, &self.core)
+        Ok(self.tell_taken(var)?)
     }
 
     /// Takes a job of a variable and gives it back.
@@ -227,9 +229,27 @@ impl<'a> Table<'a> {
         ensures follows { Follows self.old.core self.new.core }
         ensures work { IfOk result (λ found. IfSome found (λ work. IsWork self.new.core work.job work.state)) }
     {
+        let before = Before::of(self.alloc, &self.core)?;
         jobs_stay();
         reads_stay_open();
-        Ok(work_at(self.alloc, &mut self.core, &mut StepLib::new(self.lib), var)?)
+        let found = work_at(self.alloc, &mut self.core, &mut StepLib::new(self.lib), var)?;
+        match before.check_unchanged(self.alloc, &self.core) {
+            Ok(()) => Ok(found),
+            Err(wrong) => {
+                self.put_back(found);
+                Err(wrong)
+            }
+        }
+    }
+
+    /// Gives a job back, where there is one.
+    fn put_back(&mut self, found: Option<Work>)
+        ensures frame { self.new.core.frame ≡ self.old.core.frame }
+        ensures entries { self.new.core.entries ≡ self.old.core.entries }
+    {
+        if let Some(Work { job, state: _ }) = found {
+            put_back(&mut self.core, job);
+        }
     }
 
     /// Hands in the result of a job that was held.
@@ -270,9 +290,12 @@ impl<'a> Table<'a> {
         ensures follows { Follows self.old.core self.new.core }
         ensures asked { IfOk result (λ found. IfSome found (λ r. IsAsked self.new.core (read_of r))) }
     {
+        let before = Before::of(self.alloc, &self.core)?;
         jobs_stay();
         reads_stay_open();
-        self.open(var, until)
+        let read = self.open(var, until)?;
+        before.check_kept(self.alloc, &self.core)?;
+        Ok(read)
     }
 
     /// Tells the answer of the read with a number, which is there where the read doesn't wait.
@@ -310,6 +333,16 @@ impl<'a> Table<'a> {
         Ok(())
     }
 
+    /// Closes a read that was asked.
+    pub fn shut(&mut self, read: &ReadNo) -> Result<(), Wrong>
+        ensures frame { self.new.core.frame ≡ self.old.core.frame }
+        ensures entries { self.new.core.entries ≡ self.old.core.entries }
+    {
+        let before = Before::of(self.alloc, &self.core)?;
+        self.core.close_read(read);
+        before.check_kept(self.alloc, &self.core)
+    }
+
     /// Closes a read that was kept. Whoever closes it again changes nothing.
     pub fn close(&mut self, place: usize)
         ensures frame { self.new.core.frame ≡ self.old.core.frame }
@@ -326,12 +359,13 @@ impl<'a> Table<'a> {
         spell(self.alloc, &mut self.out, &self.core, self.lib, what)
     }
 
-    /// Compares the core with plain evaluation, where it is settled.
+    /// Compares the core with plain evaluation, as far as it has followed its sources.
     pub fn compare(&mut self) -> Result<(), Wrong>
         ensures { self.new.core ≡ self.old.core }
     {
-        if check_settled(self.alloc, &self.core, self.lib)? {
-            self.compared = self.compared.saturating_add(1);
+        self.compared = self.compared.saturating_add(1);
+        if check_followed(self.alloc, &self.core, self.lib)? {
+            self.settled = self.settled.saturating_add(1);
         }
         Ok(())
     }

@@ -4,6 +4,12 @@ use crate::call::{Call, Doing, What};
 use crate::script::{Story, check_story, check_told};
 use std::test::Fail;
 
+/// A set and a variable that is derived from it.
+const DERIVED: [&str; 2] = [
+    r#"[["a","orset"],["u","union","a","a"]]"#,
+    r#"[["a","orset"],["m","map","a","abs"]]"#,
+];
+
 #[test]
 fn an_update_is_refused_by_its_variable_and_then_by_its_operation(
     rt: HostRuntime,
@@ -16,12 +22,14 @@ fn an_update_is_refused_by_its_variable_and_then_by_its_operation(
         Call::Update(0, Doing::Count, 1),
         Call::Tell(What::Counts),
     ];
-    check_told(
-        rt.alloc(),
-        r#"[["a","orset"],["u","union","a","a"]]"#,
-        &list,
-        "UnknownVar\nUnknownVar\nNotASource\nNotASource\nWrongOp\n0 0 \n",
-    )?;
+    for graph in &DERIVED {
+        check_told(
+            rt.alloc(),
+            graph,
+            &list,
+            "UnknownVar\nUnknownVar\nNotASource\nNotASource\nWrongOp\n0 0 \n",
+        )?;
+    }
     Ok(())
 }
 

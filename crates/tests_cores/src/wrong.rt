@@ -9,15 +9,15 @@ use std::alloc::{AllocError, AllocFailed};
 /// What calls came to that they must not come to.
 #[derive(Clone, Copy, Debug)]
 pub enum Wrong {
-    /// A call that is refused, or takes a job and gives it back, changed something.
+    /// A call that adds no entry changed more than it may.
     Changed,
     /// An accepted call didn't add one entry.
     Journal,
     /// The released reads aren't those that no longer wait, in ascending order.
     Released,
-    /// A settled core isn't what plain evaluation gives.
+    /// A variable that has followed the sources isn't what plain evaluation gives.
     Evaluated,
-    /// A variable lacks an input whose version it has applied.
+    /// A variable lacks an input whose version it has applied, or a core is settled and a variable unclean, or neither.
     Lacking,
     /// A read is answered and waits, or neither.
     Waiting,

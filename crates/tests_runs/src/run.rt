@@ -2,6 +2,7 @@
 
 mod faults;
 mod functions;
+mod nodes;
 mod refused;
 mod runs;
 

@@ -1,12 +1,14 @@
 //! What the tests must not find.
 
 use lasp_fns::LibraryRefused;
+use lasp_graph::GraphRefused;
+use lasp_script::ScriptRefused;
 use std::alloc::{AllocError, AllocFailed};
 
 /// What was found that must not be.
 #[derive(Clone, Copy, Debug)]
 pub enum Wrong {
-    /// No memory was left, or a function was refused.
+    /// No memory was left, or a function, a graph or a script was refused.
     Refused,
     /// Anything else than this text was found, or a run didn't end with it.
     Wanted(&'static str),
@@ -35,6 +37,18 @@ impl<T: Drop> From<AllocFailed<T>> for Wrong {
 
 impl From<LibraryRefused> for Wrong {
     fn from(_why: LibraryRefused) -> Wrong {
+        Wrong::Refused
+    }
+}
+
+impl From<GraphRefused> for Wrong {
+    fn from(_why: GraphRefused) -> Wrong {
+        Wrong::Refused
+    }
+}
+
+impl From<ScriptRefused> for Wrong {
+    fn from(_why: ScriptRefused) -> Wrong {
         Wrong::Refused
     }
 }

@@ -1,4 +1,4 @@
-//! Runs of graphs that name functions: a library of four functions, made of closures.
+//! Runs of graphs that name functions: a library of six functions, made of closures.
 
 ghost use Rattle.std.specs.Prelude.{◌≡◌};
 ghost use Rattle.model_values.specs.Size.{IsSized};
@@ -28,7 +28,7 @@ type Run = (
     &'static str,
 );
 
-const RUNS: [Run; 11] = [
+const RUNS: [Run; 14] = [
     // two values that a function makes one go one by one
     (
         PLAIN,
@@ -123,6 +123,32 @@ const RUNS: [Run; 11] = [
         "",
         "graph 2 WrongKind\n",
     ),
+    // a filter's thresholds see the rows that it keeps, dead ones too
+    (
+        PLAIN,
+        r#"[["a","orset"],["e","filter","a","even"]]"#,
+        r#"[["nodes",1],["add",0,"a",2],["mark",0,"a","m"],["read",0,"e",["added",[2]]],["read",0,"e",["removed",[2]]],["read",0,"a",["above","m"]]]"#,
+        0,
+        "known 0 1\nread 0 reached\nread 1 pending\nread 2 pending\n",
+        "",
+    ),
+    (
+        PLAIN,
+        r#"[["a","orset"],["e","filter","a","even"]]"#,
+        r#"[["nodes",1],["add",0,"a",2],["mark",0,"a","m"],["read",0,"e",["added",[2]]],["read",0,"e",["removed",[2]]],["read",0,"a",["above","m"]],["remove",0,"a",2]]"#,
+        0,
+        "known 0 2\nread 0 reached\nread 1 reached\nread 2 reached\n",
+        "",
+    ),
+    // nodes show the advertisements that have a contract, until one is removed, and count together how often they were seen
+    (
+        PLAIN,
+        r#"[["ads1","orset"],["ads2","orset"],["contracts","orset"],["hits","counter"],["ads","union","ads1","ads2"],["pairs","product","ads","contracts"],["valid","filter","pairs","key_match"],["shown","map","valid","first"]]"#,
+        r#"[["nodes",3],["add",0,"ads1",[10,"red"]],["add",1,"ads2",[11,"blue"]],["add",2,"contracts",10],["add",2,"contracts",11],["sync"],["print",0,"shown"],["print",1,"shown"],["print",2,"shown"],["inc",1,"hits",2],["inc",2,"hits",1],["sync"],["await",0,"hits",["count",3]],["remove",0,"ads1",[10,"red"]],["sync"],["print",0,"shown"],["print",1,"shown"],["print",2,"shown"],["print",0,"hits"]]"#,
+        0,
+        "0 shown [[10,\"red\"],[11,\"blue\"]]\n1 shown [[10,\"red\"],[11,\"blue\"]]\n2 shown [[10,\"red\"],[11,\"blue\"]]\n0 shown [[11,\"blue\"]]\n1 shown [[11,\"blue\"]]\n2 shown [[11,\"blue\"]]\n0 hits 3\nknown 0 2 2 3\nknown 1 2 2 3\nknown 2 2 2 3\n",
+        "",
+    ),
 ];
 
 /// A map function of one step.
@@ -137,10 +163,10 @@ fn map_of(alloc: Global, step: MapOp) -> Result<StoredMap, AllocError> {
     Ok(StoredMap::new(steps, Box::new(alloc, f)?))
 }
 
-/// The predicate that even numbers pass.
-fn even(alloc: Global) -> Result<StoredPred, AllocError> {
+/// A predicate of one condition.
+fn pred_of(alloc: Global, condition: PredOp) -> Result<StoredPred, AllocError> {
     let mut conditions = PredOps::new(alloc);
-    conditions.push(PredOp::Even)?;
+    conditions.push(condition)?;
     let own = conditions.try_clone()?;
     let p = move |v: &Value| -> bool
         requires { IsSized (val_of v.now) }
@@ -159,12 +185,14 @@ fn itself(alloc: Global) -> Result<StoredLift, AllocError> {
 }
 
 /// A library of the functions that the graphs name.
-fn library(alloc: Global) -> Result<Library, LibraryRefused> {
+pub fn library(alloc: Global) -> Result<Library, LibraryRefused> {
     let mut lib = Library::new(alloc);
     lib.add_map("abs", map_of(alloc, MapOp::Abs)?)?;
     lib.add_map("succ", map_of(alloc, MapOp::Add(1))?)?;
+    lib.add_map("first", map_of(alloc, MapOp::First)?)?;
     lib.add_lift("itself", itself(alloc)?)?;
-    lib.add_pred("even", even(alloc)?)?;
+    lib.add_pred("even", pred_of(alloc, PredOp::Even)?)?;
+    lib.add_pred("key_match", pred_of(alloc, PredOp::KeyMatch)?)?;
     Ok(lib)
 }
 
