@@ -45,7 +45,7 @@ fn check_state<N: Node>(alloc: Global, node: &N, x: u8, wanted: &'static str) ->
 
 /// A node of a run that came to its end shows what its row says.
 fn check_shown<N: Node>(alloc: Global, driver: &Driver<N>, row: &Shown) -> Result<(), Wrong>
-    requires ready { (c : ℕ) × (c ≤ 100000) × IsReady N.decls N.number N.among N.peer N.awaited (length driver.now.nodes.items) c driver.now }
+    requires ready { (c : ℕ) × (c ≤ 100000) × IsReady N.decls N.number N.among N.peer N.awaited N.number_of N.shown N.reads (length driver.now.nodes.items) c driver.now }
     requires settled { AreSettled N.decls N.peer N.shown driver.now.nodes.items }
 {
     let (p, x, wanted) = *row;
@@ -66,7 +66,7 @@ fn check_known<N: Node>(nodes: &[N], rows: &[&[u64]]) -> Result<(), Wrong> {
 
 /// A run that came to its end has left this.
 fn check_left<N: Node>(alloc: Global, driver: &Driver<N>, left: &Left) -> Result<(), Wrong>
-    requires ready { (c : ℕ) × (c ≤ 100000) × IsReady N.decls N.number N.among N.peer N.awaited (length driver.now.nodes.items) c driver.now }
+    requires ready { (c : ℕ) × (c ≤ 100000) × IsReady N.decls N.number N.among N.peer N.awaited N.number_of N.shown N.reads (length driver.now.nodes.items) c driver.now }
     requires settled { AreSettled N.decls N.peer N.shown driver.now.nodes.items }
 {
     found(driver.text.as_str() == left.printed, left.printed)?;
