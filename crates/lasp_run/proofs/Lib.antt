@@ -1,4 +1,5 @@
 pub mod CallLaws
+pub mod OpenLaws
 pub mod CheckLaws
 pub mod DirectLaws
 pub mod JoinLaws

@@ -1,6 +1,6 @@
 -- A run goes on command by command.
 use Rattle.std.proofs.Common.{zero, suc, refl, sym, ap, subst, ◌∙◌, arith, drop, take}
-use Rattle.std.specs.Prelude.{◌≡◌, ℕ, ◌+◌, ◌≤◌, List, [], ◌∷◌, ◌++◌, length, Some, slice_get, Result, Ok, Err}
+use Rattle.std.specs.Prelude.{◌≡◌, ℕ, ◌+◌, ◌≤◌, List, [], ◌∷◌, ◌++◌, length, Some, slice_get, Result, Ok, Err, OnOk}
 use Rattle.std.proofs.lemmas.List.{drop_more}
 use Rattle.std.proofs.lemmas.Option.{slice_get_within, get_or_from_slice_get}
 use Rattle.model_functions.specs.Library.{Library}
@@ -15,6 +15,7 @@ use Rattle.model_world.specs.Lawful.{Stage, stage_after}
 use Rattle.model_world.specs.World.{Run, Point, act, start, step, play, ended}
 use Rattle.model_world.specs.declared.stop.Stop.{Stop}
 use Rattle.lasp_drive.specs.Driver.{Does, Halts}
+use Rattle.lasp_run.specs.Play.{stages_after}
 use Rattle.lasp_drive.specs.declared.halt.Halt.{Halt}
 use Rattle.lasp_drive.proofs.SyncLaws.{halts-as}
 use Rattle.lasp_drive.specs.declared.halt.Halt.TheVariants as halt
@@ -134,3 +135,13 @@ ended-halts g script run why begins h = halts-as (ended g script) (play 1 run sc
 pub does-as : {A : Type 0} (r s : Result Run Stop) (result : Result A Halt) (new : Run) → r ≡ s → Does s result new → Does r result new
 does-as r s (Ok done) new e h = e ∙ h
 does-as r s (Err why) new e h = halts-as r s why e h
+
+-- ---- stages
+
+pub stages-next : (many n : ℕ) (old next : Stage) (k : Command) (commands rest : List Command) (all : Stage) → commands ≡ k ∷ rest → n ≡ many → next ≡ stage_after n old k → stages_after many old commands ≡ all → stages_after many next rest ≡ all
+stages-next many n old next k commands rest all at size is before =
+    ap (λ (s : Stage). stages_after many s rest) (is ∙ ap (λ (m : ℕ). stage_after m old k) size) ∙ sym (ap (λ (ks : List Command). stages_after many old ks) at) ∙ before
+
+pub ok-stages : {A E : Type 0} (result : Result A E) (many : ℕ) (now new : Stage) (commands : List Command) (all : Stage) → commands ≡ [] → OnOk result (new ≡ now) → stages_after many now commands ≡ all → OnOk result (new ≡ all)
+ok-stages (Ok done) many now new commands all none same before = same ∙ sym (ap (λ (ks : List Command). stages_after many now ks) none) ∙ before
+ok-stages (Err why) many now new commands all none same before = tt

@@ -1,14 +1,15 @@
 -- What a command of a script is to a driver.
-use Rattle.std.specs.Prelude.{◌≡◌, ℕ, ◌+◌, ◌<◌, ◌≤◌, List, length, Result, OnOk}
+use Rattle.std.specs.Prelude.{◌≡◌, ℕ, ◌+◌, ◌<◌, ◌≤◌, ◌==◌, if◌then◌else◌, List, [], ◌∷◌, length, slice_index_or, Result, OnOk}
 use Rattle.model_states.specs.Content.{Content}
 use Rattle.model_graph.specs.Graph.{Decl}
 use Rattle.model_world.specs.Command as plain
-use Rattle.model_world.specs.Lawful.{stage_after, MayBeDone}
+use Rattle.model_world.specs.Lawful.{Stage, stage_after, MayBeDone}
 use Rattle.model_world.specs.World.{Peer, acts, step}
 use Rattle.model_journal.specs.Entry.{Entry}
 use Rattle.model_calls.specs.Calls.{calls_of_acts}
 use Rattle.lasp_drive.specs.Node.{Awaited}
 use Rattle.lasp_drive.specs.Reads.{Reads}
+use Rattle.lasp_drive.specs.Waiting.{opened_counts}
 use Rattle.lasp_drive.specs.Calls.{GoOnByCalls}
 use Rattle.lasp_drive.specs.Driver.{run_of, stage_of, IsReady, Does}
 use Rattle.lasp_drive.specs.declared.driver.Driver.{Driver}
@@ -39,3 +40,39 @@ IsUntilWithin many (Above m) = m < many
 IsUntilWithin many (Count k) = Unit {0}
 IsUntilWithin many (Added vs) = Unit {0}
 IsUntilWithin many (Removed vs) = Unit {0}
+
+-- how many reads a command opens at node p
+abbrev pub asked : ℕ → plain.Command → ℕ
+asked p (plain.Add q x v) = 0
+asked p (plain.Remove q x v) = 0
+asked p (plain.Insert q x v) = 0
+asked p (plain.Inc q x by) = 0
+asked p (plain.Max q x n) = 0
+asked p (plain.Mark q x) = 0
+asked p (plain.Bind q x m) = 0
+asked p (plain.Send q) = 0
+asked p (plain.Deliver q i) = 0
+asked p plain.Sync = 0
+asked p plain.Settle = 0
+asked p (plain.Print q x) = 0
+asked p (plain.Read q x u) = if q == p then 1 else 0
+asked p (plain.Await q x u) = if q == p then 1 else 0
+asked p (plain.Declare d) = 0
+
+-- how many reads the commands of a script open at node p: its `read`s and `await`s there
+abbrev pub all_asked : ℕ → List plain.Command → ℕ
+all_asked p [] = 0
+all_asked p (k ∷ ks) = asked p k + all_asked p ks
+
+-- how many reads node p has opened
+abbrev pub opened_by : {N : Type 0} → (N → Reads) → List N → ℕ → ℕ
+opened_by reads nodes p = slice_index_or (opened_counts reads nodes) p 0
+
+-- each node opened so many reads more
+abbrev pub GoOnByReads : {N : Type 0} → (N → Reads) → List N → List N → (ℕ → ℕ) → Type 0
+GoOnByReads reads old new more = (p : ℕ) → p < length old → opened_by reads new p ≡ opened_by reads old p + more p
+
+-- the stage behind commands
+abbrev pub stages_after : ℕ → Stage → List plain.Command → Stage
+stages_after many s [] = s
+stages_after many s (k ∷ ks) = stages_after many (stage_after many s k) ks

@@ -15,7 +15,7 @@ ghost use Rattle.lasp_drive.specs.Node.{AreSettled};
 ghost use Rattle.lasp_drive.specs.Calls.{calls_at, GoOnByCalls};
 ghost use Rattle.lasp_drive.specs.Driver.{run_of, stage_of, IsReady, Does};
 ghost use Rattle.lasp_run.specs.Run.{ComesTo, Reports};
-ghost use Rattle.lasp_run.specs.Play.{MayStep, Steps, GoOnByCommand};
+ghost use Rattle.lasp_run.specs.Play.{MayStep, Steps, GoOnByCommand, GoOnByReads, asked, all_asked, opened_by, stages_after};
 
 mod message;
 mod number;
@@ -47,6 +47,7 @@ fn do_command<N: Node>(
     requires fits { FitsAll (library_of lib.now) (arc_value driver.old.graph) }
     ensures steps { Steps N.decls N.number N.among N.peer N.awaited N.number_of N.shown N.reads c driver.old (command_of command.now) result driver.new }
     ensures calls { OnOk result (GoOnByCommand N.calls N.peer N.awaited c driver.old (command_of command.now) driver.new) }
+    ensures opened { OnOk result (GoOnByReads N.reads driver.old.nodes.items driver.new.nodes.items (λ q. asked q (command_of command.now))) }
 {
     match command {
         Command::Add(p, x, v) => add(driver, alloc, c, *p, *x, v),
@@ -84,6 +85,8 @@ fn play<N: Node>(
     ensures size { OnOk result (length driver.new.nodes.items ≡ length driver.old.nodes.items) }
     ensures settled { OnOk result (AreSettled N.decls N.peer N.shown driver.new.nodes.items) }
     ensures calls { OnOk result (GoOnByCalls N.calls driver.old.nodes.items driver.new.nodes.items (λ p. calls 1 (run_of N.peer N.awaited driver.old) p script.now.commands)) }
+    ensures opened { OnOk result (GoOnByReads N.reads driver.old.nodes.items driver.new.nodes.items (λ p. all_asked p script.now.commands)) }
+    ensures staged { OnOk result (stage_of driver.new ≡ stages_after (length driver.old.nodes.items) (stage_of driver.old) script.now.commands) }
     ensures done { Does (play 1 (run_of N.peer N.awaited driver.old) script.now.commands) result (run_of N.peer N.awaited driver.new) }
 {
     let mut c: u32 = 1;
@@ -111,6 +114,8 @@ pub fn run_on<N: Node>(
     ensures ready { IfOk result (λ d. (c : ℕ) × (c ≤ 100000) × IsReady N.decls N.number N.among N.peer N.awaited N.number_of N.shown N.reads (length d.nodes.items) c d) }
     ensures settled { IfOk result (λ d. AreSettled N.decls N.peer N.shown d.nodes.items) }
     ensures calls { IfOk result (λ d. (p : ℕ) → p < script.now.nodes → calls_at N.calls d.nodes.items p ≡ calls 1 (start (arc_value graph.now) script.now.nodes) p script.now.commands) }
+    ensures staged { IfOk result (λ d. stage_of d ≡ stages_after script.now.nodes (opening_stage (arc_value graph.now)) script.now.commands) }
+    ensures opened { IfOk result (λ d. (p : ℕ) → p < script.now.nodes → opened_by N.reads d.nodes.items p ≡ all_asked p script.now.commands) }
     ensures done { ComesTo N.peer N.awaited (ended (arc_value graph.now) script.now) result }
 {
     let mut driver: Driver<N> = Driver::new(alloc, graph, script.nodes())?;

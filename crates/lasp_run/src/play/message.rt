@@ -2,7 +2,7 @@
 
 ghost use Rattle.std.specs.Prelude.{◌≡◌, length, OnOk};
 ghost use Rattle.model_world.specs.Command as plain;
-ghost use Rattle.lasp_run.specs.Play.{MayStep, Steps, GoOnByCommand};
+ghost use Rattle.lasp_run.specs.Play.{MayStep, Steps, GoOnByCommand, GoOnByReads, asked};
 
 use lasp_drive::{Driver, Halt, Node};
 use std::alloc::Global;
@@ -12,6 +12,7 @@ pub fn mark<N: Node>(driver: &mut Driver<N>, c: u32, p: u8, x: u8) -> Result<(),
     requires may { MayStep N.decls N.number N.among N.peer N.awaited N.number_of N.shown N.reads c driver.old (plain.Mark p x) }
     ensures steps { Steps N.decls N.number N.among N.peer N.awaited N.number_of N.shown N.reads c driver.old (plain.Mark p x) result driver.new }
     ensures calls { OnOk result (GoOnByCommand N.calls N.peer N.awaited c driver.old (plain.Mark p x) driver.new) }
+    ensures opened { OnOk result (GoOnByReads N.reads driver.old.nodes.items driver.new.nodes.items (λ q. asked q (plain.Mark p x))) }
 {
     driver.keep(c, p, x)
 }
@@ -21,6 +22,7 @@ pub fn send<N: Node>(driver: &mut Driver<N>, alloc: Global, c: u32, p: u8) -> Re
     requires may { MayStep N.decls N.number N.among N.peer N.awaited N.number_of N.shown N.reads c driver.old (plain.Send p) }
     ensures steps { Steps N.decls N.number N.among N.peer N.awaited N.number_of N.shown N.reads c driver.old (plain.Send p) result driver.new }
     ensures calls { OnOk result (GoOnByCommand N.calls N.peer N.awaited c driver.old (plain.Send p) driver.new) }
+    ensures opened { OnOk result (GoOnByReads N.reads driver.old.nodes.items driver.new.nodes.items (λ q. asked q (plain.Send p))) }
 {
     driver.post(alloc, c, p)
 }
@@ -36,6 +38,7 @@ pub fn deliver<N: Node>(
     requires may { MayStep N.decls N.number N.among N.peer N.awaited N.number_of N.shown N.reads c driver.old (plain.Deliver p i) }
     ensures steps { Steps N.decls N.number N.among N.peer N.awaited N.number_of N.shown N.reads c driver.old (plain.Deliver p i) result driver.new }
     ensures calls { OnOk result (GoOnByCommand N.calls N.peer N.awaited c driver.old (plain.Deliver p i) driver.new) }
+    ensures opened { OnOk result (GoOnByReads N.reads driver.old.nodes.items driver.new.nodes.items (λ q. asked q (plain.Deliver p i))) }
 {
     driver.take(alloc, c, p, i)
 }
@@ -45,6 +48,7 @@ pub fn sync<N: Node>(driver: &mut Driver<N>, alloc: Global, c: u32) -> Result<()
     requires may { MayStep N.decls N.number N.among N.peer N.awaited N.number_of N.shown N.reads c driver.old (plain.Sync) }
     ensures steps { Steps N.decls N.number N.among N.peer N.awaited N.number_of N.shown N.reads c driver.old (plain.Sync) result driver.new }
     ensures calls { OnOk result (GoOnByCommand N.calls N.peer N.awaited c driver.old (plain.Sync) driver.new) }
+    ensures opened { OnOk result (GoOnByReads N.reads driver.old.nodes.items driver.new.nodes.items (λ q. asked q (plain.Sync))) }
 {
     driver.sync(alloc, c)
 }

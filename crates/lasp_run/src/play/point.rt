@@ -8,7 +8,7 @@ ghost use Rattle.model_readings.specs.Lawful.{FitsAll, IsNext};
 ghost use Rattle.lasp_graph.specs.Decl.{decl_of};
 ghost use Rattle.lasp_graph.specs.Library.{library_of};
 ghost use Rattle.lasp_script.specs.Command.{until_of};
-ghost use Rattle.lasp_run.specs.Play.{MayStep, Steps, GoOnByCommand};
+ghost use Rattle.lasp_run.specs.Play.{MayStep, Steps, GoOnByCommand, GoOnByReads, asked};
 
 use super::threshold::threshold_of;
 use lasp_drive::{Driver, Halt, Node};
@@ -28,6 +28,7 @@ pub fn settle<N: Node>(
     requires fits { FitsAll (library_of lib.now) (arc_value driver.old.graph) }
     ensures steps { Steps N.decls N.number N.among N.peer N.awaited N.number_of N.shown N.reads c driver.old (plain.Settle) result driver.new }
     ensures calls { OnOk result (GoOnByCommand N.calls N.peer N.awaited c driver.old (plain.Settle) driver.new) }
+    ensures opened { OnOk result (GoOnByReads N.reads driver.old.nodes.items driver.new.nodes.items (λ q. asked q (plain.Settle))) }
 {
     driver.point(alloc, lib, c)
 }
@@ -45,6 +46,7 @@ pub fn print<N: Node>(
     requires fits { FitsAll (library_of lib.now) (arc_value driver.old.graph) }
     ensures steps { Steps N.decls N.number N.among N.peer N.awaited N.number_of N.shown N.reads c driver.old (plain.Print p x) result driver.new }
     ensures calls { OnOk result (GoOnByCommand N.calls N.peer N.awaited c driver.old (plain.Print p x) driver.new) }
+    ensures opened { OnOk result (GoOnByReads N.reads driver.old.nodes.items driver.new.nodes.items (λ q. asked q (plain.Print p x))) }
 {
     match driver.point(alloc, lib, c) {
         Ok(()) => driver.show(c, p, x),
@@ -66,6 +68,7 @@ pub fn wait<N: Node>(
     requires fits { FitsAll (library_of lib.now) (arc_value driver.old.graph) }
     ensures steps { Steps N.decls N.number N.among N.peer N.awaited N.number_of N.shown N.reads c driver.old (plain.Await p x (until_of until.now)) result driver.new }
     ensures calls { OnOk result (GoOnByCommand N.calls N.peer N.awaited c driver.old (plain.Await p x (until_of until.now)) driver.new) }
+    ensures opened { OnOk result (GoOnByReads N.reads driver.old.nodes.items driver.new.nodes.items (λ q. asked q (plain.Await p x (until_of until.now)))) }
 {
     let threshold = threshold_of(alloc, &driver.marks, until)?;
     match driver.point(alloc, lib, c) {
@@ -88,6 +91,7 @@ pub fn declare<N: Node>(
     requires next { IsNext (arc_value driver.old.graph) (decl_of decl.now) }
     ensures steps { Steps N.decls N.number N.among N.peer N.awaited N.number_of N.shown N.reads c driver.old (plain.Declare (decl_of decl.now)) result driver.new }
     ensures calls { OnOk result (GoOnByCommand N.calls N.peer N.awaited c driver.old (plain.Declare (decl_of decl.now)) driver.new) }
+    ensures opened { OnOk result (GoOnByReads N.reads driver.old.nodes.items driver.new.nodes.items (λ q. asked q (plain.Declare (decl_of decl.now)))) }
 {
     match driver.point(alloc, lib, c) {
         Ok(()) => driver.extend(alloc, c, decl),
@@ -107,6 +111,7 @@ pub fn read<N: Node>(
     requires may { MayStep N.decls N.number N.among N.peer N.awaited N.number_of N.shown N.reads c driver.old (plain.Read p x (until_of until.now)) }
     ensures steps { Steps N.decls N.number N.among N.peer N.awaited N.number_of N.shown N.reads c driver.old (plain.Read p x (until_of until.now)) result driver.new }
     ensures calls { OnOk result (GoOnByCommand N.calls N.peer N.awaited c driver.old (plain.Read p x (until_of until.now)) driver.new) }
+    ensures opened { OnOk result (GoOnByReads N.reads driver.old.nodes.items driver.new.nodes.items (λ q. asked q (plain.Read p x (until_of until.now)))) }
 {
     let threshold = threshold_of(alloc, &driver.marks, until)?;
     driver.open(alloc, c, p, x, threshold)

@@ -3,7 +3,7 @@
 ghost use Rattle.std.specs.Prelude.{◌≡◌, length, OnOk};
 ghost use Rattle.model_world.specs.Command as plain;
 ghost use Rattle.lasp_value.specs.Value.{val_of};
-ghost use Rattle.lasp_run.specs.Play.{MayStep, Steps, GoOnByCommand};
+ghost use Rattle.lasp_run.specs.Play.{MayStep, Steps, GoOnByCommand, GoOnByReads, asked};
 
 use lasp_drive::{Driver, Halt, Node};
 use lasp_state::Op;
@@ -23,6 +23,7 @@ pub fn add<N: Node>(
     requires may { MayStep N.decls N.number N.among N.peer N.awaited N.number_of N.shown N.reads c driver.old (plain.Add p x (val_of value.now)) }
     ensures steps { Steps N.decls N.number N.among N.peer N.awaited N.number_of N.shown N.reads c driver.old (plain.Add p x (val_of value.now)) result driver.new }
     ensures calls { OnOk result (GoOnByCommand N.calls N.peer N.awaited c driver.old (plain.Add p x (val_of value.now)) driver.new) }
+    ensures opened { OnOk result (GoOnByReads N.reads driver.old.nodes.items driver.new.nodes.items (λ q. asked q (plain.Add p x (val_of value.now)))) }
 {
     recall_value(value);
     let op = Op::Add(value.try_clone(alloc)?);
@@ -41,6 +42,7 @@ pub fn remove<N: Node>(
     requires may { MayStep N.decls N.number N.among N.peer N.awaited N.number_of N.shown N.reads c driver.old (plain.Remove p x (val_of value.now)) }
     ensures steps { Steps N.decls N.number N.among N.peer N.awaited N.number_of N.shown N.reads c driver.old (plain.Remove p x (val_of value.now)) result driver.new }
     ensures calls { OnOk result (GoOnByCommand N.calls N.peer N.awaited c driver.old (plain.Remove p x (val_of value.now)) driver.new) }
+    ensures opened { OnOk result (GoOnByReads N.reads driver.old.nodes.items driver.new.nodes.items (λ q. asked q (plain.Remove p x (val_of value.now)))) }
 {
     recall_value(value);
     let op = Op::Remove(value.try_clone(alloc)?);
@@ -59,6 +61,7 @@ pub fn insert<N: Node>(
     requires may { MayStep N.decls N.number N.among N.peer N.awaited N.number_of N.shown N.reads c driver.old (plain.Insert p x (val_of value.now)) }
     ensures steps { Steps N.decls N.number N.among N.peer N.awaited N.number_of N.shown N.reads c driver.old (plain.Insert p x (val_of value.now)) result driver.new }
     ensures calls { OnOk result (GoOnByCommand N.calls N.peer N.awaited c driver.old (plain.Insert p x (val_of value.now)) driver.new) }
+    ensures opened { OnOk result (GoOnByReads N.reads driver.old.nodes.items driver.new.nodes.items (λ q. asked q (plain.Insert p x (val_of value.now)))) }
 {
     recall_value(value);
     let op = Op::Insert(value.try_clone(alloc)?);

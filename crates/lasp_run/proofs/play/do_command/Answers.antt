@@ -7,7 +7,7 @@ use Rattle.model_world.specs.Command as plain
 use Rattle.lasp_graph.specs.Decl.{decl_of}
 use Rattle.lasp_script.specs.Command.{command_of}
 use Rattle.lasp_script.specs.declared.command.Command.{Command}
-use Rattle.lasp_run.specs.Play.{Steps, GoOnByCommand}
+use Rattle.lasp_run.specs.Play.{Steps, GoOnByCommand, GoOnByReads, asked}
 use Rattle.lasp_run.proofs.PlayLaws.{next-last}
 use Rattle.lasp_run.proofs.play.do_command.Goals as goal
 
@@ -27,3 +27,6 @@ returns-in-Max-clause-calls g c =
     let number : to_z w64 (of_z w64 c.in-Max.number) ≡ c.in-Max.number = search rules in
     subst (λ (k : Command). OnOk c.max.result (GoOnByCommand g.N.Node.calls g.N.Node.peer g.N.Node.awaited c.args.c c.args.driver.now (command_of k) c.max.new.driver)) (sym c.in-Max.is)
     (subst (λ (n : ℤ). OnOk c.max.result (GoOnByCommand g.N.Node.calls g.N.Node.peer g.N.Node.awaited c.args.c c.args.driver.now (plain.Max c.in-Max.p c.in-Max.x n) c.max.new.driver)) number c.max.ensures.calls)
+
+pub returns-in-Max-clause-opened : goal.returns-in-Max-clause-opened
+returns-in-Max-clause-opened g c = subst (λ (k : Command). OnOk c.max.result (GoOnByReads g.N.Node.reads c.args.driver.now.nodes.items c.max.new.driver.nodes.items (λ q. asked q (command_of k)))) (sym c.in-Max.is) c.max.ensures.opened

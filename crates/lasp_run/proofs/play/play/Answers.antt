@@ -13,7 +13,9 @@ use Rattle.lasp_drive.specs.Driver.{run_of, stage_of}
 use Rattle.lasp_drive.proofs.SyncLaws.{halts-as}
 use Rattle.lasp_run.proofs.StepLaws.{ready-here}
 use Rattle.lasp_run.proofs.CallLaws.{come-command, ok-last}
-use Rattle.lasp_run.proofs.PlayLaws.{drop-at, drop-past, play-step, play-halts, play-end, graph-so-far, fits-so-far, stage-graph, does-as}
+use Rattle.lasp_run.proofs.PlayLaws.{drop-at, drop-past, play-step, play-halts, play-end, graph-so-far, fits-so-far, stage-graph, does-as, stages-next, ok-stages}
+use Rattle.lasp_run.specs.Play.{all_asked}
+use Rattle.lasp_run.proofs.OpenLaws.{ok-none, reads-next, ok-reads-last}
 use Rattle.lasp_run.proofs.play.play.Goals as goal
 
 pub do_command-requires-clause-may : goal.do_command-requires-clause-may
@@ -62,6 +64,8 @@ loop-i-preserved g c =
       fits = subst (λ (h : List Decl). FitsAll (library_of c.args.lib.now) (grown h (drop (c.loop-i.i + 1) ks))) (sym graph) (subst (λ (rest : List plain.Command). FitsAll (library_of c.args.lib.now) (grown (arc_value old.graph) rest)) at c.loop-i.invariant.fits);
       calls = come-command g.N.Node.calls c.args.driver.now.nodes.items old.nodes.items new.nodes.items c.loop-i.c (run_of g.N.Node.peer g.N.Node.awaited old) (run_of g.N.Node.peer g.N.Node.awaited new) k _ _ _
           at c.loop-i.invariant.size steps.done c.in-Ok.ensures.calls c.loop-i.invariant.calls;
+      staged = stages-next (length c.args.driver.now.nodes.items) (length old.nodes.items) (stage_of old) (stage_of new) k (drop c.loop-i.i ks) (drop (c.loop-i.i + 1) ks) _ at c.loop-i.invariant.size steps.stage c.loop-i.invariant.staged;
+      opened = reads-next g.N.Node.reads c.args.driver.now.nodes.items old.nodes.items new.nodes.items k (drop c.loop-i.i ks) (drop (c.loop-i.i + 1) ks) (λ p. all_asked p ks) at c.loop-i.invariant.size c.in-Ok.ensures.opened c.loop-i.invariant.opened;
       rest = sym (play-step c.loop-i.c (run_of g.N.Node.peer g.N.Node.awaited old) (run_of g.N.Node.peer g.N.Node.awaited new) ks c.loop-i.i k c.at.ensures steps.done) ∙ c.loop-i.invariant.rest;
     }
 
@@ -77,3 +81,13 @@ pub returns-clause-calls : goal.returns-clause-calls
 returns-clause-calls g c =
     ok-last g.N.Node.calls c.point.result c.args.driver.now.nodes.items c.loop-i.driver.nodes.items c.point.new.self.nodes.items c.loop-i.c (run_of g.N.Node.peer g.N.Node.awaited c.loop-i.driver) _ _
     (drop-past c.args.script.now.commands c.loop-i.i (omega (arith, c.loop-i-test.false, c.len-i-end.ensures))) c.loop-i.invariant.size c.point.ensures.calls c.loop-i.invariant.calls
+
+pub returns-clause-opened : goal.returns-clause-opened
+returns-clause-opened g c =
+    ok-reads-last g.N.Node.reads c.point.result c.args.driver.now.nodes.items c.loop-i.driver.nodes.items c.point.new.self.nodes.items (drop c.loop-i.i c.args.script.now.commands) (λ p. all_asked p c.args.script.now.commands)
+    (drop-past c.args.script.now.commands c.loop-i.i (omega (arith, c.loop-i-test.false, c.len-i-end.ensures))) c.loop-i.invariant.size (ok-none g.N.Node.reads c.point.result c.loop-i.driver c.point.new.self c.point.ensures.reads) c.loop-i.invariant.opened
+
+pub returns-clause-staged : goal.returns-clause-staged
+returns-clause-staged g c =
+    ok-stages c.point.result (length c.args.driver.now.nodes.items) (stage_of c.loop-i.driver) (stage_of c.point.new.self) (drop c.loop-i.i c.args.script.now.commands) _
+    (drop-past c.args.script.now.commands c.loop-i.i (omega (arith, c.loop-i-test.false, c.len-i-end.ensures))) c.point.ensures.stage c.loop-i.invariant.staged

@@ -4,6 +4,7 @@ use Rattle.lasp_graph.specs.Decl.{decl_of}
 use Rattle.lasp_drive.specs.Driver.{run_of, stage_of}
 use Rattle.lasp_run.proofs.CallLaws.{ok-two}
 use Rattle.lasp_run.proofs.StepLaws.{ok-here, ok-declared, does-two}
+use Rattle.lasp_run.proofs.OpenLaws.{ok-none, ok-none-first}
 use Rattle.lasp_run.proofs.play.point.declare.Goals as goal
 
 pub returns-in-Ok : goal.returns-in-Ok
@@ -15,4 +16,5 @@ returns-in-Ok g c = record {
   };
   calls = ok-two g.N.Node.calls c.extend.result c.args.driver.now.nodes.items c.point.new.self.nodes.items c.extend.new.self.nodes.items c.args.c (run_of g.N.Node.peer g.N.Node.awaited c.args.driver.now) (run_of g.N.Node.peer g.N.Node.awaited c.point.new.self) (run_of g.N.Node.peer g.N.Node.awaited c.extend.new.self) Point (Extend (decl_of c.args.decl.now))
       c.in-Ok.ensures.ready.size c.in-Ok.ensures.done c.in-Ok.ensures.calls c.extend.ensures.done c.extend.ensures.calls;
+  opened = ok-none-first g.N.Node.reads c.extend.result c.args.driver.now c.point.new.self c.extend.new.self (λ q. 0) c.in-Ok.ensures.ready.size c.in-Ok.ensures.reads (ok-none g.N.Node.reads c.extend.result c.point.new.self c.extend.new.self c.extend.ensures.reads);
 }

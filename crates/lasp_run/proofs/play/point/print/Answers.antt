@@ -3,6 +3,7 @@ use Rattle.model_world.specs.World.{Point, Show}
 use Rattle.lasp_drive.specs.Driver.{run_of, stage_of}
 use Rattle.lasp_run.proofs.CallLaws.{ok-two}
 use Rattle.lasp_run.proofs.StepLaws.{ok-here, ok-stage, does-two}
+use Rattle.lasp_run.proofs.OpenLaws.{ok-none, ok-none-first}
 use Rattle.lasp_run.proofs.play.point.print.Goals as goal
 
 pub returns-in-Ok : goal.returns-in-Ok
@@ -14,4 +15,5 @@ returns-in-Ok g c = record {
   };
   calls = ok-two g.N.Node.calls c.show.result c.args.driver.now.nodes.items c.point.new.self.nodes.items c.show.new.self.nodes.items c.args.c (run_of g.N.Node.peer g.N.Node.awaited c.args.driver.now) (run_of g.N.Node.peer g.N.Node.awaited c.point.new.self) (run_of g.N.Node.peer g.N.Node.awaited c.show.new.self) Point (Show c.args.p c.args.x)
       c.in-Ok.ensures.ready.size c.in-Ok.ensures.done c.in-Ok.ensures.calls c.show.ensures.done c.show.ensures.calls;
+  opened = ok-none-first g.N.Node.reads c.show.result c.args.driver.now c.point.new.self c.show.new.self (λ q. 0) c.in-Ok.ensures.ready.size c.in-Ok.ensures.reads (ok-none g.N.Node.reads c.show.result c.point.new.self c.show.new.self c.show.ensures.reads);
 }

@@ -4,6 +4,7 @@ use Rattle.model_world.specs.World.{Point}
 use Rattle.lasp_drive.specs.Driver.{run_of}
 use Rattle.lasp_run.proofs.StepLaws.{steps-one}
 use Rattle.lasp_run.proofs.CallLaws.{ok-one}
+use Rattle.lasp_run.proofs.OpenLaws.{ok-none}
 use Rattle.lasp_run.proofs.play.point.settle.Goals as goal
 
 pub returns-clause-calls : goal.returns-clause-calls
@@ -12,3 +13,6 @@ returns-clause-calls g c =
 
 pub returns-clause-steps : goal.returns-clause-steps
 returns-clause-steps g c = steps-one g.N.Node.decls g.N.Node.number g.N.Node.among g.N.Node.peer g.N.Node.awaited g.N.Node.number_of g.N.Node.shown g.N.Node.reads c.point.result c.args.c c.args.driver.now c.point.new.self (plain.Settle) (Point) refl c.point.ensures.ready c.point.ensures.stage c.point.ensures.done
+
+pub returns-clause-opened : goal.returns-clause-opened
+returns-clause-opened g c = ok-none g.N.Node.reads c.point.result c.args.driver.now c.point.new.self c.point.ensures.reads
