@@ -2,6 +2,8 @@
 #![tactic(auto)]
 
 #[cfg(test)]
+mod by_base;
+#[cfg(test)]
 mod call;
 #[cfg(test)]
 mod checks;

@@ -3,7 +3,7 @@
 use crate::runs::Outcome;
 use lasp_core::{DeliverRefused, UpdateRefused};
 use lasp_fns::LibraryRefused;
-use lasp_graph::{DeclRefused, EvalAll, GraphRefused};
+use lasp_graph::{DeclRefused, EvalAll, EvalRefused, GraphRefused};
 use std::alloc::{AllocError, AllocFailed};
 
 /// What calls came to that they must not come to.
@@ -89,6 +89,12 @@ impl From<DeclRefused> for Wrong {
 
 impl From<EvalAll> for Wrong {
     fn from(_why: EvalAll) -> Wrong {
+        Wrong::Refused
+    }
+}
+
+impl From<EvalRefused> for Wrong {
+    fn from(_why: EvalRefused) -> Wrong {
         Wrong::Refused
     }
 }
