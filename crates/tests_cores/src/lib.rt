@@ -38,4 +38,6 @@ mod traits;
 #[cfg(test)]
 mod updates;
 #[cfg(test)]
+mod written;
+#[cfg(test)]
 mod wrong;
