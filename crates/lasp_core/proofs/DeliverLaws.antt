@@ -39,9 +39,10 @@ use Rattle.lasp_core.specs.declared.entry.Entry as written
 use Rattle.lasp_core.specs.declared.replica.Replica.{Replica}
 use Rattle.lasp_core.specs.declared.process.Process.{Process}
 use Rattle.lasp_core.specs.Entries.{entry_of}
-use Rattle.lasp_core.specs.Replica.{told, base_of, frame_of, entries_of, parts_of, jobs_of, IsReplica, Goes, IsBeginning, no_kept, kept_at}
+use Rattle.lasp_core.specs.Replica.{told, base_of, frame_of, entries_of, parts_of, jobs_of, IsReplica, IsSuited, Goes, IsBeginning, no_kept, kept_at}
 use Rattle.lasp_core.specs.Delivery.{grows_at, recorded, AreOfKind, AreSmall, IsReady, IsReadyFor, AreJoined, AreRecordable, AreRecordedTo}
 use Rattle.lasp_core.proofs.ReplicaLaws.{frame-same, replica-kept}
+use Rattle.lasp_core.proofs.SuitLaws.{suited-more}
 
 -- ---- before a delivery
 
@@ -107,7 +108,7 @@ pushed old new v e is same = ap (λ (all : List written.Entry). map entry_of all
 module _ (old new : Replica) (is : IsReplica old) (by number : ℕ) (m : Message) (made : List Kept) (grow : List Bool) (message : IsMessage m) (wide : length m.counts ≡ length old.counts) (begins : IsBeginning m (arc_value old.graph))
     (same : map told made ≡ map told old.histories.items) (joined : AreJoined (arc_value old.graph) m old.states new.states made grow) (written_down : AreRecordedTo (length grow) grow (length old.journal.items) made new.histories.items)
     (opening : new.opening ≡ old.opening) (me : new.me ≡ old.me) (graphs : arc_value new.graph ≡ arc_value old.graph) (processes : new.processes.items ≡ old.processes.items) (counted : new.counts ≡ larger old.counts m.counts)
-    (entries : entries_of new ≡ entries_of old ++ entry by (Deliver number m) ∷ []) where
+    (entries : entries_of new ≡ entries_of old ++ entry by (Deliver number m) ∷ []) (v : written.Entry) (items : new.journal.items ≡ old.journal.items ++ v ∷ []) (fits : IsSuited (length old.counts) (arc_value old.graph) v) where
   -- what stands in a history after it was recorded
   history-after : (x : ℕ) → x < length (arc_value old.graph) → history_at (map told new.histories.items) x ≡ recorded (grows_at grow x) (kept_at made x) (length (entries_of old))
   history-after x low =
@@ -181,7 +182,8 @@ module _ (old new : Replica) (is : IsReplica old) (by number : ℕ) (m : Message
   pub goes : Goes (entry by (Deliver number m)) old new
   goes = record {
     sound = replica-kept (frame_of old) (entries_of old ++ entry by (Deliver number m) ∷ []) new same-frame entries kept-after legal-after held-after
-        (omega (arith, opening, is.opened, ap (λ (g : List Decl). length g) graphs)) (omega (arith, is.few, long-after));
+        (omega (arith, opening, is.opened, ap (λ (g : List Decl). length g) graphs)) (omega (arith, is.few, long-after))
+        (suited-more old new v long-after graphs items is.suited fits);
     frame = same-frame;
     entries = entries;
     busy = ap (λ (ps : List (Option Process)). map jobs_of ps) processes;

@@ -20,8 +20,11 @@ use Rattle.lasp_history.proofs.KeptLaws.{where-ok}
 use Rattle.model_core.specs.Parts.{Parts, IsKept, fresh_state, fresh_base}
 use Rattle.model_core.proofs.ExtendLaws.{kept-extended}
 use Rattle.lasp_core.specs.declared.replica.Replica.{Replica}
-use Rattle.lasp_core.specs.Replica.{frame_of, entries_of, busy_of, parts_of, told, seen_process, IsReplica, Grows}
+use Rattle.lasp_core.specs.Replica.{frame_of, entries_of, busy_of, parts_of, told, seen_process, IsReplica, IsSuited, Grows}
 use Rattle.lasp_core.proofs.ReplicaLaws.{replica-kept}
+use Rattle.lasp_core.proofs.SuitLaws.{suited-pushed, suited-longer}
+use Rattle.lasp_core.specs.declared.entry.Entry.{Entry}
+use Rattle.std.specs.List.{AllByRecursion}
 
 -- ---- lists with one more
 
@@ -29,6 +32,10 @@ use Rattle.lasp_core.proofs.ReplicaLaws.{replica-kept}
 pub pushed : {A B R E : Type 0} (f : A → B) (r : Result R E) (new old before : List A) (a : A) (b : B) → IsOk r → new ≡ (if is_ok r then old ++ a ∷ [] else old) → old ≡ before → f a ≡ b → map f new ≡ map f before ++ b ∷ []
 pushed f r new old before a b ok is same seen =
     ap (map f) (where-ok r new (old ++ a ∷ []) old ok is ∙ ap (λ (xs : List _). xs ++ a ∷ []) same) ∙ map-append f before (a ∷ []) ∙ ap (λ y. map f before ++ y ∷ []) seen
+
+-- the entry that was pushed
+pub written : {B E Y : Type 0} (r : Result B E) (new old before : List Y) (a : Y) → IsOk r → new ≡ (if is_ok r then old ++ a ∷ [] else old) → old ≡ before → new ≡ before ++ a ∷ []
+written r new old before a ok is same = where-ok r new (old ++ a ∷ []) old ok is ∙ ap (λ (xs : List _). xs ++ a ∷ []) same
 
 -- the declaration behind the others
 pub last-decl : (g longer : List Decl) (d : Decl) (x : ℕ) → longer ≡ g ++ d ∷ [] → x ≡ length g → decl_at longer x ≡ d
@@ -49,9 +56,9 @@ pub record IsLonger (e : model.Entry) (d : Decl) (old new : Replica) : Type 0 wh
   pub entries : entries_of new ≡ entries_of old ++ e ∷ []
 
 pub replica-grows : (old new : Replica) (e : model.Entry) (d : Decl) → IsReplica old → e.act ≡ model.Extend d → IsNext (arc_value old.graph) d → length (arc_value old.graph) < variable_limit
-    → IsLonger e d old new → Grows e old new
-replica-grows old new e d is act next room h = record {
-  sound = replica-kept X (entries ++ e ∷ []) new frame h.entries kept legal held opened counted;
+    → IsLonger e d old new → (v : Entry) → new.journal.items ≡ old.journal.items ++ v ∷ [] → IsSuited (length old.counts) (arc_value old.graph ++ d ∷ []) v → Grows e old new
+replica-grows old new e d is act next room h v items fits = record {
+  sound = replica-kept X (entries ++ e ∷ []) new frame h.entries kept legal held opened counted suited;
   frame = frame;
   entries = h.entries;
   busy = h.busy;
@@ -85,6 +92,12 @@ replica-grows old new e d is act next room h = record {
 
   opened : new.opening ≤ length (arc_value new.graph)
   opened = omega (arith, is.opened, h.opening, ap (λ (ds : List Decl). length ds) h.graph, length-push g d)
+
+  suited : AllByRecursion (IsSuited (length new.counts) (arc_value new.graph)) new.journal.items
+  suited =
+      subst (λ (ds : List Decl). AllByRecursion (IsSuited (length new.counts) ds) new.journal.items) (sym h.graph)
+      (subst (λ (n : ℕ). AllByRecursion (IsSuited n (g ++ d ∷ [])) new.journal.items) (sym (ap (λ (ns : List ℕ). length ns) h.counts))
+      (suited-pushed (length old.counts) (g ++ d ∷ []) old.journal.items new.journal.items v items (suited-longer (length old.counts) g d old.journal.items is.suited) fits))
 
   counted : length new.counts ≤ 8
   counted = omega (arith, is.few, ap (λ (ns : List ℕ). length ns) h.counts)

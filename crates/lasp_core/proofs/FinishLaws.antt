@@ -38,10 +38,12 @@ use Rattle.model_core.proofs.OneLaws.{kept-bound-late, kept-bound-still, kept-bo
 use Rattle.model_core.proofs.ReadLaws.{news-by-gain, news-none, process-set}
 use Rattle.lasp_core.specs.declared.process.Process.{Process}
 use Rattle.lasp_core.specs.declared.replica.Replica.{Replica}
-use Rattle.lasp_core.specs.Replica.{frame_of, entries_of, parts_of, told, seen_process, IsReplica, no_kept, kept_at}
+use Rattle.lasp_core.specs.Replica.{frame_of, entries_of, parts_of, told, seen_process, IsReplica, IsSuited, no_kept, kept_at}
 use Rattle.lasp_core.specs.Jobs.{IsJobOf, IsOwn, IsResultOf}
 use Rattle.lasp_core.specs.Finish.{HasRows, AreNewsOf, HasRoom, grown_at, base_on}
 use Rattle.lasp_core.proofs.ReplicaLaws.{frame-same, replica-kept}
+use Rattle.lasp_core.proofs.SuitLaws.{suited-more}
+use Rattle.lasp_core.specs.declared.entry.Entry.{Entry}
 
 -- ---- places
 
@@ -260,23 +262,27 @@ pub record IsSameFrame (old new : Replica) : Type 0 where
 
 bound-replica : (old new : Replica) (by : ℕ) (job : Job) → IsReplica old → IsJobOf (frame_of old) (entries_of old) job
     → size_of (equation (kind_at (graph (frame_of old) (entries_of old)) job.var) (vals (frame_of old) (take job.n (entries_of old)))) ≤ row_limit
-    → IsSameFrame old new → entries_of new ≡ bound_entries by job old → IsKept (frame_of old) (bound_entries by job old) (parts_of new) → IsReplica new
-bound-replica old new by job is of small same entries kept =
+    → IsSameFrame old new → entries_of new ≡ bound_entries by job old → IsKept (frame_of old) (bound_entries by job old) (parts_of new)
+    → (v : Entry) → new.journal.items ≡ old.journal.items ++ v ∷ [] → IsSuited (length old.counts) (arc_value old.graph) v → IsReplica new
+bound-replica old new by job is of small same entries kept v items fits =
     replica-kept (frame_of old) (bound_entries by job old) new (frame-same old new same.opening same.me (ap length same.counts) same.graph) entries kept
     (bound-legal old by job is of small)
     (subst (λ (g : List Decl). IsHeld (length old.counts) g (peer_of (frame_of old) (bound_entries by job old))) (sym same.graph) (bound-held old by job is of))
     (subst (λ (g : List Decl). new.opening ≤ length g) (sym same.graph) (subst (λ (n : ℕ). n ≤ length (arc_value old.graph)) (sym same.opening) is.opened))
     (subst (λ (cs : List ℕ). length cs ≤ 8) (sym same.counts) is.few)
+    (suited-more old new v (ap length same.counts) same.graph items is.suited fits)
 
 -- ---- a late result
 
 pub late-replica : (old new : Replica) (by : ℕ) (job : Job) → IsReplica old → IsJobOf (frame_of old) (entries_of old) job
     → size_of (equation (kind_at (graph (frame_of old) (entries_of old)) job.var) (vals (frame_of old) (take job.n (entries_of old)))) ≤ row_limit
-    → job.n ≤ base (frame_of old) (entries_of old) job.var → IsSameFrame old new → entries_of new ≡ bound_entries by job old → parts_of new ≡ parts_of old → IsReplica new
-late-replica old new by job is of small late same entries parts =
+    → job.n ≤ base (frame_of old) (entries_of old) job.var → IsSameFrame old new → entries_of new ≡ bound_entries by job old → parts_of new ≡ parts_of old
+    → (v : Entry) → new.journal.items ≡ old.journal.items ++ v ∷ [] → IsSuited (length old.counts) (arc_value old.graph) v → IsReplica new
+late-replica old new by job is of small late same entries parts v items fits =
     bound-replica old new by job is of small same entries
     (subst (IsKept (frame_of old) (bound_entries by job old)) (sym parts)
     (kept-bound-late (frame_of old) (entries_of old) is.legal (bind_entry by job.var job.n) job.var job.n refl (parts_of old) is.kept (job-derived old job is of) late))
+    v items fits
 
 -- ---- a result that is taken in
 
@@ -302,9 +308,10 @@ job-base r job is of asked = record {
 
 pub bind-replica : (old new : Replica) (by : ℕ) (job : Job) (s : State) (grows : Bool) → IsReplica old → IsJobOf (frame_of old) (entries_of old) job → IsResultOf (frame_of old) (entries_of old) job s
     → IsAsked (arc_value job.graph) job.var job.inputs job.base (arc_value job.before) job.first job.second
-    → base (frame_of old) (entries_of old) job.var < job.n → HasRoom job.var s grows old → IsBound by job s grows old new → IsReplica new
-bind-replica old new by job s grows is of res asked later room bound =
-    bound-replica old new by job is of (result-small old job s is of res) bound.same bound.entries (decide grows larger still) where
+    → base (frame_of old) (entries_of old) job.var < job.n → HasRoom job.var s grows old → IsBound by job s grows old new
+    → (v : Entry) → new.journal.items ≡ old.journal.items ++ v ∷ [] → IsSuited (length old.counts) (arc_value old.graph) v → IsReplica new
+bind-replica old new by job s grows is of res asked later room bound v items fits =
+    bound-replica old new by job is of (result-small old job s is of res) bound.same bound.entries (decide grows larger still) v items fits where
       X : Frame
       X = frame_of old
 

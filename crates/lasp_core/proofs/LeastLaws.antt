@@ -18,6 +18,7 @@ use Rattle.model_core.proofs.ExtendLaws.{kept-fresh}
 use Rattle.lasp_core.specs.declared.replica.Replica.{Replica}
 use Rattle.lasp_core.specs.Replica.{frame_of, entries_of, parts_of, told, jobs_of, seen_process, IsReplica}
 use Rattle.lasp_core.proofs.ReplicaLaws.{replica-kept}
+use Rattle.lasp_core.proofs.SuitLaws.{suited-none}
 
 -- ---- lists of one value
 
@@ -65,7 +66,7 @@ fresh-frame g me nodes r h i = record { opening = opening i; replica = h.me_is i
 
 pub fresh-replica : (g : List Decl) (me nodes : ℕ) (r : Replica) → readings.IsGraph g → me < nodes → nodes ≤ 8 → IsFresh g me nodes r → IsReplica r
 fresh-replica g me nodes r lawful member few h =
-    replica-kept X [] r (fresh-frame g me nodes r h) h.entries kept (legal-start X lawful member) held opened counted where
+    replica-kept X [] r (fresh-frame g me nodes r h) h.entries kept (legal-start X lawful member) held opened counted (suited-none (length r.counts) (arc_value r.graph) r.journal.items h.entries) where
       X : Frame
       X = record { opening = g; replica = me; nodes = nodes }
 

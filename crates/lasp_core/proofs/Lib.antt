@@ -1,4 +1,5 @@
 pub mod ReplicaLaws
+pub mod SuitLaws
 pub mod LeastLaws
 pub mod ExtendLaws
 pub mod UpdateLaws

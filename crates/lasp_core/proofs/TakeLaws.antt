@@ -40,6 +40,7 @@ use Rattle.lasp_core.specs.Entries.{entry_of}
 use Rattle.lasp_core.specs.Replica.{base_of, jobs_of, frame_of, entries_of, busy_of, told, parts_of, IsReplica}
 use Rattle.lasp_core.specs.Jobs.{counted_up, AreShared, AreInputsOf, IsOwn, IsJobNow, HasStarted, HasStopped}
 use Rattle.lasp_core.proofs.ReplicaLaws.{replica-kept}
+use Rattle.lasp_core.proofs.SuitLaws.{suited-same}
 use Rattle.lasp_core.proofs.SettledLaws.{base-found, jobs-found, process-derived, history-found, AreInputs}
 
 -- ---- a process that is busy once more or less
@@ -82,6 +83,7 @@ turned-sound y p q old new ok t =
     (subst (λ (w : List Decl). IsHeld (length old.counts) w (peer_of (frame_of old) (entries_of old))) (sym g) ok.held)
     (subst (λ (n : ℕ). n ≤ length (arc_value new.graph)) (sym t.opening_same) (subst (λ (w : List Decl). old.opening ≤ length w) (sym g) ok.opened))
     (subst (λ (w : List ℕ). length w ≤ 8) (sym t.counts_same) ok.few)
+    (suited-same old new (ap length t.counts_same) g (λ i. (t.journal_same i).items) ok.suited)
 
 turned-busy : (y : ℕ) (p q : Process) (old new : Replica) → HasTurned y p q old new → busy_of new ≡ slice_set (busy_of old) y q.busy
 turned-busy y p q old new t = ap (map jobs_of) t.turned ∙ map-set jobs_of old.processes.items y (Some q)

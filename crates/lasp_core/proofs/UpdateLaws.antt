@@ -53,6 +53,7 @@ use Rattle.lasp_core.specs.declared.refused.UpdateRefused.{UpdateRefused}
 use Rattle.lasp_core.specs.declared.refused.UpdateRefused.TheVariants as update
 use Rattle.lasp_history.proofs.KeptLaws.{where-ok}
 use Rattle.lasp_core.proofs.ReplicaLaws.{frame-same, replica-kept}
+use Rattle.lasp_core.proofs.SuitLaws.{suited-same, suited-more}
 
 -- ---- kinds and shapes
 
@@ -125,17 +126,28 @@ history-there r is x low = let many : length (map told r.histories.items) ≡ le
 pub state-found : (states : List Held) (x y : ℕ) (s t : State) → y ≡ x → slice_get states y ≡ Some (held_of s) → t ≡ s → held_at states x ≡ held_of t
 state-found states x y s t e found same = ap (λ (i : ℕ). held_at states i) (sym e) ∙ get_or_from_slice_get states y (held_of s) _ found ∙ sym (ap (λ (u : State). held_of u) same)
 
+-- entries as plain data
+abbrev pub entries_from : List Entry → List model.Entry
+entries_from entries = map entry_of entries
+
+-- an update as an entry
+abbrev pub update_entry : ℕ → ℕ → Op → Entry
+update_entry by x o = record { by = by; what = act.Update x o }
+
 -- the same replica but for what its histories have made ready
 pub stays : (old new : Replica) → IsReplica old → arc_value new.graph ≡ arc_value old.graph → new.opening ≡ old.opening → new.me ≡ old.me → new.counts ≡ old.counts → new.states ≡ old.states
-    → map told new.histories.items ≡ map told old.histories.items → map seen new.processes.items ≡ map seen old.processes.items → busy_of new ≡ busy_of old → entries_of new ≡ entries_of old → Stays old new
-stays old new is graph opening me counts states histories bases busy entries = record {
+    → map told new.histories.items ≡ map told old.histories.items → map seen new.processes.items ≡ map seen old.processes.items → busy_of new ≡ busy_of old → new.journal.items ≡ old.journal.items → Stays old new
+stays old new is graph opening me counts states histories bases busy items = record {
   sound = replica-kept (frame_of old) (entries_of old) new frame entries (subst (λ (p : Parts). IsKept (frame_of old) (entries_of old) p) (sym parts) is.kept) is.legal
       (subst (λ (g : List Decl). IsHeld (length old.counts) g (peer_of (frame_of old) (entries_of old))) (sym graph) is.held)
-      (omega (arith, is.opened, opening, longs)) (omega (arith, is.few, wide));
+      (omega (arith, is.opened, opening, longs)) (omega (arith, is.few, wide)) (suited-same old new wide graph items is.suited);
   frame = frame;
   entries = entries;
   busy = busy;
 } where
+  entries : entries_of new ≡ entries_of old
+  entries = ap entries_from items
+
   longs : length (arc_value new.graph) ≡ length (arc_value old.graph)
   longs = ap (λ (g : List Decl). length g) graph
 
@@ -242,10 +254,6 @@ refusal r x o s d fits found content large size =
 pub state-same : (s t u : State) → s ≡ u → t ≡ u → (d : State) → size_of (join_contents (content_of t) (content_of d)) ≡ size_of (join_contents (content_of s) (content_of d))
 state-same s t u a b d = ap (λ (v : State). size_of (join_contents (content_of v) (content_of d))) (b ∙ sym a)
 
--- entries as plain data
-abbrev pub entries_from : List Entry → List model.Entry
-entries_from entries = map entry_of entries
-
 -- what a state joined in leaves, with the memory to write it down
 pub prepared : (x y : ℕ) (old new : Replica) (s t d : State) (covered : Bool) → y ≡ x → held_at old.states x ≡ held_of s → held_at old.states x ≡ held_of t → (IsTrue covered ↔ IsContentAtMost (content_of d) (content_of s))
     → IsReplica old → x < length (arc_value old.graph) → (before after : Kept) → before ≡ get_or old.histories.items x before → after.history ≡ before.history → IsTrue after.prepared
@@ -343,9 +351,12 @@ is-update nodes g x (op.Join s) small format source e =
 pub updated : (old mid new : Replica) (by x entry : ℕ) (o : Op) (d : State) (grows : Bool) → IsReplica old → IsSmall (length old.counts) o → IsInFormat o → IsGain old x o d → IsPrepared x (held_of d) grows old mid
     → arc_value new.graph ≡ arc_value mid.graph → new.opening ≡ mid.opening → new.me ≡ mid.me → new.counts ≡ slice_set old.counts old.me (count_at old.counts old.me + 1) → new.states ≡ mid.states
     → entry ≡ length (entries_of old) → map told new.histories.items ≡ recorded grows x entry mid.histories.items → new.processes.items ≡ mid.processes.items
-    → entries_of new ≡ entries_of old ++ peer.entry by (model.Update x (op_of o)) ∷ [] → Goes (peer.entry by (model.Update x (op_of o))) old new
-updated old mid new by x entry o d grows is within format gain ready graph opening me counts states here histories processes entries = record {
-  sound = replica-kept X h' new frame entries kept' legal' held' (omega (arith, is.opened, opening, ready.opening, longs)) (omega (arith, is.few, wide));
+    → entries_of new ≡ entries_of old ++ peer.entry by (model.Update x (op_of o)) ∷ [] → (kept_op : Op) → new.journal.items ≡ old.journal.items ++ update_entry by x kept_op ∷ [] → shape_for (length old.counts) kept_op ≡ shape_for (length old.counts) o
+    → Goes (peer.entry by (model.Update x (op_of o))) old new
+updated old mid new by x entry o d grows is within format gain ready graph opening me counts states here histories processes entries kept_op items shape = record {
+  sound = replica-kept X h' new frame entries kept' legal' held' (omega (arith, is.opened, opening, ready.opening, longs)) (omega (arith, is.few, wide))
+      (suited-more old new (update_entry by x kept_op) wide graphs items is.suited
+      (record { declared = gain.declared; suits = subst (λ (shape : Shape). IsTrue (is_shape shape (shape_of (length old.counts) (kind_at (arc_value old.graph) x)))) (sym shape) gain.suits }));
   frame = frame;
   entries = entries;
   busy = ap (λ (ps : List (Option Process)). map jobs_of ps) (processes ∙ ready.processes);
@@ -439,10 +450,6 @@ counted old mid i k new me counts place found set_is =
     let there : count_at mid.counts i ≡ k = get_or_from_slice_get mid.counts i k 0 found in
     set_is ∙ ap (λ (n : ℕ). slice_set mid.counts i (n + 1)) (sym there) ∙ (λ j. slice_set (counts j) ((place ∙ me) j) (count_at (counts j) ((place ∙ me) j) + 1))
 
--- an update as an entry
-abbrev pub update_entry : ℕ → ℕ → Op → Entry
-update_entry by x o = record { by = by; what = act.Update x o }
-
 pub entries-many : (old mid : List Entry) (n : ℕ) → mid ≡ old → n ≡ length mid → n ≡ length (map entry_of old)
 entries-many old mid n same many = many ∙ ap (λ (es : List Entry). length es) same ∙ sym (length-map old entry_of)
 
@@ -453,3 +460,7 @@ pushed r old mid new by x o own same done items copy =
     ap (λ (es : List Entry). map entry_of es) (where-ok r new (mid ++ update_entry by x own ∷ []) mid done items)
     ∙ map-append entry_of mid (update_entry by x own ∷ [])
     ∙ (λ i. map entry_of (same i) ++ peer.entry by (model.Update x (copy i)) ∷ [])
+
+-- the entry of the update stands behind the others
+pub written : {A E : Type 0} (r : Result A E) (old mid new : List Entry) (by x : ℕ) (own : Op) → mid ≡ old → IsOk r → new ≡ (if is_ok r then mid ++ update_entry by x own ∷ [] else mid) → new ≡ old ++ update_entry by x own ∷ []
+written r old mid new by x own same done items = where-ok r new (mid ++ update_entry by x own ∷ []) mid done items ∙ ap (λ (es : List Entry). es ++ update_entry by x own ∷ []) same

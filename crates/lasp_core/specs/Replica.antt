@@ -1,5 +1,6 @@
 -- A replica as its journal and what it keeps beside it, and what its calls leave.
-use Rattle.std.specs.Prelude.{◌≡◌, ℕ, ◌+◌, ◌≤◌, nat_lt, nat_le, Bool, false, not, IsTrue, if◌then◌else◌, List, [], ◌∷◌, ◌++◌, length, map, take, slice_index_or, Option, Some, None, is_some, Result, Ok, Err}
+use Rattle.std.specs.Prelude.{◌≡◌, ℕ, ◌+◌, ◌<◌, ◌≤◌, nat_lt, nat_le, Bool, false, not, IsTrue, if◌then◌else◌, List, [], ◌∷◌, ◌++◌, length, map, take, slice_index_or, Option, Some, None, is_some, Result, Ok, Err}
+use Rattle.std.specs.List.{AllByRecursion}
 use Rattle.std.specs.Option.{option_map}
 use Rattle.std.specs.Arc.{arc_value}
 use Rattle.model_states.specs.Counts.{count_at}
@@ -29,6 +30,9 @@ use Rattle.lasp_history.specs.History.{History, Growth}
 use Rattle.lasp_history.specs.Kept as kept
 use Rattle.lasp_core.specs.Entries.{entry_of}
 use Rattle.model_core.specs.Parts.{Base, Parts, IsKept, history_at}
+use Rattle.lasp_core.specs.declared.entry.Act.{Act}
+use Rattle.lasp_core.specs.declared.entry.Act.TheVariants as act
+use Rattle.lasp_core.specs.declared.entry.Entry.{Entry}
 use Rattle.lasp_core.specs.declared.process.Process.{Process}
 use Rattle.lasp_core.specs.declared.replica.Replica.{Replica}
 use Rattle.lasp_core.specs.declared.refused.UpdateRefused.{UpdateRefused}
@@ -76,6 +80,33 @@ no_kept = kept.kept [] [] [] false
 abbrev pub kept_at : List kept.Kept → ℕ → kept.Kept
 kept_at histories x = slice_index_or histories x no_kept
 
+-- the shape of the variables that an operation is for, among so many nodes
+abbrev pub shape_for : ℕ → Op → Shape
+shape_for nodes (op.Add v) = set
+shape_for nodes (op.Remove v) = set
+shape_for nodes (op.Insert v) = grow
+shape_for nodes (op.Inc by) = counter nodes
+shape_for nodes (op.Max n) = register
+shape_for nodes (op.Join s) = state.shape_of (arc_value s)
+
+-- the operation is one for variables of the kind
+abbrev pub is_for : ℕ → Op → Kind → Bool
+is_for nodes o k = is_shape (shape_for nodes o) (shape_of nodes k)
+
+-- an update's operation is one for its variable, which is declared: a state that it joins in is of the variable's kind
+pub record SuitsVar (nodes : ℕ) (g : List Decl) (x : ℕ) (o : Op) : Type 0 where
+  pub declared : x < length g
+  pub suits : IsTrue (is_for nodes o (kind_at g x))
+
+abbrev pub SuitsAct : ℕ → List Decl → Act → Type 0
+SuitsAct nodes g (act.Update x o) = SuitsVar nodes g x o
+SuitsAct nodes g (act.Deliver number m) = Unit {0}
+SuitsAct nodes g (act.Bind y n) = Unit {0}
+SuitsAct nodes g (act.Extend d) = Unit {0}
+
+abbrev pub IsSuited : ℕ → List Decl → Entry → Type 0
+IsSuited nodes g e = SuitsAct nodes g e.what
+
 -- what it keeps is what its journal says, which is legal, and its sources may stand in messages
 pub record IsReplica (r : Replica) : Type 0 where
   pub kept : IsKept (frame_of r) (entries_of r) (parts_of r)
@@ -83,6 +114,7 @@ pub record IsReplica (r : Replica) : Type 0 where
   pub held : IsHeld (length r.counts) (arc_value r.graph) (peer_of (frame_of r) (entries_of r))
   pub opened : r.opening ≤ length (arc_value r.graph)
   pub few : length r.counts ≤ 8
+  pub suited : AllByRecursion (IsSuited (length r.counts) (arc_value r.graph)) r.journal.items
 
 -- the replica after an entry
 pub record Goes (e : model.Entry) (old new : Replica) : Type 0 where
@@ -115,19 +147,6 @@ IsSmall nodes (op.Insert v) = IsOfWidth 1 (val_of v)
 IsSmall nodes (op.Inc by) = Unit {0}
 IsSmall nodes (op.Max n) = Unit {0}
 IsSmall nodes (op.Join s) = IsTrue (is_source (kind_of (arc_value s))) → IsSource nodes (kind_of (arc_value s)) (state.content_of (arc_value s))
-
--- the shape of the variables that an operation is for, among so many nodes
-abbrev pub shape_for : ℕ → Op → Shape
-shape_for nodes (op.Add v) = set
-shape_for nodes (op.Remove v) = set
-shape_for nodes (op.Insert v) = grow
-shape_for nodes (op.Inc by) = counter nodes
-shape_for nodes (op.Max n) = register
-shape_for nodes (op.Join s) = state.shape_of (arc_value s)
-
--- the operation is one for variables of the kind
-abbrev pub is_for : ℕ → Op → Kind → Bool
-is_for nodes o k = is_shape (shape_for nodes o) (shape_of nodes k)
 
 -- why replica p of so many refuses an update whatever its variable holds, if it does: the first of these
 abbrev pub update_check : ℕ → ℕ → List Decl → List ℕ → ℕ → Op → Option UpdateRefused

@@ -23,7 +23,7 @@ ghost use Rattle.lasp_graph.specs.Decl.{decl_of};
 ghost use Rattle.lasp_graph.specs.States.{contents_of, held_at};
 ghost use Rattle.lasp_graph.specs.Evaluated.{number_by};
 ghost use Rattle.lasp_core.specs.Entries.{entry_of, read_of};
-ghost use Rattle.lasp_core.specs.Replica.{IsSmall, update_refusal, IsAnswered, IsDelivered};
+ghost use Rattle.lasp_core.specs.Replica.{IsSmall, IsSuited, update_refusal, IsAnswered, IsDelivered};
 ghost use Rattle.lasp_core.specs.Jobs.{IsUnclean, IsFirst, IsNext, Lacks, IsJobOf, IsJobNow, IsResultOf};
 ghost use Rattle.lasp_core.specs.Core.{fresh_core, IsOpen, opened_read, opened, closed, rows_of, taken, returned, IsSettled, declared, IsStateOf, AreOfKind, AreAscending, AreInOrder};
 
@@ -287,10 +287,11 @@ impl Core {
         self.replica.journal.len() as u64
     }
 
-    /// The entry at a place of the journal, counted from 0.
+    /// The entry at a place of the journal, counted from 0. The operation of an update is one for its variable: a state that it joins in is of the variable's kind.
     pub fn entry_at(&self, i: u64) -> &Entry
         requires { i < length self.now.entries }
-        ensures { slice_get self.now.entries i ≡ Some (entry_of result.now) }
+        ensures entry { slice_get self.now.entries i ≡ Some (entry_of result.now) }
+        ensures suited { IsSuited self.now.frame.nodes (journal.graph self.now.frame self.now.entries) result.now }
     {
         &self.replica.journal[i as usize]
     }

@@ -1,6 +1,6 @@
 //! Updates of a replica's sources.
 
-ghost use Rattle.std.specs.Prelude.{◌≡◌, ◌<◌, IfOk, OnOk, OnErr, Ok, Err, IsTrue, FitsSigned, length, map};
+ghost use Rattle.std.specs.Prelude.{◌≡◌, ℕ, ◌<◌, IfOk, OnOk, OnErr, Ok, Err, IsTrue, FitsSigned, length, map};
 ghost use mir.Syntax.{w64};
 ghost use Rattle.std.specs.Arc.{arc_value};
 ghost use Rattle.model_graph.specs.Graph.{kind_at, is_source};
@@ -15,7 +15,7 @@ ghost use Rattle.lasp_graph.specs.Kind.{kind_of};
 ghost use Rattle.lasp_graph.specs.States.{contents_of, held_of, held_at, AreJoinable};
 ghost use Rattle.lasp_history.specs.History.{AreBelow};
 ghost use Rattle.lasp_core.specs.Update.{IsInFormat, IsGain, IsPrepared, recorded};
-ghost use Rattle.lasp_core.specs.Replica.{IsReplica, Goes, Stays, IsSmall, is_for, update_refusal, IsAnswered, update_check, refused, told, kept_at};
+ghost use Rattle.lasp_core.specs.Replica.{IsReplica, Goes, Stays, IsSmall, shape_for, is_for, update_refusal, IsAnswered, update_check, refused, told, kept_at};
 
 use super::sizes::{joined_size, news};
 use super::{MOST_ROWS, MOST_UPDATES, Replica};
@@ -30,7 +30,8 @@ use std::sync::Arc;
 
 /// A copy of an operation; a state that is joined in is shared.
 pub(super) fn copied(alloc: Global, op: &Op) -> Result<Op, AllocError>
-    ensures { IfOk result (λ o. op_of o ≡ op_of op.now) }
+    ensures op { IfOk result (λ o. op_of o ≡ op_of op.now) }
+    ensures shape { IfOk result (λ o. (nodes : ℕ) → shape_for nodes o ≡ shape_for nodes op.now) }
 {
     match op {
         Op::Add(value) => Ok(Op::Add(value.try_clone(alloc)?)),

@@ -54,7 +54,7 @@ stop-requires-clause-replica c =
       bases = c.rebase.ensures.bases ∙ (λ i. slice_set (map seen_process r.processes.items) (v i) (Some (base_on (n i) (inputs i))));
       entries = ap (map entry_of) c.write_down.ensures ∙ map-append entry_of items _ ∙ (λ i. map entry_of items ++ bind_entry c.args.by (v i) (n i) ∷ []);
     } in
-    bind-replica r new c.args.by c.args.job (arc_value c.args.state) c.args.grows c.requires.replica c.requires.job c.requires.result c.args.job.asked c.requires.later c.requires.room bound
+    bind-replica r new c.args.by c.args.job (arc_value c.args.state) c.args.grows c.requires.replica c.requires.job c.requires.result c.args.job.asked c.requires.later c.requires.room bound _ c.write_down.ensures tt
 
 pub stop-requires-clause-derived : goal.stop-requires-clause-derived
 stop-requires-clause-derived c =

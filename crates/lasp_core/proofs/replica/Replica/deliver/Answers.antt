@@ -50,8 +50,9 @@ returns-clause-ok c =
     let counts : c.raise.new.counts ≡ larger c.args.self.now.counts (arc_value c.args.message.now).counts = c.raise.ensures ∙ ap (larger c.args.self.now.counts) (c.counts-2.ensures ∙ ap (λ (m : Message). m.counts) c.deref-6.ensures) in
     let v : Entry = record { by = c.args.by; what = act.Deliver c.args.number c.in_ok-share.share } in
     let room : IsOk c.push.result = search rules in
+    let items : c.push.new.self.items ≡ c.args.self.now.journal.items ++ v ∷ [] =
+    where-ok c.push.result c.push.new.self.items (c.reserve.new.self.items ++ v ∷ []) c.reserve.new.self.items room c.push.ensures.items ∙ ap (λ (es : List Entry). es ++ v ∷ []) c.reserve.ensures.items in
     let entries : map entry_of c.push.new.self.items ≡ map entry_of c.args.self.now.journal.items ++ entry c.args.by (Deliver c.args.number (arc_value c.args.message.now)) ∷ [] =
-    pushed c.args.self.now.journal.items c.push.new.self.items v (entry c.args.by (Deliver c.args.number (arc_value c.args.message.now)))
-    (where-ok c.push.result c.push.new.self.items (c.reserve.new.self.items ++ v ∷ []) c.reserve.new.self.items room c.push.ensures.items ∙ ap (λ (es : List Entry). es ++ v ∷ []) c.reserve.ensures.items)
+    pushed c.args.self.now.journal.items c.push.new.self.items v (entry c.args.by (Deliver c.args.number (arc_value c.args.message.now))) items
     (ap (λ (m : Message). entry c.args.by (Deliver c.args.number m)) c.in_ok-share.ensures) in
-    goes c.args.self.now _ c.requires c.args.by c.args.number (arc_value c.args.message.now) c.join_sources.new.histories.items c.in_ok-grow.grow.items message wide begins c.join_sources.ensures.told joined recorded refl refl refl refl counts entries
+    goes c.args.self.now _ c.requires c.args.by c.args.number (arc_value c.args.message.now) c.join_sources.new.histories.items c.in_ok-grow.grow.items message wide begins c.join_sources.ensures.told joined recorded refl refl refl refl counts entries v items tt

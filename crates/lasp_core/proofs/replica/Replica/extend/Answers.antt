@@ -9,7 +9,7 @@ use Rattle.lasp_graph.specs.Decl.{decl_of}
 use Rattle.lasp_graph.specs.States.{Held, held_of}
 use Rattle.lasp_core.specs.Entries.{entry_of}
 use Rattle.lasp_core.specs.Replica.{told, jobs_of, seen_process}
-use Rattle.lasp_core.proofs.ExtendLaws.{pushed, last-decl, replica-grows}
+use Rattle.lasp_core.proofs.ExtendLaws.{pushed, written, last-decl, replica-grows}
 use Rattle.lasp_core.proofs.replica.Replica.extend.Goals as goal
 
 pub returns-clause-ok : goal.returns-clause-ok
@@ -42,3 +42,4 @@ returns-clause-ok c =
       entries = pushed entry_of c.push-4.result c.push-4.new.self.items c.reserve-3.new.self.items old.journal.items _ (entry c.args.by (model.Extend d))
           (c.push-4.ensures.succeeds journal_fits) c.push-4.ensures.items c.in_ok-reserve-3.ensures.items (ap (λ (a : Decl). entry c.args.by (model.Extend a)) c.in_ok-own.ensures);
     })
+    _ (written c.push-4.result c.push-4.new.self.items c.reserve-3.new.self.items old.journal.items _ (c.push-4.ensures.succeeds journal_fits) c.push-4.ensures.items c.in_ok-reserve-3.ensures.items) tt

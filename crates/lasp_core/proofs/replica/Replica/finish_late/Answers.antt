@@ -1,4 +1,4 @@
-use Rattle.std.proofs.Common.{List, [], ◌∷◌, ◌++◌, map, refl, sym, ap, subst, ◌∙◌}
+use Rattle.std.proofs.Common.{◌≡◌, List, [], ◌∷◌, ◌++◌, map, refl, sym, ap, subst, ◌∙◌}
 use Rattle.std.proofs.lemmas.List.{map-append}
 use Rattle.std.specs.Arc.{arc_value}
 use Rattle.model_graph.specs.Lawful.{IsDerived}
@@ -26,8 +26,9 @@ stop-requires-clause-replica c =
       processes = r.processes;
       journal = c.write_down.new.journal;
     } in
+    let written : c.write_down.new.journal.items ≡ items ++ entry ∷ [] = c.write_down.ensures ∙ ap (λ (es : List Entry). es ++ entry ∷ []) c.reserve.ensures.items in
     late-replica r new c.args.by c.args.job c.requires.replica c.requires.job c.requires.small c.requires.late (record { graph = refl; opening = refl; me = refl; counts = refl })
-    (ap (map entry_of) (c.write_down.ensures ∙ ap (λ (es : List Entry). es ++ entry ∷ []) c.reserve.ensures.items) ∙ map-append entry_of items (entry ∷ []) ∙ (λ i. map entry_of items ++ bind_entry c.args.by (v i) (n i) ∷ [])) refl
+    (ap (map entry_of) written ∙ map-append entry_of items (entry ∷ []) ∙ (λ i. map entry_of items ++ bind_entry c.args.by (v i) (n i) ∷ [])) refl entry written tt
 
 pub stop-requires-clause-derived : goal.stop-requires-clause-derived
 stop-requires-clause-derived c =

@@ -1,7 +1,7 @@
 use Rattle.std.proofs.Common.{arith, refl, sym, ap, ◌∙◌}
 use Rattle.std.specs.Arc.{arc_value}
 use Rattle.lasp_graph.specs.States.{Held}
-use Rattle.lasp_core.proofs.UpdateLaws.{state-there, state-found, stays, on-err, told-still, prepared, entries_from}
+use Rattle.lasp_core.proofs.UpdateLaws.{state-there, state-found, stays, on-err, told-still, prepared}
 use Rattle.lasp_core.proofs.replica.Replica.join_gain.Goals as goal
 
 pub at-requires : goal.at-requires
@@ -23,7 +23,7 @@ news-requires c =
 pub returns-in_err-reserve-clause-err : goal.returns-in_err-reserve-clause-err
 returns-in_err-reserve-clause-err c =
     on-err c.from_residual-in_err-reserve.result (stays c.args.self.now _ c.requires.replica refl refl refl refl refl
-    (told-still c.args.self.now.histories.items c.args.var c.index_mut.result.now c.prepare.new.self c.index_mut.ensures.value c.prepare.ensures.history) refl refl (ap entries_from c.reserve.ensures.items))
+    (told-still c.args.self.now.histories.items c.args.var c.index_mut.result.now c.prepare.new.self c.index_mut.ensures.value c.prepare.ensures.history) refl refl c.reserve.ensures.items)
 
 pub join_at-requires-clause-within : goal.join_at-requires-clause-within
 join_at-requires-clause-within c = state-there c.args.self.now c.requires.replica c.args.var c.from-x.result c.from-x.ensures c.requires.within
@@ -31,7 +31,7 @@ join_at-requires-clause-within c = state-there c.args.self.now c.requires.replic
 pub returns-in_err-join_at-clause-err : goal.returns-in_err-join_at-clause-err
 returns-in_err-join_at-clause-err c =
     on-err c.from_residual-in_err-join_at.result (stays c.args.self.now _ c.requires.replica refl refl refl refl c.in_err-join_at.ensures.err
-    (told-still c.args.self.now.histories.items c.args.var c.index_mut.result.now c.prepare.new.self c.index_mut.ensures.value c.prepare.ensures.history) refl refl (ap entries_from c.reserve.ensures.items))
+    (told-still c.args.self.now.histories.items c.args.var c.index_mut.result.now c.prepare.new.self c.index_mut.ensures.value c.prepare.ensures.history) refl refl c.reserve.ensures.items)
 
 pub returns-clause-ok : goal.returns-clause-ok
 returns-clause-ok c =
