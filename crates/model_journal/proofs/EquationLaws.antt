@@ -18,7 +18,8 @@ use Rattle.model_graph.specs.Graph.{Kind, OrSet, GSet, Counter, MaxReg, Union, P
 use Rattle.model_graph.specs.Evaluation.{content_at, rows_at, equation}
 use Rattle.model_graph.specs.Lawful.{width_limit, width_at, width_of, shape_of}
 use Rattle.model_graph.proofs.EquationLaws.{equation-ordered}
-use Rattle.model_journal.specs.Legal.{IsTokenOf, IsValidValue, FitsTop, IsValid}
+use Rattle.model_states.specs.Register.{FitsTop}
+use Rattle.model_journal.specs.Legal.{IsTokenOf, IsValidValue, IsValid}
 
 -- a row of width w with tokens of the replicas
 pub record IsFit (nodes w : ℕ) (v : Val) (t : Tok) : Type 0 where

@@ -15,7 +15,6 @@ pub mod WordLaws
 pub mod EntryLaws
 pub mod LegalLaws
 pub mod MessageLaws
-pub mod ExampleLaws
 pub mod KeepLaws
 pub mod LimitLaws
 pub mod CallerLaws

@@ -22,7 +22,8 @@ use Rattle.model_graph.specs.Graph.{Kind, OrSet, GSet, Counter, MaxReg, Union, P
 use Rattle.model_graph.specs.Evaluation.{least_of}
 use Rattle.model_graph.specs.Lawful.{width_limit, shape_of}
 use Rattle.model_graph.proofs.PlaceLaws.{below-or-not, equal-numbers}
-use Rattle.model_journal.specs.Legal.{IsTokenOf, IsValidValue, FitsTop, IsValid, IsOpOf, IsSmallOp, count_limit}
+use Rattle.model_states.specs.Register.{FitsTop}
+use Rattle.model_journal.specs.Legal.{IsTokenOf, IsValidValue, IsValid, IsOpOf, IsSmallOp, count_limit}
 
 positive-max : (a b : ℕ) → 0 < max a b → (0 < a) ⊎ (0 < b)
 positive-max a b h = choose (below-or-not 0 a) where

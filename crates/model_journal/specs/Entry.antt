@@ -19,6 +19,10 @@ pub record Entry : Type 0 where
   pub by : ℕ
   pub act : Act
 
+-- an entry from its parts
+abbrev pub entry : ℕ → Act → Entry
+entry by act = record { by = by; act = act }
+
 -- what no entry changes: the graph that the replica opened with, its number, and how many replicas there are
 pub record Frame : Type 0 where
   pub opening : List Decl

@@ -1,5 +1,5 @@
 -- Which journals a replica may have.
-use Rattle.std.specs.Prelude.{◌≡◌, ℕ, ℤ, ◌<◌, ◌≤◌, IsTrue, List, [], ◌∷◌, ◌++◌, length, map, Option, Some, None, FitsSigned}
+use Rattle.std.specs.Prelude.{◌≡◌, ℕ, ◌<◌, ◌≤◌, IsTrue, List, [], ◌∷◌, ◌++◌, length, map, FitsSigned}
 use mir.Syntax.{w64}
 use Rattle.model_values.specs.Value.{Val}
 use Rattle.model_values.specs.Size.{HasSmallInts, IsOfWidth, IsTokenOfWidth}
@@ -10,6 +10,7 @@ use Rattle.model_states.specs.Counts.{count_max, count_at}
 use Rattle.model_states.specs.Content.{Content, IsOrdered, size_of, row_limit}
 use Rattle.model_states.specs.Shape.{HasShape}
 use Rattle.model_states.specs.Update.{Op, Add, Remove, Insert, Inc, Max, Join}
+use Rattle.model_states.specs.Register.{FitsTop}
 use Rattle.model_graph.specs.Graph.{Kind, OrSet, GSet, Counter, MaxReg, Decl, is_source, kind_at}
 use Rattle.model_graph.specs.Evaluation.{content_at}
 use Rattle.model_graph.specs.Lawful.{width_at, widths, MayFollow, IsGraph, IsDerived, sources_among, shape_of}
@@ -31,11 +32,6 @@ IsTokenOf nodes (both t s) = IsTokenOf nodes t × IsTokenOf nodes s
 -- a value that a variable of width w may hold: not too large, and each number of 64 bits
 abbrev pub IsValidValue : ℕ → Val → Type 0
 IsValidValue w v = IsOfWidth w v × HasSmallInts v
-
--- a register has a number of 64 bits, or none yet
-abbrev pub FitsTop : Option ℤ → Type 0
-FitsTop None = Unit {0}
-FitsTop (Some n) = FitsSigned w64 n
 
 -- a content that a variable of a kind and of width w may have among so many replicas
 pub record IsValid (nodes : ℕ) (k : Kind) (w : ℕ) (s : Content) : Type 0 where

@@ -3,5 +3,4 @@ pub mod Journal
 pub mod Clean
 pub mod Legal
 pub mod Callers
-pub mod Example
 pub mod Message

@@ -5,7 +5,6 @@ mod callers;
 mod clean;
 mod derived;
 mod entries;
-mod example;
 mod legal;
 mod message;
 mod prefixes;
@@ -21,7 +20,6 @@ pub use entries::{
     a_bind_changes_its_variable, a_declaration_adds_a_variable, a_delivery_changes_sources,
     an_update_changes_its_variable, versions_count_where_a_variable_grew,
 };
-pub use example::a_late_bind_changes_nothing;
 pub use legal::{
     binds_apply_the_versions_that_they_read, lawful_entries_stay_valid_within_the_limits,
     legal_entries_go_one_by_one,

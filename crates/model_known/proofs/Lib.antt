@@ -13,5 +13,4 @@ pub mod DirectLaws
 pub mod KnownLaws
 pub mod AlikeLaws
 pub mod ReportLaws
-pub mod ExampleLaws
 pub mod LimitLaws

@@ -3,4 +3,3 @@ pub mod Follow
 pub mod Holds
 pub mod Owner
 pub mod Direct
-pub mod Example

@@ -37,7 +37,7 @@ inputs-sets g (Fold a op place lift) h x e = subst (IsEarlierSet g) (sym e) (ear
 name-new : (g : List Decl) (d : Decl) → IsNext g d → (x : ℕ) → x < length g → name_at g x ≢ d.name
 name-new g d next x within = next.new x (decl_at g x) (slice_get-get_or g x no_decl within)
 
-may_follow : (g : List Decl) (d : Decl) → length g < graphs.variable_limit → IsNext g d → graphs.MayFollow g d
+pub may_follow : (g : List Decl) (d : Decl) → length g < graphs.variable_limit → IsNext g d → graphs.MayFollow g d
 may_follow g d room next = record {
   new = name-new g d next;
   earlier = λ x i. (inputs-sets g d.kind next.inputs x i).earlier;

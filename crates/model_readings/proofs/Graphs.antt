@@ -8,7 +8,7 @@ use Rattle.model_functions.specs.Library.{Library, place_named, operations_at}
 use Rattle.model_graph.specs.Chain.{or_else}
 use Rattle.model_graph.specs.Graph.{Kind, OrSet, GSet, Counter, MaxReg, Union, Product, Intersection, Map, Filter, Fold, FoldOp, Sum, Xor, Modulo, Decl, is_set, decl_at}
 use Rattle.model_graph.specs.Lawful.{variable_limit, width_limit, width_of, widths, IsFoldOp, IsKind}
-use Rattle.lasp_value.specs.Name.{is_name}
+use Rattle.model_values.specs.Name.{is_name}
 use Rattle.model_readings.specs.declared.graph_why.GraphWhy.TheVariants as why
 use Rattle.model_readings.specs.Tree.{json_of, list_of, text_at, number_at, is_word_at, has_items, two}
 use Rattle.model_readings.specs.Graph.{Form, orset, gset, counter, maxreg, union, product, intersection, map, filter, fold, Written, names_of, modulo_limit, modulo_by, modulo_of, fold_op_of, operand, folded, fold_form, form_of, written, written_of, place_of, known, stored, function_named, inputs_read, input_read, function_read, pair_read, applied_read, kind_read, declaration, decl_read, next_read, numbered, decls_read, tree_read, graph_of}
@@ -137,7 +137,7 @@ kind-sound lib before (filter x p) kind h e = subst IsKind (function-read before
 kind-sound lib before (fold x op l) kind h e = subst IsKind (function-read before lib.lifts (λ i place lift. Fold i op place lift) x l kind e).made h
 
 -- whichever of two ways is taken
-if-some : {A : Type 0} (P : A → Type 0) (b : Bool) (o p : Option A) → IfSome o P → IfSome p P → IfSome (if b then o else p) P
+pub if-some : {A : Type 0} (P : A → Type 0) (b : Bool) (o p : Option A) → IfSome o P → IfSome p P → IfSome (if b then o else p) P
 if-some P true o p h k = h
 if-some P false o p h k = k
 

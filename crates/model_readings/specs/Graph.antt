@@ -8,7 +8,7 @@ use Rattle.model_functions.specs.Library.{Library, place_named, operations_at}
 use Rattle.model_graph.specs.Chain.{◌>>=◌, check, or_else, refusing}
 use Rattle.model_graph.specs.Graph.{Kind, OrSet, GSet, Counter, MaxReg, Union, Product, Intersection, Map, Filter, Fold, FoldOp, Sum, Xor, Modulo, Decl, is_set, decl_at}
 use Rattle.model_graph.specs.Lawful.{variable_limit, width_limit, width_of, widths}
-use Rattle.lasp_value.specs.Name.{is_name}
+use Rattle.model_values.specs.Name.{is_name}
 use Rattle.model_readings.specs.declared.graph_why.GraphWhy.{GraphWhy}
 use Rattle.model_readings.specs.declared.graph_why.GraphWhy.TheVariants as why
 use Rattle.model_readings.specs.Tree.{json_of, list_of, text_at, number_at, is_word_at, has_items, two}

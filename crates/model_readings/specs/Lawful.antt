@@ -3,7 +3,7 @@ use Rattle.std.specs.Prelude.{◌≡◌, ◌≢◌, ℕ, ◌≤◌, List, length
 use Rattle.model_functions.specs.Library.{Library, operations_at}
 use Rattle.model_graph.specs.Graph.{Kind, OrSet, GSet, Counter, MaxReg, Union, Product, Intersection, Map, Filter, Fold, Decl, is_set}
 use Rattle.model_graph.specs.Lawful.{variable_limit, width_limit, width_of, widths, IsKind}
-use Rattle.lasp_value.specs.Name.{is_name}
+use Rattle.model_values.specs.Name.{is_name}
 
 -- the variable is declared, and is a set
 pub record IsSetAt (g : List Decl) (x : ℕ) : Type 0 where

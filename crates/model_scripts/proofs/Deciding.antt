@@ -11,8 +11,8 @@ use Rattle.std.proofs.lemmas.Slice.Eq.{bytes_eq-Decides}
 use Rattle.serde_json.specs.Data.{Data, Num}
 use Rattle.serde_json.specs.Find.{as_u64, as_i64}
 use Rattle.model_values.specs.Value.{Val}
-use Rattle.lasp_value.specs.Json.{read_value}
-use Rattle.lasp_value.specs.declared.refused.ValueRefused.{ValueRefused}
+use Rattle.model_values.specs.Json.{read_value}
+use Rattle.model_values.specs.declared.value_why.ValueWhy.{ValueWhy}
 use Rattle.model_states.specs.Threshold.{is_counted, has_values, has_rows}
 use Rattle.model_graph.specs.Graph.{Kind, Decl, no_decl, decl_at, kind_at, is_source}
 use Rattle.model_graph.specs.Lawful.{shape_of, variable_limit}
@@ -141,9 +141,9 @@ right-Decides nodes p (declare d) some marked = always
 
 -- ---- what the word brings
 
-value-step : (d : Data) (r : Result Val ValueRefused) → read_value d ≡ r → Decides (is_ok r) (IsValue d)
+value-step : (d : Data) (r : Result Val ValueWhy) → read_value d ≡ r → Decides (is_ok r) (IsValue d)
 value-step d (Ok v) e = (λ h. (v, e), λ v. refl)
-value-step d (Err w) e = (λ h. absurd cc, λ v. let both : ◌≡◌ {A = Result Val ValueRefused} (Err w) (Ok v.0) = sym e ∙ v.1 in absurd cc)
+value-step d (Err w) e = (λ h. absurd cc, λ v. let both : ◌≡◌ {A = Result Val ValueWhy} (Err w) (Ok v.0) = sym e ∙ v.1 in absurd cc)
 
 value-Decides : (d : Data) → Decides (is_value d) (IsValue d)
 value-Decides d = value-step d (read_value d) refl

@@ -3,7 +3,7 @@ use Rattle.std.proofs.Common.{subst}
 use Rattle.std.specs.Prelude.{◌≡◌, ℕ, List, Bool, true, false, Option, Some, None, is_none, nat_le, Result, Ok, Err}
 use Rattle.serde_json.specs.Data.{Data}
 use Rattle.model_functions.specs.Library.{Library}
-use Rattle.lasp_value.specs.Name.{is_name}
+use Rattle.model_values.specs.Name.{is_name}
 use Rattle.model_graph.specs.Chain.{◌>>=◌, check, or_else}
 use Rattle.model_graph.specs.Graph.{Kind, Union, Product, Intersection, Map, Filter, Fold, Decl, is_set, decl_at}
 use Rattle.model_graph.specs.Lawful.{width_limit, width_of, widths}

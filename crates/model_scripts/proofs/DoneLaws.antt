@@ -16,7 +16,7 @@ use Rattle.model_scripts.specs.Parts.{until_of, command_of, decl_of}
 use Rattle.model_scripts.specs.Check.{command_limit, is_orset, is_gset, is_counter, is_maxreg, suits_bound, is_mark_of, is_brought_bound, has_room_beside, has_room, count_of, holds, mark_in_bound}
 use Rattle.model_scripts.specs.Needs.{CanDeclare}
 use Rattle.model_scripts.proofs.CommandLaws.{Passing}
-use Rattle.model_scripts.proofs.FollowLaws.{next-follows}
+use Rattle.model_readings.proofs.Forms.{may_follow}
 use Rattle.model_scripts.proofs.PartLaws.{index-within, step-within, count-within, top-within, place-within, mark-within, value-within, values-within}
 use Rattle.model_scripts.proofs.Small.{IsSmallBound, IsSmallWord}
 
@@ -79,7 +79,7 @@ module _ (lib : Library) (nodes : ℕ) (p : Progress) (same : length p.names ≡
   may-be-done (read t b) can a small = ((index-within nodes t.node a.node, place-within p.stage.graph t.var a.var), may-ask t b a.known a.right)
   may-be-done (await t b) can a small = ((index-within nodes t.node a.node, place-within p.stage.graph t.var a.var), may-ask t b a.known a.right)
   may-be-done (declare d) can a small =
-      next-follows p.stage.graph (decl_of lib p.stage.graph d) (ltb-true _ _ (room-beside p (declare d) a.room))
+      may_follow p.stage.graph (decl_of lib p.stage.graph d) (ltb-true _ _ (room-beside p (declare d) a.room))
       (next-decl_read lib p.stage.graph d (decl_of lib p.stage.graph d) (declared-read lib p.stage.graph d can)).next
 
   small-until : (b : Bound) → IsSmallBound b → is_brought_bound b ≡ true → IsSmallUntil (until_of p b)

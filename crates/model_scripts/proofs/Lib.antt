@@ -6,10 +6,6 @@ pub mod WordForms
 pub mod CommandLaws
 pub mod Small
 pub mod PartLaws
-pub mod FollowLaws
 pub mod DoneLaws
 pub mod Reached
-pub mod ExampleLaws
-pub mod BoundLaws
-pub mod ByteLaws
 pub mod GrowthLaws

@@ -11,9 +11,9 @@ use Rattle.serde_json.specs.Data.{Num, unsigned, negative, float, Data, null, bo
 use Rattle.serde_json.specs.Find.{as_u64, as_i64}
 use Rattle.model_values.specs.Value.{Val, int}
 use Rattle.model_values.specs.Size.{leaves, text_bytes, IsOfWidth, HasSmallInts}
-use Rattle.lasp_value.specs.Json.{paired, written_value, written_pair, is_source_value, if_source_value, read_value}
-use Rattle.lasp_value.specs.declared.refused.ValueRefused.{ValueRefused}
-use Rattle.lasp_value.specs.declared.refused.ValueRefused.TheVariants as value_why
+use Rattle.model_values.specs.Json.{paired, written_value, written_pair, is_source_value, if_source_value, read_value}
+use Rattle.model_values.specs.declared.value_why.ValueWhy.{ValueWhy}
+use Rattle.model_values.specs.declared.value_why.ValueWhy.TheVariants as value_why
 use Rattle.model_graph.specs.Graph.{Decl}
 use Rattle.model_readings.specs.Graph.{place_of}
 use Rattle.model_readings.proofs.Names.{found_within}
@@ -87,7 +87,7 @@ mark-within names m some = mark-step names m (position (λ n. bytes_eq m n) name
 -- ---- values
 
 -- the value, if there is one, has numbers of 64 bits
-abbrev Gives64 : Result Val ValueRefused → Type 0
+abbrev Gives64 : Result Val ValueWhy → Type 0
 Gives64 (Ok v) = HasSmallInts v
 Gives64 (Err e) = Unit {0}
 
@@ -100,7 +100,7 @@ number-64 (unsigned n) h = whole-64 n (nat_lt n (2 ^ 63)) refl
 number-64 (negative z) h = h
 number-64 (float x) h = tt
 
-paired-64 : (r s : Result Val ValueRefused) → Gives64 r → Gives64 s → Gives64 (paired r s)
+paired-64 : (r s : Result Val ValueWhy) → Gives64 r → Gives64 s → Gives64 (paired r s)
 paired-64 (Ok a) (Ok b) h k = (h, k)
 paired-64 (Ok a) (Err e) h k = tt
 paired-64 (Err e) s h k = tt
@@ -126,7 +126,7 @@ width-tests v true false e f h = absurd cc
 width-tests v false b e f h = absurd cc
 
 -- a value that passes the test of its size
-abbrev sized : Val → Bool → Result Val ValueRefused
+abbrev sized : Val → Bool → Result Val ValueWhy
 sized v b = if b then Ok v else Err value_why.TooBig
 
 source-test : (v : Val) (b : Bool) → is_source_value v ≡ b → HasSmallInts v → is_ok (sized v b) ≡ true
@@ -134,7 +134,7 @@ source-test : (v : Val) (b : Bool) → is_source_value v ≡ b → HasSmallInts 
 source-test v true e h some = (width-tests v _ _ refl refl e, h)
 source-test v false e h some = absurd cc
 
-source-step : (r : Result Val ValueRefused) → Gives64 r → is_ok (if_source_value r) ≡ true → IsSourceValue (result_unwrap_or (if_source_value r) (int (pos 0)))
+source-step : (r : Result Val ValueWhy) → Gives64 r → is_ok (if_source_value r) ≡ true → IsSourceValue (result_unwrap_or (if_source_value r) (int (pos 0)))
 source-step (Ok v) h some = source-test v (is_source_value v) refl h some
 source-step (Err e) h some = absurd cc
 

@@ -12,8 +12,9 @@ use Rattle.serde_json.specs.Data.{Num, unsigned, negative, float, Data, null, bo
 use Rattle.serde_json.specs.Read.{is_integer, float_of, number_from, number_of, of_json, of_items, of_members, max_depth, read}
 use Rattle.serde_json.specs.Find.{at, get_item, as_number, as_array}
 use Rattle.model_readings.specs.Tree.{json_of, list_of, number_at, text_at, is_word_at, has_items}
+use Rattle.model_readings.proofs.Graphs.{if-some}
 use Rattle.model_scripts.specs.Word.{Bound, at_least, above, count, added, removed, Word, list_at, bound_of, word_of}
-use Rattle.model_scripts.proofs.WordForms.{if-some, size-some, map-some, then-some, any-some, Has, IsFormed, formed-some, some-here, word-has}
+use Rattle.model_scripts.proofs.WordForms.{size-some, map-some, then-some, any-some, Has, IsFormed, formed-some, some-here, word-has}
 
 -- the number fits 64 bits
 abbrev pub IsSmallNumber : Num → Type 0

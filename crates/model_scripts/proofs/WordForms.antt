@@ -5,12 +5,8 @@ use Rattle.serde_json.specs.Data.{Data, Num}
 use Rattle.serde_json.specs.Find.{at}
 use Rattle.model_readings.specs.Tree.{text_at, number_at, is_word_at, has_items, two}
 use Rattle.model_readings.specs.Graph.{Written, written_of}
+use Rattle.model_readings.proofs.Graphs.{if-some}
 use Rattle.model_scripts.specs.Word.{target_of, Bound, Word, add, remove, insert, inc, max, print, mark, bind, send, deliver, sync, settle, read, await, declare, bound_of, named, formed, word_of}
-
--- whichever of two ways is taken
-pub if-some : {A : Type 0} (P : A → Type 0) (b : Bool) (o p : Option A) → IfSome o P → IfSome p P → IfSome (if b then o else p) P
-if-some P true o p h k = h
-if-some P false o p h k = k
 
 pub size-some : {A : Type 0} (P : A → Type 0) (b : Bool) (o : Option A) → IfSome o P → IfSome (if b then o else None) P
 size-some P true o h = h

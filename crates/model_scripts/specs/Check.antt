@@ -3,7 +3,7 @@ use Rattle.std.specs.Prelude.{ℕ, ◌&&◌, ◌==◌, nat_lt, List, [], ◌∷�
 use Rattle.std.specs.List.{list_all}
 use Rattle.serde_json.specs.Data.{Data, Num}
 use Rattle.serde_json.specs.Find.{as_u64, as_i64}
-use Rattle.lasp_value.specs.Json.{read_value}
+use Rattle.model_values.specs.Json.{read_value}
 use Rattle.model_states.specs.Threshold.{is_counted, has_values, has_rows}
 use Rattle.model_graph.specs.Chain.{◌>>=◌, check}
 use Rattle.model_graph.specs.Graph.{Kind, OrSet, GSet, Counter, MaxReg, Decl, is_source}

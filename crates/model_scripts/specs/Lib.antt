@@ -5,4 +5,3 @@ pub mod Check
 pub mod Script
 pub mod Needs
 pub mod First
-pub mod Example

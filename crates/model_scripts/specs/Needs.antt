@@ -3,7 +3,7 @@ use Rattle.std.specs.Prelude.{◌≡◌, ℕ, ℤ, ◌<◌, ◌≤◌, List, [],
 use Rattle.serde_json.specs.Data.{Data, Num}
 use Rattle.serde_json.specs.Find.{as_u64, as_i64}
 use Rattle.model_values.specs.Value.{Val}
-use Rattle.lasp_value.specs.Json.{read_value}
+use Rattle.model_values.specs.Json.{read_value}
 use Rattle.model_states.specs.Threshold.{is_counted, has_values, has_rows}
 use Rattle.model_functions.specs.Library.{Library}
 use Rattle.model_graph.specs.Graph.{Kind, Decl, is_source, kind_at}

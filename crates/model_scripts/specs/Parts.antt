@@ -4,7 +4,7 @@ use Rattle.std.specs.Result.{result_unwrap_or}
 use Rattle.serde_json.specs.Data.{Data, Num}
 use Rattle.serde_json.specs.Find.{as_u64, as_i64}
 use Rattle.model_values.specs.Value.{Val, int}
-use Rattle.lasp_value.specs.Json.{read_value}
+use Rattle.model_values.specs.Json.{read_value}
 use Rattle.model_functions.specs.Library.{Library}
 use Rattle.model_graph.specs.Graph.{Decl, no_decl}
 use Rattle.model_readings.specs.Graph.{decl_read}

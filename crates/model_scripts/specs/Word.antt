@@ -2,7 +2,7 @@
 use Rattle.std.specs.Prelude.{ℕ, List, if◌then◌else◌, Option, Some, None, is_some, option_map, option_and_then, codes}
 use Rattle.serde_json.specs.Data.{Data, Num}
 use Rattle.serde_json.specs.Find.{at, as_array}
-use Rattle.lasp_value.specs.Name.{is_name}
+use Rattle.model_values.specs.Name.{is_name}
 use Rattle.model_readings.specs.Tree.{list_of, text_at, number_at, is_word_at, has_items, two}
 use Rattle.model_readings.specs.Graph.{written_of}
 

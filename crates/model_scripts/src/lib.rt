@@ -3,18 +3,12 @@
 
 mod accepted;
 mod causes;
-mod examples;
 mod growth;
 mod refused;
 mod script_why;
 
 pub use accepted::accepted_scripts_are_lawful;
 pub use causes::{causes_of_commands, commands_are_read_by_their_words};
-pub use examples::{
-    a_script_of_all_words_is_read, commands_are_refused_by_their_first_check,
-    commands_past_their_bounds_are_refused, declarations_of_scripts_are_refused_as_in_graphs,
-    scripts_are_read_from_their_bytes, scripts_without_a_beginning_are_refused,
-};
 pub use growth::graphs_grow_by_declarations;
 pub use refused::scripts_are_refused_at_their_first_refusal;
 pub use script_why::ScriptWhy;

@@ -126,14 +126,6 @@ within-unite s t e v = subst (λ (u : List Val). held s v ≤ held u v) e (unite
 pub within-antisymmetric : (s t : List Val) → AreAscending s → AreAscending t → IsWithin s t → IsWithin t s → s ≡ t
 within-antisymmetric s t up_s up_t a b = same_from_held s t up_s up_t (λ v. omega (arith, a v, b v))
 
-pub unite-value : (s : List Val) (v : Val) → AreAscending s → unite s (v ∷ []) ≡ add v s
-unite-value s v up = same_from_held (unite s (v ∷ [])) (add v s) (ascending-of_values (s ++ v ∷ [])) (ascending-add v s up)
-    (λ w. omega (arith, held-unite s (v ∷ []) w, held-add v s w))
-
-pub unite-append : (s xs ys : List Val) → unite s (xs ++ ys) ≡ unite (unite s xs) ys
-unite-append s xs ys = same_from_held (unite s (xs ++ ys)) (unite (unite s xs) ys) (ascending-of_values (s ++ (xs ++ ys))) (ascending-of_values (unite s xs ++ ys))
-    (λ v. omega (arith, held-unite s (xs ++ ys) v, held-append xs ys v, held-unite (unite s xs) ys v, held-unite s xs v))
-
 -- ---- visible values
 
 pub ascending-visible : (s : List Row) → AreAscending (visible s)

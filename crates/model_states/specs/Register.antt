@@ -1,6 +1,7 @@
 -- The greatest number so far, or none yet.
-use Rattle.std.specs.Prelude.{ℕ, ℤ, ◌≤ℤ◌, Option, None, Some, Bool, true, false, int_le, if◌then◌else◌}
+use Rattle.std.specs.Prelude.{ℕ, ℤ, ◌≤ℤ◌, Option, None, Some, Bool, true, false, int_le, if◌then◌else◌, FitsSigned}
 use Rattle.std.specs.Int.{int_max}
+use mir.Syntax.{w64}
 
 -- the later of two states: none yet stands below each number
 abbrev pub later : Option ℤ → Option ℤ → Option ℤ
@@ -24,3 +25,8 @@ is_not_later (Some m) (Some n) = int_le m n
 abbrev pub reaches : Option ℤ → ℤ → ℕ
 reaches None n = 0
 reaches (Some m) n = if int_le n m then 1 else 0
+
+-- a number of 64 bits, or none yet
+abbrev pub FitsTop : Option ℤ → Type 0
+FitsTop None = Unit {0}
+FitsTop (Some n) = FitsSigned w64 n

@@ -5,3 +5,7 @@ pub mod Token
 pub mod Size
 pub mod Text
 pub mod Row
+pub mod Name
+pub mod Faults
+pub mod Told
+pub mod Json

@@ -1,12 +1,18 @@
 //! What values, tokens and rows are: the definitions that every crate above speaks of, their orders and their codes. There is nothing to run here: a function's contract is a group of laws.
 #![tactic(auto)]
 
+mod json;
+mod value_why;
+
 ghost use Rattle.std.specs.Prelude.{◌≡◌};
 ghost use Rattle.std.specs.Cmp.{IsTotalOrder};
 ghost use Rattle.std.specs.declared.cmp.Ordering.TheVariants.{Equal};
 ghost use Rattle.model_values.specs.Value.{Val, val_cmp};
 ghost use Rattle.model_values.specs.Token.{Tok, tok_cmp};
 ghost use Rattle.model_values.specs.Row.{Key, key_cmp};
+
+pub use json::values_are_refused_at_their_first_offence;
+pub use value_why::ValueWhy;
 
 /// Values, tokens and keys are in total orders that tell any two of them apart.
 #[tactic(auto, using(crate::specs::Row::orders))]
