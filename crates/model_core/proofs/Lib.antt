@@ -1,7 +1,11 @@
-pub mod KindLaws
-pub mod PartLaws
-pub mod OneLaws
-pub mod ExtendLaws
-pub mod DeliveryLaws
+pub mod SourceLaws
+pub mod PeerLaws
+pub mod GraphLaws
+pub mod ValidLaws
+pub mod BaseLaws
+pub mod MessageLaws
+pub mod LegalLaws
+pub mod HeldLaws
 pub mod ReadLaws
-pub mod OrderLaws
+pub mod CoreLaws
+pub mod CleanLaws

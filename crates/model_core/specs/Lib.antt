@@ -1,3 +1,2 @@
-pub mod Parts
-pub mod Delivery
-pub mod Reading
+pub mod Peer
+pub mod Core

@@ -1,8 +1,18 @@
-//! What a replica keeps beside its journal, and that it stays what the journal says: the states, their histories, and what each process last read. There is nothing to run here: each function's contract is a group of laws.
+//! What the code of a replica rests on: what its journal makes of it in the world, which entries keep the journal legal, and when its derived variables are clean. There is nothing to run here: each function's contract is a group of laws.
 #![tactic(auto)]
 
-mod kept;
-mod reading;
+mod binds;
+mod cores;
+mod legal;
+mod peers;
 
-pub use kept::{binds_are_kept, declarations_are_kept, deliveries_are_kept, updates_are_kept};
-pub use reading::{bases_tell_what_is_clean, histories_tell_what_changed, news_are_what_is_gained};
+pub use binds::{
+    binds_make_clean, binds_raise_the_base, binds_set_their_variable,
+    clean_variables_are_evaluated, first_entries_stand_below,
+};
+pub use cores::{entries_keep_the_core, entries_release_what_they_met, reads_stay_met};
+pub use legal::{
+    contents_are_within_the_limits, messages_have_the_first_sources, these_entries_are_legal,
+    what_is_read_is_valid,
+};
+pub use peers::{entries_change_the_graph, entries_change_the_peer};

@@ -5,7 +5,7 @@ use Rattle.model_functions.specs.Map.{mapped}
 use Rattle.model_sets.specs.Values.{visible}
 use Rattle.model_journal.specs.Journal.{vals, val}
 use Rattle.model_journal.specs.Clean.{version, applied, IsClean}
-use Rattle.model_journal.specs.Example.{example_frame, example_entries}
+use Rattle.model_examples.specs.Journals.{example_frame, example_entries}
 use Rattle.model_examples.specs.Binds.{entries_in_order, contents_with, union_of_one, union_of_both, map_frame, map_entries, mapped_contents}
 
 pub early-vals : vals example_frame (take 3 entries_in_order) ≡ contents_with union_of_one

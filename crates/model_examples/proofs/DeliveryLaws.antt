@@ -3,7 +3,7 @@ use Rattle.std.proofs.Common.{◌≡◌, [], ◌∷◌, codes, Ok, refl}
 use Rattle.std.specs.Fmt.{digits}
 use Rattle.model_messages.specs.Spelling.{spelled}
 use Rattle.model_world.specs.World.{play}
-use Rattle.model_known.specs.Example.{example_graph}
+use Rattle.model_examples.specs.Losses.{example_graph}
 use Rattle.model_examples.specs.Case.{told, lines}
 use Rattle.model_examples.specs.Graphs.{set_graph, counter_graph}
 use Rattle.model_examples.specs.Deliveries.{crossing_script, late_script, repeated_script, unheard_script, lost_script}

@@ -7,3 +7,9 @@ pub mod GrowthLaws
 pub mod AdvertisementLaws
 pub mod BindLaws
 pub mod MapLaws
+pub mod JournalLaws
+pub mod LossLaws
+pub mod ByteLaws
+pub mod BoundLaws
+pub mod ScriptLaws
+pub mod FileLaws

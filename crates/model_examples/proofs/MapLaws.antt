@@ -8,10 +8,9 @@ use Rattle.model_states.specs.Update.{Add}
 use Rattle.model_graph.specs.Graph.{Decl, name_at, kind_at, is_set}
 use Rattle.model_graph.specs.Evaluation.{content_at}
 use Rattle.model_graph.specs.Lawful.{IsGraph}
-use Rattle.model_journal.specs.Entry.{Update, Bind, Entry}
+use Rattle.model_journal.specs.Entry.{Update, Bind, Entry, entry}
 use Rattle.model_journal.specs.Journal.{journal}
 use Rattle.model_journal.specs.Legal.{count_limit, IsWithinLimits, IsLegal}
-use Rattle.model_journal.specs.Example.{entry}
 use Rattle.model_journal.proofs.LimitLaws.{step-legal}
 use Rattle.model_examples.specs.Processes.{map_graph}
 use Rattle.model_examples.specs.Binds.{map_frame, map_entries}

@@ -4,8 +4,7 @@ use Rattle.model_values.specs.Value.{int}
 use Rattle.model_values.specs.Token.{single}
 use Rattle.model_states.specs.Content.{Content, of_set}
 use Rattle.model_states.specs.Update.{Add}
-use Rattle.model_journal.specs.Entry.{Update, Bind, Entry, Frame}
-use Rattle.model_journal.specs.Example.{entry}
+use Rattle.model_journal.specs.Entry.{Update, Bind, Entry, Frame, entry}
 use Rattle.model_examples.specs.Processes.{map_graph}
 
 -- the entries of the example, but the bind that read less comes first

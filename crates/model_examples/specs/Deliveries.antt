@@ -2,7 +2,7 @@
 use Rattle.std.specs.Prelude.{pos, [], ◌∷◌, ◌++◌}
 use Rattle.model_values.specs.Value.{int}
 use Rattle.model_world.specs.Command.{Add, Remove, Inc, Send, Deliver, Sync, Print, Script}
-use Rattle.model_known.specs.Example.{example_commands, example_repeats}
+use Rattle.model_examples.specs.Losses.{example_commands, example_repeats}
 
 -- node 1 hears of 1 and removes it, while node 0 adds it again; then they learn of each other
 abbrev pub crossing_script : Script

@@ -8,3 +8,7 @@ pub mod Sources
 pub mod Growth
 pub mod Advertisements
 pub mod Binds
+pub mod Journals
+pub mod Losses
+pub mod Scripts
+pub mod Files

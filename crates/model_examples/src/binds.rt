@@ -6,7 +6,7 @@ ghost use Rattle.model_sets.specs.Values.{visible};
 ghost use Rattle.model_journal.specs.Journal.{vals, val};
 ghost use Rattle.model_journal.specs.Clean.{version, applied, IsClean};
 ghost use Rattle.model_journal.specs.Legal.{IsLegal};
-ghost use Rattle.model_journal.specs.Example.{example_frame, example_entries};
+ghost use Rattle.model_examples.specs.Journals.{example_frame, example_entries};
 ghost use Rattle.model_examples.specs.Binds.{entries_in_order, contents_with, union_of_one, union_of_both, map_frame, map_entries, mapped_contents};
 
 /// A bind that read one value gives the union that value, and the bind that read both brings the other. Where the bind that read both comes first, the one that read less changes nothing; the contents at the end are the same.

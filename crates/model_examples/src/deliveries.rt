@@ -1,7 +1,7 @@
 //! Cases of two nodes and the messages between them.
 
 ghost use Rattle.std.specs.Prelude.{◌≡◌, [], ◌∷◌, codes, Ok};
-ghost use Rattle.model_known.specs.Example.{example_graph};
+ghost use Rattle.model_examples.specs.Losses.{example_graph};
 ghost use Rattle.model_examples.specs.Case.{told, lines};
 ghost use Rattle.model_examples.specs.Graphs.{set_graph, counter_graph};
 ghost use Rattle.model_examples.specs.Deliveries.{crossing_script, late_script, repeated_script, unheard_script, lost_script};

@@ -2,8 +2,8 @@
 use Rattle.std.proofs.Common.{sym, ap, subst, ◌∙◌}
 use Rattle.std.specs.Prelude.{◌≡◌, ◌≢◌, ◌⊎◌, ℕ, List, Option, Some, None, option_and_then, Result, Ok, Err}
 use mathlib.Core.Logic.{inl, inr}
-use Rattle.lasp_edge.specs.Faults.{Rose}
-use Rattle.lasp_edge.specs.Told.{Sees, Appends}
+use Rattle.model_values.specs.Faults.{Rose}
+use Rattle.model_values.specs.Told.{Sees, Appends}
 use Rattle.model_program.specs.Plan.{Answer, Plan, Says, Reads, Comes, word_at, told_answer}
 use Rattle.model_program.specs.Follows.{View, Fails, Gives, Follows}
 use Rattle.model_program.specs.Line.{status_of}

@@ -2,4 +2,12 @@ pub mod PlanLaws
 pub mod AnswerLaws
 pub mod MergeLaws
 pub mod FormLaws
-pub mod ExampleLaws
+mod CauseLaws
+mod PlanCauses
+mod FirstLaws
+mod Firsts
+mod Failing
+mod NamedLaws
+mod KindLaws
+mod DeclarationLaws
+mod MergeCauses

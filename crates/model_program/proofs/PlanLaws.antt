@@ -4,8 +4,8 @@ use Rattle.std.specs.Prelude.{◌≡◌, ◌<◌, ◌≤◌, ℕ, List, length, 
 use mathlib.Core.Logic.{inl, inr}
 use Rattle.std.proofs.lemmas.Bool.{le-ltb, lt-ltb}
 use Rattle.model_graph.specs.Chain.{refusing}
-use Rattle.lasp_edge.specs.Faults.{Rose}
-use Rattle.lasp_edge.specs.Told.{Sees}
+use Rattle.model_values.specs.Faults.{Rose}
+use Rattle.model_values.specs.Told.{Sees}
 use Rattle.model_program.specs.Plan.{Answer, Plan, Says, Reads, checked, within, reading, file_limit, word_at}
 use Rattle.model_program.specs.Follows.{View, Fails, Gives, Follows, IsPartOf, Passes, Stops, Performs}
 use Rattle.model_program.specs.declared.refusal.Refusal.{Refusal}
@@ -37,7 +37,7 @@ follows-wider words v w (Reads f next) r part (inl fails) = inl (fails-wider wor
 follows-wider words v w (Reads f next) r part (inr (bytes, sees, rest)) =
     inr (bytes, subst (λ (told : Option (List ℕ)). Sees told bytes) (part.content (word_at words f)) sees, follows-wider words v w (next bytes) r part rest)
 
-abbrev choice : ℕ → List ℕ → Bool → Result (List ℕ) Refusal
+abbrev pub choice : ℕ → List ℕ → Bool → Result (List ℕ) Refusal
 choice f bytes long = if long then Err (TooLong f) else Ok bytes
 
 within-short : (f : ℕ) (bytes : List ℕ) → length bytes ≤ file_limit → within f bytes ≡ Ok bytes

@@ -1,7 +1,7 @@
 -- How a call ends by its answer: its status, what it wrote to `out`, and its line on `err`.
 use Rattle.std.specs.Prelude.{◌≡◌, ◌⊎◌, ℕ, List, Option, Result, Ok, Err, codes, ◌∷◌, []}
-use Rattle.lasp_edge.specs.Faults.{Rose}
-use Rattle.lasp_edge.specs.Told.{Appends, AppendsPrefix}
+use Rattle.model_values.specs.Faults.{Rose}
+use Rattle.model_values.specs.Told.{Appends, AppendsPrefix}
 use Rattle.model_world.specs.Line.{line}
 use Rattle.model_program.specs.Line.{status_of, line_of}
 use Rattle.model_program.specs.Plan.{Answer, Plan, Comes, word_at}

@@ -1,7 +1,7 @@
 -- What it means that a call follows its plan, though a read may fail and memory may be wanting.
 use Rattle.std.specs.Prelude.{◌≡◌, ◌<◌, ◌≤◌, ◌⊎◌, ℕ, List, length, Option, Result, Ok, Err}
-use Rattle.lasp_edge.specs.Faults.{Rose}
-use Rattle.lasp_edge.specs.Told.{Sees}
+use Rattle.model_values.specs.Faults.{Rose}
+use Rattle.model_values.specs.Told.{Sees}
 use Rattle.model_program.specs.Plan.{Plan, Says, Reads, word_at}
 use Rattle.model_program.specs.declared.refusal.Refusal.{Refusal}
 use Rattle.model_program.specs.declared.failure.Failure.{Failure}

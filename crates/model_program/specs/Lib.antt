@@ -6,4 +6,7 @@ pub mod Check
 pub mod Merge
 pub mod Program
 pub mod Listed
-pub mod Example
+pub mod Told
+pub mod First
+pub mod Named
+pub mod Declaration

@@ -1,15 +1,16 @@
-//! What the program answers to its words and files: definitions and laws, no code but the enums of its answers.
+//! What the program answers to its words and files: definitions and laws, and the causes of each answer; no code but the enums of its answers.
 #![tactic(auto)]
 
-mod examples;
+mod causes;
 mod failure;
 mod form;
 mod refusal;
 mod state_why;
 
-pub use examples::{
-    a_node_exports_its_message, files_are_joined_or_refused_at_a_place,
-    messages_of_a_graph_are_merged,
+pub use causes::{
+    causes_of_answers, causes_of_checks, causes_of_declarations, causes_of_exports,
+    causes_of_merges, causes_of_next_declarations, graphs_are_refused_at_their_first_refusal,
+    words_have_the_listed_forms,
 };
 pub use failure::Failure;
 pub use form::Form;

@@ -3,19 +3,13 @@ use Rattle.std.proofs.Common.{◌≡◌, ℕ, zero, suc, ◌-◌, ◌<◌, ◌�
 use Rattle.std.proofs.lemmas.Bool.{eqb-false}
 use Rattle.model_graph.specs.Chain.{◌>>=◌}
 use Rattle.model_wire.specs.declared.wire_why.WireWhy.TheVariants as why
-use Rattle.model_wire.specs.Reader.{Reading, Reader, counted, remade, made, kind_at}
+use Rattle.model_wire.specs.Reader.{Reading, Reader, remade, made, kind_at}
 use Rattle.model_wire.specs.Value.{signed_at, text_at, Part, int_part, text_part, pair_part, part_at}
 use Rattle.model_wire.proofs.Codecs.{passed}
+use Rattle.model_wire.proofs.ValueLaws.{pair_behind, behind_tag}
 
 abbrev second_part : ℕ → Part → Reader Part
 second_part depth a = made (pair_part a.value) (part_at depth a.pairs a.room)
-
-abbrev pair_behind : ℕ → ℕ → ℕ → Reader Part
-pair_behind depth pairs room = counted (part_at depth (pairs - 1) room) (second_part depth)
-
-abbrev behind_tag : ℕ → ℕ → ℕ → ℕ → ℕ × List ℕ → Reading Part
-behind_tag left depth pairs room tag =
-    cond (eqb tag.0 0) (made (int_part pairs room) signed_at tag.1) (cond (eqb tag.0 1) (made (text_part pairs room) (text_at room) tag.1) (cond (eqb pairs 0) (Err (left, why.Range)) (pair_behind depth pairs room tag.1)))
 
 abbrev IsFewer : ℕ → Reading Part → Type 0
 IsFewer pairs r = (p : Part × List ℕ) → r ≡ Ok p → p.0.pairs ≤ pairs

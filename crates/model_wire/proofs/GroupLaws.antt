@@ -19,6 +19,7 @@ use Rattle.model_wire.proofs.Codecs.{IsCodec, wide32, HasTested, tested_codec, H
 use Rattle.model_wire.proofs.ValueLaws.{HasRange, ranged_codec, within_range, in_range, value_codec}
 use Rattle.model_wire.proofs.RowLaws.{spelled_mark, token_codec}
 use Rattle.model_wire.proofs.SetLaws.{RowsRise, rows_known, rows_rise}
+use Rattle.model_wire.proofs.OrderLaws.{less}
 
 abbrev Mark : Type 0
 Mark = Tok × Bool
@@ -51,11 +52,6 @@ groups_back (r ∷ rows) = with_row_back r (groups_of rows) ∙ ap (λ (s : List
 abbrev Rise : ℕ → Option Val → List Group → Type 0
 Rise nodes before [] = Unit {0}
 Rise nodes before (g ∷ gs) = (is_above val_cmp before g.value ≡ true) × IsSourceValue g.value × (1 ≤ length g.tokens) × MarksRise nodes None g.tokens × Rise nodes (Some g.value) gs
-
-less : (o : Ordering) → is_lt o ≡ true → o ≡ Less
-less Less h = refl
-less Equal h = absurd cc
-less Greater h = absurd cc
 
 -- the tokens of one value, and what stands behind its rows
 marks_rows : (nodes : ℕ) (v : Val) (t : Mark) (marks : List Mark) (rest : List Row) → IsSourceValue v → MarksRise nodes (Some t) marks → ((s : Mark) → RowsRise nodes (Some (row_of v s)) rest)

@@ -8,3 +8,5 @@ pub mod SourceLaws
 pub mod MessageLaws
 pub mod Within
 pub mod DepthLaws
+pub mod Steady
+pub mod PrefixLaws

@@ -11,13 +11,14 @@ use Rattle.model_states.specs.Content.{Content, of_set, of_grow, of_counts, of_t
 use Rattle.model_graph.specs.Graph.{Kind, OrSet, GSet, Counter, MaxReg, Union, Product, Intersection, Map, Filter, Fold}
 use Rattle.model_messages.specs.Message.{Sent}
 use Rattle.model_messages.specs.Spelling.{signed_number, spelled_values, spelled_rows, spelled_counts, spelled_top}
-use Rattle.lasp_value.specs.Name.{is_name}
+use Rattle.model_values.specs.Name.{is_name}
 use Rattle.model_wire.specs.declared.wire_why.WireWhy.TheVariants as why
 use Rattle.model_wire.specs.Reader.{bytes_at, nothing_at, tested, both_at, counted, made, list_at, ranged_at, kind_at}
 use Rattle.model_wire.specs.Value.{signed_at}
 use Rattle.model_wire.specs.Message.{single_rows_at, grouped_rows_at, rows_at, elements_at, limited_at, nothing_more, numbers_at, no_number, some_number, top_behind, top_at, Held, held_set, held_elements, held_counts, held_top, held_behind, held_at, name_at, source_made, source_at}
 use Rattle.model_wire.specs.Spelling.{spelled_single_rows, spelled_rows_in, spelled_content_in, spelled_source_in}
-use Rattle.model_wire.specs.Lawful.{IsNodes, AreRows, AreElements, AreAtMost, FitsTop, IsSource, IsSent}
+use Rattle.model_states.specs.Register.{FitsTop}
+use Rattle.model_wire.specs.Lawful.{IsNodes, AreRows, AreElements, AreAtMost, IsSource, IsSent}
 use Rattle.model_wire.proofs.Codecs.{Takes, IsCodec, IsLong, itself, bytes_codec, wide8, wide64, HasTested, tested_codec, HasBoth, spell_both, both_codec, spell_counted, HasCounted, counted_codec, made_codec, has_codec, spelled_codec, AllHave, HasMany, list_codec}
 use Rattle.model_wire.proofs.ValueLaws.{HasRange, ranged_codec, kind_codec, signed_codec, within_range, in_range}
 use Rattle.model_wire.proofs.SetLaws.{single_rows_codec, elements_codec}

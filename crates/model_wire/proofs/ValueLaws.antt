@@ -76,10 +76,10 @@ pub record HasPart (pairs room : ℕ) (p : Part) : Type 0 where
 abbrev PartRead : ℕ → ℕ → List ℕ → Part × List ℕ → Type 0
 PartRead pairs room bytes p = Takes bytes (spelled_value p.0.value) p.1 × HasPart pairs room p.0
 
-abbrev pair_behind : ℕ → ℕ → ℕ → Reader Part
+abbrev pub pair_behind : ℕ → ℕ → ℕ → Reader Part
 pair_behind depth pairs room = counted (part_at depth (pairs - 1) room) (λ a. made (pair_part a.value) (part_at depth a.pairs a.room))
 
-abbrev behind_tag : ℕ → ℕ → ℕ → ℕ → ℕ × List ℕ → Reading Part
+abbrev pub behind_tag : ℕ → ℕ → ℕ → ℕ → ℕ × List ℕ → Reading Part
 behind_tag left depth pairs room tag =
     cond (eqb tag.0 0) (made (int_part pairs room) signed_at tag.1) (cond (eqb tag.0 1) (made (text_part pairs room) (text_at room) tag.1) (cond (eqb pairs 0) (Err (left, why.Range)) (pair_behind depth pairs room tag.1)))
 

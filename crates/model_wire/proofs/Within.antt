@@ -9,13 +9,14 @@ use Rattle.model_values.specs.Row.{Row, row_cmp}
 use Rattle.model_graph.specs.Chain.{◌>>=◌}
 use Rattle.model_messages.specs.Message.{Sent, Message}
 use Rattle.model_messages.specs.Spelling.{Group}
-use Rattle.lasp_value.specs.Name.{is_name}
+use Rattle.model_values.specs.Name.{is_name}
 use Rattle.model_states.specs.Counts.{count_max}
 use Rattle.model_wire.specs.declared.wire_why.WireWhy.{WireWhy}
 use Rattle.model_wire.specs.declared.wire_why.WireWhy.TheVariants as why
 use Rattle.model_wire.specs.Reader.{Reading, Reader, bytes_at, nothing_at, if_passes, tested, paired, both_at, counted, remade, made, onto, list_at, between, number_at, ranged_at, kind_at, magic_at}
 use Rattle.model_wire.specs.Value.{signed_at, text_at, Part, int_part, text_part, pair_part, part_at, part_value, value_at, token_parts_at, token_made, token_at, row_made, row_at, is_above, mark_cmp, latest}
 use Rattle.model_wire.specs.Message.{row_limit, update_limit, source_limit, row_after_at, single_rows_at, token_after_at, tokens_at, Before, value_after_at, group_made, group_at, after_group, rows_of, groups_at, grouped_rows_at, rows_at, elements_at, limited_at, nothing_more, numbers_at, no_number, some_number, top_behind, top_at, Held, held_set, held_elements, held_counts, held_top, held_behind, held_at, name_at, source_made, source_at, any_source_at, nothing_of_sources, sources_at, nodes_at, counts_at, message_made, body_at, is_version, version_at, message_at, nothing_behind, read_message, placed, decoded_from, decoded}
+use Rattle.model_wire.proofs.ValueLaws.{pair_behind, behind_tag}
 
 -- what is left is no more than n, and so are the bytes from the failing field on
 abbrev pub Inside : {X : Type 0} → ℕ → Reading X → Type 0
@@ -87,13 +88,6 @@ signed_inside = made_inside ℕ ℤ (cast_signed w64) (number_at w64) (number_in
 text_inside : (room : ℕ) → IsInside (text_at room)
 unfolding text_at
 text_inside room = counted_inside ℕ (List ℕ) (ranged_at w16 0 room) (λ n. tested (bytes_at n) is_utf8 why.Text) (ranged_inside w16 0 room) (λ n. tested_inside (List ℕ) (bytes_at n) is_utf8 why.Text (bytes_inside n))
-
-abbrev pair_behind : ℕ → ℕ → ℕ → Reader Part
-pair_behind depth pairs room = counted (part_at depth (pairs - 1) room) (λ a. made (pair_part a.value) (part_at depth a.pairs a.room))
-
-abbrev behind_tag : ℕ → ℕ → ℕ → ℕ → ℕ × List ℕ → Reading Part
-behind_tag left depth pairs room tag =
-    cond (eqb tag.0 0) (made (int_part pairs room) signed_at tag.1) (cond (eqb tag.0 1) (made (text_part pairs room) (text_at room) tag.1) (cond (eqb pairs 0) (Err (left, why.Range)) (pair_behind depth pairs room tag.1)))
 
 part_inside : (depth pairs room : ℕ) → IsInside (part_at depth pairs room)
 unfolding part_at

@@ -1,5 +1,5 @@
 -- What has a spelling: the values, rows, sources and messages whose parts are in their ranges.
-use Rattle.std.specs.Prelude.{◌≡◌, ℕ, ℤ, ◌<◌, ◌≤◌, Bool, true, List, length, get_or, Option, Some, None, FitsSigned}
+use Rattle.std.specs.Prelude.{◌≡◌, ℕ, ◌<◌, ◌≤◌, Bool, true, List, length, get_or, FitsSigned}
 use Rattle.std.specs.List.{AllByRecursion}
 use Rattle.std.specs.Str.{is_utf8}
 use mir.Syntax.{w64}
@@ -10,9 +10,10 @@ use Rattle.model_values.specs.Row.{Row}
 use Rattle.model_sets.specs.Rows.{IsAscending}
 use Rattle.model_states.specs.Counts.{count_max}
 use Rattle.model_states.specs.Content.{Content, of_set, of_grow, of_counts, of_top}
+use Rattle.model_states.specs.Register.{FitsTop}
 use Rattle.model_graph.specs.Graph.{Kind, OrSet, GSet, Counter, MaxReg}
 use Rattle.model_messages.specs.Message.{Sent, Message}
-use Rattle.lasp_value.specs.Name.{is_name}
+use Rattle.model_values.specs.Name.{is_name}
 use Rattle.model_wire.specs.Message.{is_version}
 use Rattle.model_wire.specs.Spelling.{spelled_in}
 use Rattle.model_sets.specs.Values.{AreAscending}
@@ -64,11 +65,6 @@ pub record AreElements (values : List Val) : Type 0 where
 -- no count is above the most
 abbrev pub AreAtMost : ℕ → List ℕ → Type 0
 AreAtMost most counts = AllByRecursion (λ c. c ≤ most) counts
-
--- a register's number, if there is one, has 64 bits
-abbrev pub FitsTop : Option ℤ → Type 0
-FitsTop None = Unit {0}
-FitsTop (Some n) = FitsSigned w64 n
 
 -- what a source of a kind may hold; nothing but the part of its kind
 abbrev pub IsSource : ℕ → Kind → Content → Type 0

@@ -3,3 +3,4 @@ pub mod Value
 pub mod Message
 pub mod Lawful
 pub mod Spelling
+pub mod Prefix

@@ -10,7 +10,7 @@ use Rattle.model_graph.specs.Chain.{◌>>=◌}
 use Rattle.model_graph.specs.Graph.{Kind, OrSet, GSet, Counter, MaxReg}
 use Rattle.model_messages.specs.Message.{Sent, Message}
 use Rattle.model_messages.specs.Spelling.{Group}
-use Rattle.lasp_value.specs.Name.{is_name}
+use Rattle.model_values.specs.Name.{is_name}
 use Rattle.model_wire.specs.declared.wire_why.WireWhy.{WireWhy}
 use Rattle.model_wire.specs.declared.wire_why.WireWhy.TheVariants as why
 use Rattle.model_wire.specs.Reader.{Reader, bytes_at, nothing_at, tested, both_at, counted, made, list_at, number_at, ranged_at, kind_at, magic_at}

@@ -4,7 +4,7 @@ ghost use Rattle.std.specs.Prelude.{◌≡◌, ℕ, ◌≤◌, ◌++◌, [], tru
 ghost use Rattle.model_messages.specs.Message.{Message};
 ghost use Rattle.model_messages.specs.Spelling.{spelled};
 ghost use Rattle.model_wire.specs.declared.wire_why.WireWhy.{WireWhy};
-ghost use Rattle.model_wire.specs.Message.{is_version, decoded};
+ghost use Rattle.model_wire.specs.Message.{is_version, read_message, decoded};
 ghost use Rattle.model_wire.specs.Spelling.{spelled_in};
 ghost use Rattle.model_wire.specs.Lawful.{IsBytes, IsMessage, IsSpelledSo};
 
@@ -26,8 +26,9 @@ pub fn no_spelling_begins_another()
     ensures { (v w : ℕ) (m n : Message) (more : List ℕ) → is_version v ≡ true → is_version w ≡ true → IsMessage m → IsMessage n → spelled_in v m ++ more ≡ spelled_in w n → more ≡ [] }
 {}
 
-/// A refusal names a place among the bytes, or their end.
-#[tactic(auto, using(crate::proofs::Within::places_within))]
+/// A refusal names a place among the bytes, or their end: what is left from there on is no more than there was.
+#[tactic(auto, using(crate::proofs::Within::places_within, crate::proofs::Within::refused_within))]
 pub fn refusals_stand_within_the_bytes()
-    ensures { (bytes : List ℕ) (place : ℕ) (why : WireWhy) → decoded bytes ≡ Err (place, why) → place ≤ length bytes }
+    ensures place { (bytes : List ℕ) (place : ℕ) (why : WireWhy) → decoded bytes ≡ Err (place, why) → place ≤ length bytes }
+    ensures left { (bytes : List ℕ) (refusal : ℕ × WireWhy) → read_message bytes ≡ Err refusal → refusal.0 ≤ length bytes }
 {}

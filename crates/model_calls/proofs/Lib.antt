@@ -1,8 +1,0 @@
-pub mod MatchLaws
-pub mod TieLaws
-pub mod StepLaws
-pub mod RoundLaws
-pub mod RunLaws
-pub mod BindLaws
-pub mod CallLaws
-pub mod FedLaws

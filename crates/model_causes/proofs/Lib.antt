@@ -1,9 +1,0 @@
-mod CauseLaws
-mod PlanLaws
-mod FirstLaws
-mod Firsts
-mod Failing
-mod NamedLaws
-mod KindLaws
-mod DeclarationLaws
-mod MergeLaws

@@ -1,4 +1,0 @@
-pub mod Told
-pub mod First
-pub mod Named
-pub mod Declaration

@@ -1,5 +1,0 @@
-pub mod EachLaws
-pub mod SourceLaws
-pub mod HeldLaws
-pub mod SoundLaws
-pub mod StopLaws

@@ -1,0 +1,15 @@
+//! Why the program answers as it does, cause by cause: of its words and files, of a graph, and of one declaration. Why a script is refused is told by `model_scripts`.
+
+mod answers;
+mod declarations;
+mod exports;
+mod merges;
+mod refusals;
+mod words;
+
+pub use answers::{causes_of_answers, causes_of_checks};
+pub use declarations::{causes_of_declarations, causes_of_next_declarations};
+pub use exports::causes_of_exports;
+pub use merges::causes_of_merges;
+pub use refusals::graphs_are_refused_at_their_first_refusal;
+pub use words::words_have_the_listed_forms;

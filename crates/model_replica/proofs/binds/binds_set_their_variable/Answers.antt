@@ -1,5 +1,0 @@
-use Rattle.model_replica.proofs.BaseLaws.{bind-earlier}
-use Rattle.model_replica.proofs.binds.binds_set_their_variable.Goals as goal
-
-pub returns-clause-earlier : goal.returns-clause-earlier
-returns-clause-earlier c = bind-earlier

@@ -1,0 +1,13 @@
+pub mod EachLaws
+pub mod SourceLaws
+pub mod HeldLaws
+pub mod SoundLaws
+pub mod StopLaws
+pub mod MatchLaws
+pub mod TieLaws
+pub mod StepLaws
+pub mod RoundLaws
+pub mod RunLaws
+pub mod BindLaws
+pub mod CallLaws
+pub mod FedLaws
