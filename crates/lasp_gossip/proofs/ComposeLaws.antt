@@ -17,7 +17,8 @@ use Rattle.lasp_state.specs.State.{shape_of as shape}
 use Rattle.lasp_graph.specs.States.{Held, held_of, contents_of}
 use Rattle.lasp_graph.proofs.Evaluation.{content-held, shape-held}
 use Rattle.lasp_wire.specs.Sent.{kind_of, sent, message, with_source}
-use Rattle.lasp_gossip.specs.Exchange.{AreOfKind, IsBegun}
+use Rattle.lasp_graph.specs.States.{AreSourcesOfKind}
+use Rattle.lasp_gossip.specs.Exchange.{IsBegun}
 
 -- ---- states by their kinds
 
@@ -152,7 +153,7 @@ module _ (g : List Decl) (hs : List Held) (counts : List ℕ) where
     first (y ∷ xs) each = (each.0, first xs each.1)
 
   -- the source that a declaration and a state make is the variable's
-  pub source-is : (nodes x : ℕ) (d : Decl) (s : State) → AreOfKind nodes g hs → IsTrue (is_source d.kind) → slice_get g x ≡ Some d → slice_get hs x ≡ Some (held_of s) → sent d.name s ≡ source_at g (contents_of hs) x
+  pub source-is : (nodes x : ℕ) (d : Decl) (s : State) → AreSourcesOfKind nodes g hs → IsTrue (is_source d.kind) → slice_get g x ≡ Some d → slice_get hs x ≡ Some (held_of s) → sent d.name s ≡ source_at g (contents_of hs) x
   source-is nodes x d s kinds source declared held =
       let here : decl_at g x ≡ d = get_or_from_slice_get g x d no_decl declared in
       let kind : kind_at g x ≡ d.kind = ap (λ (e : Decl). e.kind) here in

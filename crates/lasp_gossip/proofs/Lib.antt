@@ -1,2 +1,2 @@
-pub mod SpelledLaws
+pub mod SizeLaws
 pub mod ComposeLaws

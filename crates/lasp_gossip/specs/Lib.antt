@@ -1,3 +1,2 @@
 pub mod Network
 pub mod Exchange
-pub mod Kept

@@ -1,25 +1,9 @@
--- The messages that were sent, each as its bytes.
-use Rattle.std.specs.Prelude.{◌≡◌, ℕ, ◌++◌, List, [], ◌∷◌, length, map, sum, Result, Ok, Err, refl}
+-- The messages that were sent, and how many bytes they have.
+use Rattle.std.specs.Prelude.{ℕ, ◌++◌, List, [], ◌∷◌, length, map, sum, refl}
 use Rattle.std.specs.Coded.{Coded, code_by, coded×, coded_ℕ, coded_list}
 use Rattle.model_messages.specs.Message.{Message}
 use Rattle.model_messages.specs.Spelling.{spelled}
-use Rattle.model_wire.specs.declared.wire_why.WireWhy.{WireWhy}
-use Rattle.model_wire.specs.Message.{decoded}
-use Rattle.model_wire.specs.Lawful.{IsMessage}
 use Rattle.lasp_wire.specs.Sent.{coded_message}
-
-abbrev pub or_nothing : Result Message (ℕ × WireWhy) → Message
-or_nothing (Ok m) = m
-or_nothing (Err e) = record { counts = []; sources = [] }
-
--- the message that bytes are; one of nothing where they are none
-unfoldable pub message_in : List ℕ → Message
-message_in bytes = or_nothing (decoded bytes)
-
--- the bytes are the spelling of the message that they are
-pub record AreSpelled (bytes : List ℕ) : Type 0 where
-  pub lawful : IsMessage (message_in bytes)
-  pub spelling : bytes ≡ spelled (message_in bytes)
 
 -- the bytes of all messages
 abbrev pub size_of : List Message → ℕ

@@ -4,7 +4,7 @@ ghost use Rattle.std.specs.Prelude.{◌≡◌, IfOk, length};
 ghost use Rattle.model_messages.specs.Message.{message_of};
 ghost use Rattle.model_wire.specs.Lawful.{IsMessage};
 ghost use Rattle.lasp_graph.specs.States.{contents_of};
-ghost use Rattle.lasp_gossip.specs.Exchange.{AreOfKind};
+ghost use Rattle.lasp_graph.specs.States.{AreSourcesOfKind};
 
 use lasp_graph::{Graph, States};
 use lasp_wire::{Counts, Message};
@@ -19,7 +19,7 @@ pub fn message_of(
 ) -> Result<Message, AllocError>
     requires lawful { IsMessage (message_of g.now (contents_of sources.now) counts.now) }
     requires long { length sources.now ≡ length g.now }
-    requires kinds { AreOfKind (length counts.now) g.now sources.now }
+    requires kinds { AreSourcesOfKind (length counts.now) g.now sources.now }
     ensures { IfOk result (λ m. m ≡ message_of g.now (contents_of sources.now) counts.now) }
 {
     let mut m = Message::new(alloc, Counts::from_slice(alloc, counts)?);

@@ -2,13 +2,12 @@
 //!
 //! ```text
 //! let message = message_of(alloc, &graph, &sources, &counts)?;
-//! let number = network.send(alloc, &message)?;
-//! let message = network.receive(alloc, number)?;
+//! let number = network.send(message)?;
+//! let message = network.receive(number)?;
 //! ```
 #![tactic(auto)]
 
 mod compose;
-mod letter;
 mod network;
 mod refused;
 

@@ -4,7 +4,7 @@ use Rattle.std.specs.List.{list_all}
 use Rattle.std.specs.Str.{is_utf8, IsAscii}
 use Rattle.std.proofs.lemmas.Bool.{and_parts}
 use Rattle.std.proofs.lemmas.Str.{IsUtf8-from_ascii, is_utf8-from_IsUtf8}
-use Rattle.lasp_value.specs.Name.{is_name_byte, is_name}
+use Rattle.model_values.specs.Name.{is_name_byte, is_name}
 
 small : (b : ℕ) → is_name_byte b ≡ true → b < 128
 small b h = grind arith

@@ -1,9 +1,7 @@
 -- What is read of sets is in order.
-use Rattle.std.proofs.Common.{◌≡◌, ℕ, ◌≤◌, true, List, [], ◌∷◌, ◌++◌, Ok, refl, arith}
-use Rattle.std.specs.FinMap.Entries.{below_all}
-use Rattle.std.proofs.lemmas.Bool.{and_parts, and_from}
+use Rattle.std.proofs.Common.{◌≡◌, ℕ, ◌≤◌, List, Ok, arith}
 use Rattle.model_values.specs.Value.{Val}
-use Rattle.model_values.specs.Row.{Row, key_cmp}
+use Rattle.model_values.specs.Row.{Row}
 use Rattle.model_sets.specs.Rows.{IsAscending}
 use Rattle.model_sets.specs.Values.{AreAscending}
 use Rattle.model_states.specs.Counts.{count_max}
@@ -11,19 +9,6 @@ use Rattle.model_wire.specs.Message.{rows_at, elements_at, numbers_at}
 use Rattle.model_wire.specs.Lawful.{IsBytes, AreAtMost}
 use Rattle.model_wire.proofs.SourceLaws.{rows_codec, numbers_codec}
 use Rattle.model_wire.proofs.SetLaws.{elements_codec}
-
-below_front : (r : Row) (s t : List Row) → below_all key_cmp r.0 (s ++ t) ≡ true → below_all key_cmp r.0 s ≡ true
-below_front r [] t h = refl
-below_front r (q ∷ s) t h =
-    let p = and_parts _ _ h in
-    and_from _ _ p.0 (below_front r s t p.1)
-
--- the first of ascending rows ascend
-pub ascending_front : (s t : List Row) → IsAscending (s ++ t) → IsAscending s
-ascending_front [] t h = refl
-ascending_front (r ∷ s) t h =
-    let p = and_parts _ _ h in
-    and_from _ _ (below_front r s t p.0) (ascending_front s t p.1)
 
 pub rows_ascend : (version nodes : ℕ) (bytes rest : List ℕ) (rows : List Row) → 1 ≤ nodes → nodes ≤ 8 → IsBytes bytes → rows_at version nodes bytes ≡ Ok (rows, rest) → IsAscending rows
 rows_ascend version nodes bytes rest rows some few fits e = ((rows_codec version nodes (record { some = some; few = few })).took bytes (rows, rest) fits e).1.ascending

@@ -6,7 +6,7 @@ use Rattle.model_values.specs.Value.{Val}
 use Rattle.model_values.specs.Row.{Row}
 use Rattle.model_wire.specs.Lawful.{IsSourceValue, IsRow, IsSource, IsSent}
 use Rattle.model_wire.proofs.ValueLaws.{within_range}
-use Rattle.lasp_value.specs.Name.{is_name}
+use Rattle.model_values.specs.Name.{is_name}
 use Rattle.lasp_state.specs.declared.state.State.{State}
 use Rattle.lasp_state.specs.declared.state.State.TheVariants.{Set, Grow, Count, Max, Fold}
 use Rattle.lasp_state.specs.State.{content_of}
@@ -29,7 +29,7 @@ short_state nodes (Count counts) h = tt
 short_state nodes (Max m) h = tt
 short_state nodes (Fold rows n) h = h
 
-short_name : (t : List ℕ) → is_name t ≡ true → length t ≤ 32
+pub short_name : (t : List ℕ) → is_name t ≡ true → length t ≤ 32
 short_name t h = (within_range 1 32 (length t) (and_parts _ _ (and_parts _ _ h).0).0).1
 
 pub short_sources : (nodes : ℕ) (sources : List Source) → AllByRecursion (IsSent nodes) (map sent_of sources) → AllByRecursion IsShortSource sources

@@ -1,4 +1,5 @@
 pub mod Decoded
+pub mod Length
 pub mod Read
 pub mod Sent
 pub mod Written

@@ -9,6 +9,7 @@
 mod counts;
 mod decoder;
 mod encoder;
+mod length;
 mod message;
 mod read;
 mod recall;
@@ -19,6 +20,7 @@ mod write;
 pub use counts::Counts;
 pub use decoder::decode;
 pub use encoder::encode;
+pub use length::encoded_len;
 pub use message::Message;
 pub use model_wire::WireWhy;
 pub use recall::recall_value;

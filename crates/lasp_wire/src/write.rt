@@ -7,4 +7,5 @@ mod states;
 mod values;
 
 pub(crate) use numbers::{put_u8, put_u64};
+pub(crate) use rows::is_first;
 pub(crate) use sources::put_sources;

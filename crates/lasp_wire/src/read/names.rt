@@ -2,7 +2,7 @@
 
 ghost use Rattle.std.specs.Prelude.{◌≡◌, IfOk, if◌then◌else◌, Some, None};
 ghost use Rattle.std.specs.Option.{option_map};
-ghost use Rattle.lasp_value.specs.Name.{is_name};
+ghost use Rattle.model_values.specs.Name.{is_name};
 ghost use Rattle.model_wire.specs.Message.{name_at};
 ghost use Rattle.lasp_wire.specs.Read.{Gives};
 

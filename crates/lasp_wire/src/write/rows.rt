@@ -42,7 +42,7 @@ fn run(value: &Value, rows: &[&Entry]) -> u32
 }
 
 /// Whether a row is of another value than the one before it.
-fn is_first(before: Option<&Value>, row: &Entry) -> bool
+pub fn is_first(before: Option<&Value>, row: &Entry) -> bool
     ensures { result ≡ is_first (option_map (λ v. val_of v.now) before.entry) row.now }
 {
     match before {

@@ -2,7 +2,7 @@ use Rattle.std.proofs.Common.{◌≡◌, ◌++◌, ◌∷◌, [], List, length, 
 use Rattle.std.specs.Vec.Iter.{into_iter_items}
 use Rattle.model_values.specs.Row.{Row}
 use Rattle.model_sets.specs.Rows.{IsAscending}
-use Rattle.lasp_wire.proofs.Rising.{ascending_front}
+use Rattle.lasp_counters.proofs.AscendingLaws.{ascending_front}
 use Rattle.lasp_wire.proofs.read.states.set_of.Goals as goal
 
 nothing_left : {X : Type 0} (l : List X) → length l ≡ 0 → l ≡ []

@@ -1,0 +1,45 @@
+//! The rows of a set, of which each value stands once.
+
+ghost use Rattle.std.specs.Prelude.{◌≡◌, ◌≤◌, ◌^◌, length};
+ghost use Rattle.std.specs.Option.{option_map};
+ghost use Rattle.model_messages.specs.Spelling.{spelled_rows};
+ghost use Rattle.lasp_value.specs.Value.{val_of};
+ghost use Rattle.lasp_wire.specs.Length.{head_len, row_len};
+
+use super::values::{token_len, value_len};
+use crate::write::is_first;
+use lasp_orset::{Entry, OrSet};
+use lasp_value::Value;
+
+/// The value and the number of its rows, where the row is its first.
+fn head_len(before: Option<&Value>, row: &Entry) -> u64
+    requires { head_len (option_map (λ v. val_of v.now) before) row.now ≤ 2 ^ 32 }
+    ensures { result ≡ head_len (option_map (λ v. val_of v.now) before.entry) row.now }
+{
+    if !is_first(before, row) {
+        return 0;
+    }
+    value_len(row.value()) + 4
+}
+
+/// A row, with what stands before it.
+fn row_len(before: Option<&Value>, row: &Entry) -> u64
+    requires { row_len (option_map (λ v. val_of v.now) before) row.now ≤ 2 ^ 32 }
+    ensures { result ≡ row_len (option_map (λ v. val_of v.now) before.entry) row.now }
+{
+    head_len(before, row) + token_len(row.token()) + 1
+}
+
+pub fn set_len(set: &OrSet) -> u64
+    requires { length (spelled_rows set.now) ≤ 2 ^ 32 }
+    ensures { result ≡ length (spelled_rows set.now) }
+{
+    let mut len = 4;
+    let mut before: Option<&Value> = None;
+    let mut rows = set.iter();
+    while let Some(row) = rows.next() {
+        len += row_len(before, row);
+        before = Some(row.value());
+    }
+    len
+}

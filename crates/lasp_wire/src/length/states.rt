@@ -1,0 +1,52 @@
+//! What sources hold, with their kinds.
+
+ghost use Rattle.std.specs.Prelude.{◌≡◌, ◌≤◌, ◌^◌, length};
+ghost use Rattle.model_messages.specs.Spelling.{spelled_values, spelled_counts, spelled_top, spelled_content};
+ghost use Rattle.lasp_state.specs.State.{content_of};
+ghost use Rattle.lasp_wire.specs.Sent.{kind_of};
+
+use super::rows::set_len;
+use super::values::value_len;
+use lasp_counters::{GCount, GSet};
+use lasp_state::State;
+
+fn elements_len(set: &GSet) -> u64
+    requires { length (spelled_values set.now) ≤ 2 ^ 32 }
+    ensures { result ≡ length (spelled_values set.now) }
+{
+    let mut len = 4;
+    let mut values = set.iter();
+    while let Some(value) = values.next() {
+        len += value_len(value);
+    }
+    len
+}
+
+fn counter_len(counter: &GCount) -> u64
+    ensures { result ≡ length (spelled_counts counter.now) }
+{
+    8 * u64::from(counter.nodes())
+}
+
+fn top_len(top: Option<i64>) -> u64
+    ensures { result ≡ length (spelled_top top) }
+{
+    match top {
+        None => 1,
+        Some(_) => 9,
+    }
+}
+
+/// The kind of a source with this state, and what it holds. A fold is no source, and has no spelling.
+pub fn state_len(state: &State) -> u64
+    requires { length (spelled_content (kind_of state.now) (content_of state.now)) ≤ 2 ^ 32 }
+    ensures { result ≡ length (spelled_content (kind_of state.now) (content_of state.now)) }
+{
+    match state {
+        State::Set(set) => 1 + set_len(set),
+        State::Grow(values) => 1 + elements_len(values),
+        State::Count(counter) => 1 + counter_len(counter),
+        State::Max(register) => 1 + top_len(register.value),
+        State::Fold(_, _) => 0,
+    }
+}
