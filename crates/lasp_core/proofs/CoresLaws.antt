@@ -10,10 +10,10 @@ use Rattle.model_graph.specs.Evaluation.{content_at, least_of}
 use Rattle.model_graph.specs.Lawful as lawful
 use Rattle.model_graph.specs.Lawful.{IsDerived}
 use Rattle.model_graph.proofs.PlaceLaws.{at-append, map-length}
-use Rattle.model_held.specs.Held.{IsHeld}
-use Rattle.model_held.proofs.EachLaws.{each-append, each-weaker}
+use Rattle.model_runs.specs.Held.{IsHeld}
+use Rattle.model_runs.proofs.EachLaws.{each-append, each-weaker}
 use Rattle.model_journal.specs.Entry as model
-use Rattle.model_journal.specs.Entry.{Act, Entry, Frame}
+use Rattle.model_journal.specs.Entry.{Act, Entry, Frame, entry}
 use Rattle.model_journal.specs.Callers.{made_by}
 use Rattle.model_journal.specs.Journal.{graph, val, vals}
 use Rattle.model_journal.specs.Clean.{version}
@@ -22,23 +22,24 @@ use Rattle.model_journal.proofs.JournalLaws.{journal-later}
 use Rattle.model_journal.proofs.LegalLaws.{legal-first}
 use Rattle.model_journal.proofs.CleanLaws.{vals-length}
 use Rattle.model_journal.proofs.EntryLaws.{extend-vals}
-use Rattle.model_replica.specs.Peer.{peer_of, entry}
-use Rattle.model_replica.specs.Core.{Read, Core, is_met, entered, released, IsParked, IsCore}
-use Rattle.model_replica.proofs.BaseLaws.{graph-longer}
-use Rattle.model_replica.proofs.ReadLaws.{meets-grows, suits-stays, each-kept}
-use Rattle.model_replica.proofs.ValidLaws.{val-ordered}
-use Rattle.model_replica.proofs.CoreLaws.{entered-core, released-met}
-use Rattle.model_core.proofs.ReadLaws.{kept-version}
+use Rattle.model_core.specs.Peer.{peer_of}
+use Rattle.model_core.specs.Core.{Read, Core, is_met, entered, released, IsParked, IsCore}
+use Rattle.model_core.proofs.BaseLaws.{graph-longer}
+use Rattle.model_core.proofs.ReadLaws.{meets-grows, suits-stays, each-kept}
+use Rattle.model_core.proofs.ValidLaws.{val-ordered}
+use Rattle.model_core.proofs.CoreLaws.{entered-core, released-met}
+use Rattle.lasp_replica.proofs.ReadLaws.{kept-version}
 use Rattle.lasp_state.specs.declared.state.State.{State}
 use Rattle.lasp_graph.specs.States.{held_of, held_at}
 use Rattle.lasp_graph.specs.Evaluated.{number_by}
-use Rattle.lasp_core.specs.Entries.{entry_of, read_of}
-use Rattle.lasp_core.specs.Replica.{frame_of, entries_of, parts_of, IsReplica, Grows, Stays}
-use Rattle.lasp_core.specs.Jobs.{HasBound, counted_up}
+use Rattle.lasp_core.specs.Reads.{read_of}
+use Rattle.lasp_replica.specs.Entries.{entry_of}
+use Rattle.lasp_replica.specs.Replica.{frame_of, entries_of, parts_of, IsReplica, Grows, Stays}
+use Rattle.lasp_replica.specs.Jobs.{HasBound, counted_up}
 use Rattle.lasp_core.specs.Listed.{GoesOn}
 use Rattle.lasp_core.specs.Core.{core_of, IsSound, AreInOrder, IsOpen, IsWatched, opened_read, returned, IsStateOf}
 use Rattle.lasp_core.specs.declared.read.ReadNo.{ReadNo}
-use Rattle.lasp_core.specs.declared.replica.Replica.{Replica}
+use Rattle.lasp_replica.specs.declared.replica.Replica.{Replica}
 use Rattle.lasp_core.proofs.OrderLaws.{order-kept, order-opened, order-pushed}
 use Rattle.lasp_core.proofs.ParkedLaws.{graph-length, state-shape, state-content, held-found}
 

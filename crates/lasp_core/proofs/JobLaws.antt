@@ -11,15 +11,16 @@ use Rattle.model_graph.specs.Evaluation.{content_at}
 use Rattle.model_graph.specs.Lawful as lawful
 use Rattle.model_journal.specs.Entry.{Entry, Frame}
 use Rattle.model_journal.specs.Journal.{graph, val, vals}
-use Rattle.model_replica.specs.Core.{Core}
+use Rattle.model_core.specs.Core.{Core}
 use Rattle.lasp_state.specs.declared.state.State.{State}
 use Rattle.lasp_state.specs.declared.state.State.TheVariants as state
 use Rattle.lasp_state.specs.State.{content_of, shape_of, number_of}
 use Rattle.lasp_graph.specs.States.{held_of}
 use Rattle.lasp_graph.specs.Evaluated.{second_of, number_by}
 use Rattle.lasp_job.specs.declared.job.Job.{Job}
-use Rattle.model_core.specs.Parts.{first_input, second_input, has_two}
-use Rattle.lasp_core.specs.Jobs.{IsJobNow, unread, unread_rows}
+use Rattle.lasp_job.specs.Asked.{has_two}
+use Rattle.lasp_replica.specs.Parts.{first_input, second_input}
+use Rattle.lasp_replica.specs.Jobs.{IsJobNow, unread, unread_rows}
 use Rattle.lasp_core.specs.Core.{rows_of, IsStateOf, state_after}
 
 -- ---- the rows of a job

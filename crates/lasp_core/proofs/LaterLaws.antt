@@ -7,16 +7,16 @@ use Rattle.model_graph.specs.Lawful.{IsDerived}
 use Rattle.model_journal.specs.Entry.{Entry, Frame}
 use Rattle.model_journal.specs.Journal.{graph, vals, val}
 use Rattle.model_journal.proofs.PlaceLaws.{take-front}
-use Rattle.model_replica.specs.Core.{Read}
-use Rattle.model_replica.proofs.BaseLaws.{kind-later, derived-take, graph-longer}
-use Rattle.model_replica.proofs.ReadLaws.{suits-stays}
+use Rattle.model_core.specs.Core.{Read}
+use Rattle.model_core.proofs.BaseLaws.{kind-later, derived-take, graph-longer}
+use Rattle.model_core.proofs.ReadLaws.{suits-stays}
 use Rattle.lasp_state.specs.declared.state.State.{State}
 use Rattle.lasp_state.specs.State.{content_of}
 use Rattle.lasp_graph.specs.Evaluated.{second_of}
 use Rattle.lasp_graph.specs.Delta.{IsStateOf}
 use Rattle.lasp_job.specs.declared.job.Job.{Job}
 use Rattle.lasp_core.specs.Core.{IsOpen}
-use Rattle.lasp_core.specs.Jobs.{AreInputsOf, IsJobOf, IsResultOf}
+use Rattle.lasp_replica.specs.Jobs.{AreInputsOf, IsJobOf, IsResultOf}
 
 module _ (X : Frame) (entries more : List Entry) (job : Job) where
   -- the kind of a variable that was derived when the job began stays

@@ -2,10 +2,10 @@
 use Rattle.std.proofs.Common.{◌≡◌, ℕ, ◌<◌, ◌≤◌, ◌⊎◌, inl, inr, Bool, true, false, cond, List, [], ◌∷◌, ◌++◌, filter, sym, subst, arith}
 use Rattle.std.specs.List.{AllByRecursion}
 use Rattle.model_graph.proofs.PlaceLaws.{below-or-not}
-use Rattle.model_held.proofs.EachLaws.{each-append, each-weaker}
-use Rattle.model_replica.specs.Core.{Read}
-use Rattle.model_replica.proofs.ReadLaws.{each-kept}
-use Rattle.lasp_core.specs.Jobs.{greatest_count, counted_up}
+use Rattle.model_runs.proofs.EachLaws.{each-append, each-weaker}
+use Rattle.model_core.specs.Core.{Read}
+use Rattle.model_core.proofs.ReadLaws.{each-kept}
+use Rattle.lasp_replica.specs.Jobs.{greatest_count, counted_up}
 use Rattle.lasp_core.specs.Core.{IsBefore, AreAscending, AreInOrder}
 
 -- those of them that are kept ascend

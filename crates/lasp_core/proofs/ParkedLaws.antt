@@ -6,14 +6,14 @@ use Rattle.model_states.specs.Threshold.{Shape, suits, meets}
 use Rattle.model_graph.specs.Graph.{Decl, kind_at}
 use Rattle.model_graph.specs.Lawful as lawful
 use Rattle.model_journal.specs.Journal.{graph, val}
-use Rattle.model_replica.specs.Core.{Read, is_met}
+use Rattle.model_core.specs.Core.{Read, is_met}
 use Rattle.lasp_state.specs.declared.state.State.{State}
 use Rattle.lasp_state.specs.State.{content_of, shape_of}
 use Rattle.lasp_graph.specs.States.{Held, held_of, held_at}
 use Rattle.lasp_graph.proofs.Evaluation.{shape-held}
-use Rattle.model_core.proofs.PartLaws.{states-long, held-val}
-use Rattle.lasp_core.specs.Replica.{frame_of, entries_of, parts_of, IsReplica}
-use Rattle.lasp_core.specs.declared.replica.Replica.{Replica}
+use Rattle.lasp_replica.proofs.PartLaws.{states-long, held-val}
+use Rattle.lasp_replica.specs.Replica.{frame_of, entries_of, parts_of, IsReplica}
+use Rattle.lasp_replica.specs.declared.replica.Replica.{Replica}
 
 -- ---- a declared variable's state
 

@@ -7,19 +7,19 @@ use Rattle.model_graph.specs.Lawful.{IsDerived}
 use Rattle.model_graph.specs.Lawful as lawful
 use Rattle.model_journal.specs.Entry.{Entry, Frame}
 use Rattle.model_journal.specs.Journal.{graph, val}
-use Rattle.model_replica.specs.Core.{Read, Core, IsParked, is_met}
+use Rattle.model_core.specs.Core.{Read, Core, IsParked, is_met}
 use Rattle.lasp_history.specs.History.{version_before}
 use Rattle.lasp_state.specs.declared.state.State.{State}
 use Rattle.lasp_state.specs.State.{content_of, shape_of, number_of}
 use Rattle.lasp_graph.specs.States.{Held, held_at}
 use Rattle.lasp_graph.specs.Evaluated.{number_by}
 use Rattle.lasp_job.specs.declared.job.Job.{Job}
-use Rattle.lasp_core.specs.Entries.{read_of}
+use Rattle.lasp_core.specs.Reads.{read_of}
 use Rattle.lasp_core.specs.Listed.{AreClean}
-use Rattle.lasp_core.specs.Jobs.{greatest_count, counted_up}
-use Rattle.lasp_core.specs.Replica.{frame_of, entries_of, busy_of, growths_at, IsReplica}
+use Rattle.lasp_replica.specs.Jobs.{greatest_count, counted_up}
+use Rattle.lasp_replica.specs.Replica.{frame_of, entries_of, busy_of, growths_at, IsReplica}
 use Rattle.lasp_core.specs.declared.read.ReadNo.{ReadNo}
-use Rattle.lasp_core.specs.declared.replica.Replica.{Replica}
+use Rattle.lasp_replica.specs.declared.replica.Replica.{Replica}
 
 abbrev pub core_of : Replica → List ReadNo → ℕ → ℕ → Core
 core_of r parked opened owed = record { frame = frame_of r; entries = entries_of r; parked = map read_of parked; busy = busy_of r; opened = opened; owed = owed }

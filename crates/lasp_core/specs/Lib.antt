@@ -1,10 +1,5 @@
 pub mod Coded
-pub mod Entries
-pub mod Replica
-pub mod Jobs
+pub mod Reads
 pub mod Core
-pub mod Update
-pub mod Finish
-pub mod Delivery
 pub mod Listed
 pub mod Watched

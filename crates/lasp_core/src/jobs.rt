@@ -8,9 +8,9 @@ ghost use Rattle.model_journal.specs.Callers.{made_by};
 ghost use Rattle.model_journal.specs.Entry as model;
 ghost use Rattle.model_journal.specs.Journal.{graph};
 ghost use Rattle.model_journal.specs.Legal.{IsLegal};
-ghost use Rattle.model_replica.specs.Peer.{entry};
-ghost use Rattle.model_replica.specs.Core.{Core, is_met, entered, released};
-ghost use Rattle.lasp_core.specs.Jobs.{counted_up, IsUnclean, IsNext, IsJobOf, IsJobNow, IsResultOf};
+ghost use Rattle.model_journal.specs.Entry.{entry};
+ghost use Rattle.model_core.specs.Core.{Core, is_met, entered, released};
+ghost use Rattle.lasp_replica.specs.Jobs.{counted_up, IsUnclean, IsNext, IsJobOf, IsJobNow, IsResultOf};
 ghost use Rattle.lasp_core.specs.Core.{rows_of, taken, returned, AreAscending};
 ghost use Rattle.lasp_core.specs.Listed.{IsLater, GoesOn, EndsWith, AreClean, HasLooked};
 

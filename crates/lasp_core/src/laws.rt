@@ -6,10 +6,10 @@ ghost use Rattle.model_journal.specs.Entry.{Entry, Frame};
 ghost use Rattle.model_journal.specs.Journal.{graph};
 ghost use Rattle.lasp_state.specs.declared.state.State.{State};
 ghost use Rattle.lasp_job.specs.declared.job.Job.{Job};
-ghost use Rattle.model_replica.specs.Core.{Read, Core};
+ghost use Rattle.model_core.specs.Core.{Read, Core};
 ghost use Rattle.lasp_graph.specs.States.{held_of};
 ghost use Rattle.lasp_core.specs.Core.{IsOpen, rows_of, IsStateOf, state_after};
-ghost use Rattle.lasp_core.specs.Jobs.{IsJobOf, IsJobNow, IsResultOf, unread_rows};
+ghost use Rattle.lasp_replica.specs.Jobs.{IsJobOf, IsJobNow, IsResultOf, unread_rows};
 
 /// A job stays a job where the entries go on, and its results stay its results: who takes a job may let others add entries before its result is handed in.
 pub fn jobs_stay()

@@ -12,25 +12,18 @@
 //! ```
 #![tactic(auto)]
 
-mod entry;
 mod jobs;
 mod laws;
 mod parked;
-mod process;
 mod read;
-mod refused;
-mod replica;
 mod replica_core;
-mod sources;
 mod watched;
 
-pub use entry::{Act, Entry};
 pub use jobs::Jobs;
+pub use lasp_replica::{Act, DeliverRefused, Entry, NotYet, UpdateRefused, begins};
 pub use laws::{
     jobs_have_the_unread_rows, jobs_stay, reads_stay_open, states_are_those_after_the_entries,
 };
 pub use read::{ReadNo, Released};
-pub use refused::{DeliverRefused, NotYet, UpdateRefused};
 pub use replica_core::Core;
-pub use sources::begins;
 pub use watched::{Settle, Try, Watched};

@@ -2,13 +2,13 @@
 
 ghost use Rattle.std.specs.Prelude.{◌≡◌, ◌==◌, ◌+◌, ◌≤◌, ◌++◌, [], not, map, filter, vec_len, vec_capacity};
 ghost use Rattle.std.specs.List.{AllByRecursion};
-ghost use Rattle.model_replica.specs.Core.{is_met};
-ghost use Rattle.lasp_core.specs.Entries.{read_of};
-ghost use Rattle.lasp_core.specs.Replica.{frame_of, entries_of, IsReplica};
+ghost use Rattle.model_core.specs.Core.{is_met};
+ghost use Rattle.lasp_core.specs.Reads.{read_of};
+ghost use Rattle.lasp_replica.specs.Replica.{frame_of, entries_of, IsReplica};
 ghost use Rattle.lasp_core.specs.Core.{IsWatched};
 
 use crate::read::ReadNo;
-use crate::replica::Replica;
+use lasp_replica::Replica;
 
 /// Whether a read's variable grew at an entry from number n on and has come to the threshold.
 fn is_met_since(replica: &Replica, n: u64, read: &ReadNo) -> bool

@@ -2,7 +2,7 @@
 
 ghost use Rattle.std.specs.Prelude.{◌≡◌, ◌<◌, ◌++◌, ◌∷◌, [], length, map, slice_get, Some, IfOk};
 ghost use Rattle.std.specs.Arc.{arc_value};
-ghost use Rattle.lasp_core.specs.Entries.{read_of};
+ghost use Rattle.lasp_core.specs.Reads.{read_of};
 
 use lasp_state::Threshold;
 use std::alloc::{AllocError, Global};
@@ -52,8 +52,8 @@ pub struct Released {
 
 impl Model for Released {
     ghost use Rattle.std.specs.Prelude.{List, map};
-    ghost use Rattle.model_replica.specs.Core.{Read};
-    ghost use Rattle.lasp_core.specs.Entries.{read_of};
+    ghost use Rattle.model_core.specs.Core.{Read};
+    ghost use Rattle.lasp_core.specs.Reads.{read_of};
     ghost use Rattle.lasp_core.specs.Coded.{coded_reads};
 
     ghost Value = { List Read };

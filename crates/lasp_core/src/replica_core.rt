@@ -13,33 +13,32 @@ ghost use Rattle.model_readings.specs.Lawful.{IsNext as MayFollow};
 ghost use Rattle.model_journal.specs.Entry as model;
 ghost use Rattle.model_journal.specs.Journal as journal;
 ghost use Rattle.model_journal.specs.Clean.{IsClean, base};
-ghost use Rattle.model_replica.specs.Peer.{entry};
-ghost use Rattle.model_replica.specs.Core as plain;
-ghost use Rattle.model_replica.specs.Core.{entered};
+ghost use Rattle.model_journal.specs.Entry.{entry};
+ghost use Rattle.model_core.specs.Core as plain;
+ghost use Rattle.model_core.specs.Core.{entered};
 ghost use Rattle.lasp_state.specs.State as state;
 ghost use Rattle.lasp_state.specs.State.{op_of};
 ghost use Rattle.lasp_state.specs.Threshold.{threshold_of};
 ghost use Rattle.lasp_graph.specs.Decl.{decl_of};
 ghost use Rattle.lasp_graph.specs.States.{contents_of, held_at};
 ghost use Rattle.lasp_graph.specs.Evaluated.{number_by};
-ghost use Rattle.lasp_core.specs.Entries.{entry_of, read_of};
-ghost use Rattle.lasp_core.specs.Replica.{IsSmall, IsSuited, update_refusal, IsAnswered, IsDelivered};
-ghost use Rattle.lasp_core.specs.Jobs.{IsUnclean, IsFirst, IsNext, Lacks, IsJobOf, IsJobNow, IsResultOf};
+ghost use Rattle.lasp_core.specs.Reads.{read_of};
+ghost use Rattle.lasp_replica.specs.Entries.{entry_of};
+ghost use Rattle.lasp_replica.specs.Replica.{IsSmall, IsSuited, update_refusal, IsAnswered, IsDelivered};
+ghost use Rattle.lasp_replica.specs.Jobs.{IsUnclean, IsFirst, IsNext, Lacks, IsJobOf, IsJobNow, IsResultOf};
 ghost use Rattle.lasp_core.specs.Core.{fresh_core, IsOpen, opened_read, opened, closed, rows_of, taken, returned, IsSettled, declared, IsStateOf, AreOfKind, AreAscending, AreInOrder};
 
-use crate::entry::Entry;
 use crate::parked::{remove_read, split_met};
 use crate::read::{ReadNo, Released};
-use crate::refused::{DeliverRefused, NotYet, UpdateRefused};
-use crate::replica::Replica;
 use lasp_graph::{Decl, Graph, States};
 use lasp_job::Job;
+use lasp_replica::{DeliverRefused, Entry, NotYet, Replica, UpdateRefused};
 use lasp_state::{Op, State, Threshold};
 use lasp_wire::{Counts, Message};
+use model_core::first_entries_stand_below;
 use model_journal::{
     clean_variables_equal_their_equations, derived_contents_stay_below_evaluation,
 };
-use model_replica::first_entries_stand_below;
 use std::alloc::{AllocError, Global};
 use std::marker::Model;
 use std::sync::Arc;
@@ -54,7 +53,7 @@ pub struct Core {
 }
 
 impl Model for Core {
-    ghost use Rattle.model_replica.specs.Core as plain;
+    ghost use Rattle.model_core.specs.Core as plain;
     ghost use Rattle.lasp_core.specs.Coded.{coded_core};
     ghost use Rattle.lasp_core.specs.Core.{core_of, IsSound};
 

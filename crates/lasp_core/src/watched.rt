@@ -3,9 +3,9 @@
 ghost use Rattle.std.specs.Prelude.{◌≡◌, ◌<◌, ◌≤◌, ◌↔◌, ℕ, IfOk, IfSome, OnOk, is_some};
 ghost use Rattle.std.specs.Arc.{arc_value};
 ghost use Rattle.model_states.specs.Threshold.{meets};
-ghost use Rattle.model_replica.specs.Core.{Read};
+ghost use Rattle.model_core.specs.Core.{Read};
 ghost use Rattle.lasp_graph.specs.States.{Held, held_of};
-ghost use Rattle.lasp_core.specs.Entries.{read_of};
+ghost use Rattle.lasp_core.specs.Reads.{read_of};
 ghost use Rattle.lasp_core.specs.Watched.{IsBusy};
 
 use crate::read::ReadNo;

@@ -48,14 +48,6 @@ back-at n zero (f ∷ gs) g h is late none =
     version-else n f gs (omega (arith, entries, late)) ∙ ap (λ (hs : List Growth). version_before hs n) (sym (drop-none gs)) ∙ none
 back-at n (suc i) (f ∷ gs) g h is late none = back-at n i gs g (omega (arith, h)) is late none
 
--- a growth from the entry on: none after it counts either
-pub walk-back : (n count : ℕ) (gs : List Growth) (g : Growth) → 0 < count → count ≤ length gs → g ≡ slice_index_or gs (count - 1) g → n ≤ g.entry → version_before (drop count gs) n ≡ 0 → version_before (drop (count - 1) gs) n ≡ 0
-walk-back n zero gs g some small is late none = absurd (omega (arith, some))
-walk-back n (suc i) gs g some small is late none =
-    let back : suc i - 1 ≡ i = omega arith in
-    subst (λ (j : ℕ). version_before (drop j gs) n ≡ 0) (sym back)
-    (back-at n i gs g (omega (arith, small)) (subst (λ (j : ℕ). g ≡ slice_index_or gs j g) back is) late none)
-
 stop-at : (n i free rows : ℕ) (gs : List Growth) (all : ℕ) (g : Growth) → AscendFrom free rows gs all → i < length gs → g ≡ slice_index_or gs i g → g.entry < n → version_before (drop (suc i) gs) n ≡ 0 → version_before gs n ≡ suc i
 stop-at n i free rows [] all g up h is early none = absurd (omega (arith, h))
 stop-at n zero free rows (f ∷ gs) all g up h is early none =
@@ -72,11 +64,6 @@ walk-stop n zero log gs g up some small is early none = absurd (omega (arith, so
 walk-stop n (suc i) log gs g up some small is early none =
     let back : suc i - 1 ≡ i = omega arith in
     stop-at n i 0 0 gs (length log) g up (omega (arith, small)) (subst (λ (j : ℕ). g ≡ slice_index_or gs j g) back is) early none
-
--- the walk came to the first growth
-pub walk-whole : (n count : ℕ) (gs : List Growth) → count ≡ 0 → version_before (drop count gs) n ≡ 0 → version_before gs n ≡ count
-walk-whole n count gs e none =
-    ap (λ (hs : List Growth). version_before hs n) (sym (drop-none gs)) ∙ ap (λ (i : ℕ). version_before (drop i gs) n) (sym e) ∙ none ∙ sym e
 
 -- before the walk
 pub walk-begin : (n count : ℕ) (gs : List Growth) → count ≡ length gs → version_before (drop count gs) n ≡ 0

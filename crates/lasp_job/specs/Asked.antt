@@ -17,8 +17,20 @@ use Rattle.lasp_state.specs.State.{content_of, shape_of}
 use Rattle.lasp_graph.specs.declared.inputs.Inputs.{Inputs}
 use Rattle.model_states.specs.Coded.{coded_shape, coded_content}
 use Rattle.lasp_graph.specs.Evaluated.{process, second_of}
-use Rattle.model_core.specs.Parts.{has_two}
 use Rattle.lasp_graph.specs.Delta.{IsStateOf}
+
+-- whether a process reads two variables
+abbrev pub has_two : Kind → Bool
+has_two OrSet = false
+has_two GSet = false
+has_two Counter = false
+has_two MaxReg = false
+has_two (Union x y) = true
+has_two (Product x y) = true
+has_two (Intersection x y) = true
+has_two (Map x place ops) = false
+has_two (Filter x place ops) = false
+has_two (Fold x op place lift) = false
 
 -- the state of an input: a set of few enough rows, none too large
 pub record IsReadable (s : State) : Type 0 where

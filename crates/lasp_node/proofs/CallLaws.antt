@@ -3,17 +3,17 @@ use Rattle.std.proofs.Common.{ℕ, ◌≡◌, ◌+◌, Bool, true, false, cond, 
 use Rattle.std.specs.Prelude.{List, [], ◌∷◌, ◌++◌, length, Result, Ok, Err, OnErr}
 use Rattle.std.specs.List.{AllByRecursion}
 use Rattle.model_graph.specs.Graph.{Decl}
-use Rattle.model_journal.specs.Entry.{Act, Entry, Extend, Frame}
+use Rattle.model_journal.specs.Entry.{Act, Entry, Extend, Frame, entry}
 use Rattle.model_journal.specs.Journal.{graph, vals, val}
 use Rattle.model_journal.specs.Legal.{IsLegal}
 use Rattle.model_journal.proofs.JournalLaws.{journal-later}
 use Rattle.model_journal.proofs.LegalLaws.{legal-first}
-use Rattle.model_replica.specs.Core.{Core, Read, IsParked, entered}
-use Rattle.model_replica.specs.Peer.{entry, peer_of}
-use Rattle.model_replica.proofs.ReadLaws.{meets-grows}
-use Rattle.model_replica.proofs.ValidLaws.{val-ordered}
-use Rattle.model_calls.specs.Calls.{fed, is_bind, unbound}
-use Rattle.model_calls.proofs.MatchLaws.{append-nothing}
+use Rattle.model_core.specs.Core.{Core, Read, IsParked, entered}
+use Rattle.model_core.specs.Peer.{peer_of}
+use Rattle.model_core.proofs.ReadLaws.{meets-grows}
+use Rattle.model_core.proofs.ValidLaws.{val-ordered}
+use Rattle.model_runs.specs.Calls.{fed, is_bind, unbound}
+use Rattle.model_runs.proofs.MatchLaws.{append-nothing}
 use Rattle.lasp_core.specs.Core.{declared}
 use Rattle.lasp_drive.specs.Node.{IsUnchanged}
 use Rattle.lasp_drive.specs.Reads.{releases, unmet, Grows}

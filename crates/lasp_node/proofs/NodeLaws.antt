@@ -15,33 +15,33 @@ use Rattle.model_messages.proofs.MessageLaws.{gained-length, gained-at}
 use Rattle.model_readings.specs.Lawful.{IsGraph, IsNext}
 use Rattle.model_wire.specs.Lawful.{IsMessage}
 use Rattle.model_world.specs.World.{updated, delivered, extended, message_at}
-use Rattle.model_held.specs.Held.{AreBelow, IsSentTo, IsUpdate}
-use Rattle.model_held.proofs.HeldLaws.{held-message}
-use Rattle.model_held.proofs.SourceLaws.{update-source}
+use Rattle.model_runs.specs.Held.{AreBelow, IsSentTo, IsUpdate}
+use Rattle.model_runs.proofs.HeldLaws.{held-message}
+use Rattle.model_runs.proofs.SourceLaws.{update-source}
 use Rattle.model_journal.specs.Entry as model
-use Rattle.model_journal.specs.Entry.{Frame}
+use Rattle.model_journal.specs.Entry.{Frame, entry}
 use Rattle.model_journal.specs.Journal.{graph, vals, val, counts, sources}
 use Rattle.model_journal.specs.Legal.{IsLegal}
 use Rattle.model_journal.proofs.CleanLaws.{vals-length}
 use Rattle.model_journal.proofs.StandLaws.{journal-valid}
-use Rattle.model_replica.specs.Core.{Core, IsCore, entered}
-use Rattle.model_replica.specs.Peer.{entry, peer_of}
-use Rattle.model_replica.proofs.MessageLaws.{sent-first}
-use Rattle.model_replica.proofs.PeerLaws.{graph-extended, peer-updated, peer-delivered, peer-extended}
-use Rattle.model_replica.proofs.SourceLaws.{sources-length, sources-source, sources-derived, sources-sent}
-use Rattle.model_replica.proofs.ValidLaws.{val-small}
+use Rattle.model_core.specs.Core.{Core, IsCore, entered}
+use Rattle.model_core.specs.Peer.{peer_of}
+use Rattle.model_core.proofs.MessageLaws.{sent-first}
+use Rattle.model_core.proofs.PeerLaws.{graph-extended, peer-updated, peer-delivered, peer-extended}
+use Rattle.model_core.proofs.SourceLaws.{sources-length, sources-source, sources-derived, sources-sent}
+use Rattle.model_core.proofs.ValidLaws.{val-small}
 use Rattle.lasp_state.specs.declared.op.Op.{Op}
 use Rattle.lasp_state.specs.declared.op.Op.TheVariants as op
 use Rattle.lasp_state.specs.State.{op_of, IsOpOf}
 use Rattle.lasp_graph.specs.States.{Held, contents_of}
 use Rattle.lasp_graph.proofs.Evaluation.{length-contents}
 use Rattle.lasp_drive.specs.Node.{Updates, Delivers}
-use Rattle.lasp_core.specs.declared.refused.UpdateRefused.{UpdateRefused}
-use Rattle.lasp_core.specs.declared.refused.UpdateRefused.TheVariants as update
-use Rattle.lasp_core.specs.declared.refused.DeliverRefused.{DeliverRefused}
-use Rattle.lasp_core.specs.declared.refused.DeliverRefused.TheVariants as deliver
+use Rattle.lasp_replica.specs.declared.refused.UpdateRefused.{UpdateRefused}
+use Rattle.lasp_replica.specs.declared.refused.UpdateRefused.TheVariants as update
+use Rattle.lasp_replica.specs.declared.refused.DeliverRefused.{DeliverRefused}
+use Rattle.lasp_replica.specs.declared.refused.DeliverRefused.TheVariants as deliver
 use Rattle.lasp_core.specs.Core.{declared}
-use Rattle.lasp_core.specs.Replica.{shape_for, is_for, update_check, or_too_many, update_refusal, IsAnswered, IsDelivered}
+use Rattle.lasp_replica.specs.Replica.{shape_for, is_for, update_check, or_too_many, update_refusal, IsAnswered, IsDelivered}
 
 -- ---- the same node
 

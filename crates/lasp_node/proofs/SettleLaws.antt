@@ -10,24 +10,23 @@ use Rattle.model_states.specs.Content.{Content, size_of, row_limit}
 use Rattle.model_graph.specs.Graph.{Decl, kind_at}
 use Rattle.model_graph.specs.Evaluation.{eval, equation, first_large}
 use Rattle.model_graph.specs.Lawful.{IsDerived}
-use Rattle.model_journal.specs.Entry.{Bind, Entry, Frame}
+use Rattle.model_journal.specs.Entry.{Bind, Entry, Frame, entry}
 use Rattle.model_journal.specs.Journal.{graph, vals, sources}
 use Rattle.model_journal.specs.Clean.{IsClean, applied, version}
 use Rattle.model_journal.specs.Legal.{IsLegal}
 use Rattle.model_world.specs.World.{Peer}
-use Rattle.model_replica.specs.Core.{Core, IsCore, IsParked, Read, is_met, entered}
-use Rattle.model_replica.specs.Peer.{entry}
-use Rattle.model_replica.proofs.BaseLaws.{derived-take}
-use Rattle.model_replica.proofs.CleanLaws.{clean-before, clean-after-bind, large-first, settled-all, settled-small}
-use Rattle.model_replica.proofs.LegalLaws.{legal-bind-now}
-use Rattle.model_replica.proofs.PeerLaws.{graph-bound, peer-bound}
-use Rattle.model_replica.proofs.ReadLaws.{all-kept, met-stays}
-use Rattle.model_core.proofs.KindLaws.{equation-process}
-use Rattle.model_core.proofs.OneLaws.{same-or-apart}
+use Rattle.model_core.specs.Core.{Core, IsCore, IsParked, Read, is_met, entered}
+use Rattle.model_core.proofs.BaseLaws.{derived-take}
+use Rattle.model_core.proofs.CleanLaws.{clean-before, clean-after-bind, large-first, settled-all, settled-small}
+use Rattle.model_core.proofs.LegalLaws.{legal-bind-now}
+use Rattle.model_core.proofs.PeerLaws.{graph-bound, peer-bound}
+use Rattle.model_core.proofs.ReadLaws.{all-kept, met-stays}
+use Rattle.lasp_replica.proofs.KindLaws.{equation-process}
+use Rattle.lasp_replica.proofs.OneLaws.{same-or-apart}
 use Rattle.lasp_state.specs.State.{content_of}
 use Rattle.lasp_graph.specs.Evaluated.{process, second_of}
 use Rattle.lasp_job.specs.declared.job.Job.{Job}
-use Rattle.lasp_core.specs.Jobs.{IsUnclean, IsFirst, IsNext, IsJobNow, greatest_count, counted_up, unread_rows}
+use Rattle.lasp_replica.specs.Jobs.{IsUnclean, IsFirst, IsNext, IsJobNow, greatest_count, counted_up, unread_rows}
 use Rattle.lasp_core.specs.Core.{taken, returned, IsSettled}
 use Rattle.lasp_node.specs.Settling.{IsIdle, IsIdleBut, AreCleanBelow, AreBinds, HasBoundIn, HasBound, rows_behind, rows_bound, rows_since}
 

@@ -1,5 +1,5 @@
 -- The reads of a core as a run's node has them.
-use Rattle.model_replica.specs.Core.{Core}
+use Rattle.model_core.specs.Core.{Core}
 use Rattle.lasp_drive.specs.Reads.{Reads}
 
 abbrev pub reads_of : Core → Reads

@@ -1,12 +1,12 @@
 -- What settling a core does, turn by turn.
 use Rattle.std.specs.Prelude.{◌≡◌, ℕ, ◌+◌, ◌<◌, ◌≤◌, ◌-◌, not, List, [], ◌∷◌, ◌++◌, length, drop, filter, slice_index_or, slice_set, Option, Some, Result, Ok, Err}
 use Rattle.model_graph.specs.Lawful.{IsDerived}
-use Rattle.model_journal.specs.Entry.{Act, Update, Deliver, Bind, Extend, Entry, Frame}
+use Rattle.model_journal.specs.Entry.{Act, Update, Deliver, Bind, Extend, Entry, Frame, entry}
 use Rattle.model_journal.specs.Journal.{graph}
 use Rattle.model_journal.specs.Clean.{IsClean}
-use Rattle.model_replica.specs.Peer.{entry, peer_of}
-use Rattle.model_replica.specs.Core.{Core, is_met}
-use Rattle.lasp_core.specs.Jobs.{unread_rows}
+use Rattle.model_core.specs.Peer.{peer_of}
+use Rattle.model_core.specs.Core.{Core, is_met}
+use Rattle.lasp_replica.specs.Jobs.{unread_rows}
 use Rattle.lasp_drive.specs.declared.node.NodeStop.{NodeStop}
 use Rattle.lasp_drive.specs.declared.node.NodeStop.TheVariants as node
 

@@ -3,10 +3,10 @@
 ghost use Rattle.std.specs.Prelude.{◌≡◌};
 ghost use Rattle.std.specs.Coded.{Coded-set, Π_prop, coded_ℕ};
 ghost use Rattle.model_journal.specs.Journal as journal;
-ghost use Rattle.model_replica.specs.Peer.{peer_of};
-ghost use Rattle.model_calls.specs.Calls.{unbound};
+ghost use Rattle.model_core.specs.Peer.{peer_of};
+ghost use Rattle.model_runs.specs.Calls.{unbound};
 ghost use Rattle.lasp_drive.specs.Node.{awaits};
-ghost use Rattle.lasp_core.specs.Entries.{read_of};
+ghost use Rattle.lasp_core.specs.Reads.{read_of};
 ghost use Rattle.lasp_node.specs.Settling.{IsIdle};
 ghost use Rattle.lasp_node.specs.Reads.{reads_of};
 

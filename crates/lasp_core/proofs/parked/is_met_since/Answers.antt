@@ -1,7 +1,7 @@
 use Rattle.std.proofs.Common.{◌≡◌, ◌∙◌, sym, ap, subst, Some, slice_get, ◌<◌, length, ℕ}
 use Rattle.std.specs.Arc.{arc_value}
 use Rattle.lasp_graph.specs.States.{held_of}
-use Rattle.lasp_core.specs.Entries.{read_of}
+use Rattle.lasp_core.specs.Reads.{read_of}
 use Rattle.lasp_core.proofs.ParkedLaws.{state-there, state-suits, state-met}
 use Rattle.lasp_core.proofs.parked.is_met_since.Goals as goal
 

@@ -1,6 +1,6 @@
 use Rattle.std.proofs.Common.{◌≡◌, ◌-◌, ◌++◌, not, map, filter, take, drop, vec_len}
 use Rattle.std.specs.Prelude.{◌==◌}
-use Rattle.lasp_core.specs.Entries.{read_of}
+use Rattle.lasp_core.specs.Reads.{read_of}
 use Rattle.lasp_core.proofs.parked.remove_read.Given as goal
 
 abbrev pub invariant-loop-i : goal.invariant-loop-i

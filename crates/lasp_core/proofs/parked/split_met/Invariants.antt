@@ -1,8 +1,8 @@
 use Rattle.std.proofs.Common.{◌≡◌, ◌+◌, ◌-◌, ◌≤◌, ◌++◌, not, map, filter, take, drop, vec_len, vec_capacity}
 use Rattle.std.specs.List.{AllByRecursion}
-use Rattle.model_replica.specs.Core.{is_met}
-use Rattle.lasp_core.specs.Entries.{read_of}
-use Rattle.lasp_core.specs.Replica.{frame_of, entries_of}
+use Rattle.model_core.specs.Core.{is_met}
+use Rattle.lasp_core.specs.Reads.{read_of}
+use Rattle.lasp_replica.specs.Replica.{frame_of, entries_of}
 use Rattle.lasp_core.specs.Core.{IsWatched}
 use Rattle.lasp_core.proofs.parked.split_met.Given as goal
 

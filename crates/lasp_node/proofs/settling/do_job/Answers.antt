@@ -2,10 +2,9 @@ use Rattle.std.proofs.Common.{◌≡◌, ℕ, List, Err, Some, refl, sym, ap, su
 use Rattle.std.specs.Arc.{arc_value}
 use Rattle.model_graph.specs.Graph.{Decl, kind_at}
 use Rattle.model_readings.specs.Lawful.{FitsAll}
-use Rattle.model_journal.specs.Entry.{Bind}
+use Rattle.model_journal.specs.Entry.{Bind, entry}
 use Rattle.std.specs.Prelude.{[], ◌∷◌, ◌++◌}
-use Rattle.model_replica.specs.Core.{Core, entered}
-use Rattle.model_replica.specs.Peer.{entry}
+use Rattle.model_core.specs.Core.{Core, entered}
 use Rattle.lasp_fns.specs.Steps as counted
 use Rattle.lasp_state.specs.State.{content_of}
 use Rattle.lasp_graph.specs.Library.{library_of}

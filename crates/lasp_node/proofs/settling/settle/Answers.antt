@@ -3,11 +3,11 @@ use Rattle.std.specs.Prelude.{IfSome, IfNone}
 use Rattle.model_graph.specs.Graph.{Decl}
 use Rattle.model_readings.specs.Lawful.{FitsAll}
 use Rattle.model_journal.specs.Journal.{graph, vals}
-use Rattle.model_replica.specs.Core.{Core}
+use Rattle.model_core.specs.Core.{Core}
 use Rattle.lasp_fns.specs.Steps as counted
 use Rattle.lasp_graph.specs.Library.{library_of}
 use Rattle.lasp_job.specs.declared.job.Job.{Job}
-use Rattle.lasp_core.specs.Jobs.{IsNext, IsJobNow}
+use Rattle.lasp_replica.specs.Jobs.{IsNext, IsJobNow}
 use Rattle.lasp_core.specs.Core.{IsSettled, taken, rows_of}
 use Rattle.lasp_core.proofs.JobLaws.{rows-unread}
 use Rattle.lasp_node.specs.Settling.{HasBound}

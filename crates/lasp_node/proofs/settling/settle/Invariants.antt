@@ -1,6 +1,6 @@
 use Rattle.std.proofs.Common.{◌≡◌, ◌≤◌, length}
 use Rattle.model_journal.specs.Journal as journal
-use Rattle.model_replica.specs.Core.{IsCore}
+use Rattle.model_core.specs.Core.{IsCore}
 use Rattle.lasp_fns.specs.Steps as counted
 use Rattle.lasp_core.specs.Core.{IsSettled}
 use Rattle.lasp_node.proofs.SettleLaws.{IsBoundBelow, HasCost}

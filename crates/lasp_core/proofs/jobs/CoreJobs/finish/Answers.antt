@@ -1,5 +1,5 @@
 use Rattle.model_journal.specs.Entry as model
-use Rattle.model_replica.specs.Peer.{entry}
+use Rattle.model_journal.specs.Entry.{entry}
 use Rattle.lasp_core.proofs.CoresLaws.{finished-met, finished-own, refused-goes-on}
 use Rattle.lasp_core.proofs.jobs.CoreJobs.finish.Goals as goal
 

@@ -1,8 +1,8 @@
 use Rattle.std.proofs.Common.{refl}
 use Rattle.model_journal.specs.Entry as model
-use Rattle.model_replica.specs.Peer.{entry}
+use Rattle.model_journal.specs.Entry.{entry}
 use Rattle.lasp_graph.specs.Decl.{decl_of}
-use Rattle.lasp_core.specs.Replica.{Grows, Stays}
+use Rattle.lasp_replica.specs.Replica.{Grows, Stays}
 use Rattle.lasp_core.specs.Core.{IsSound}
 use Rattle.lasp_core.proofs.CoresLaws.{either-way, declared-sound, stays-sound}
 use Rattle.lasp_core.proofs.replica_core.Core.extend.Goals as goal

@@ -1,13 +1,13 @@
 use Rattle.std.proofs.Common.{◌≡◌, ◌∙◌, sym, ap, subst}
 use Rattle.std.specs.Arc.{arc_value}
 use Rattle.model_states.specs.Threshold.{meets}
-use Rattle.model_replica.specs.Core.{is_met}
+use Rattle.model_core.specs.Core.{is_met}
 use Rattle.lasp_state.specs.State.{content_of}
 use Rattle.lasp_state.specs.Threshold.{threshold_of}
-use Rattle.lasp_core.specs.Entries.{read_of}
-use Rattle.lasp_core.specs.Jobs.{counted_up}
+use Rattle.lasp_core.specs.Reads.{read_of}
+use Rattle.lasp_replica.specs.Jobs.{counted_up}
 use Rattle.lasp_core.specs.Core.{IsSound, opened_read}
-use Rattle.lasp_core.specs.declared.replica.Replica.{Replica}
+use Rattle.lasp_replica.specs.declared.replica.Replica.{Replica}
 use Rattle.lasp_core.specs.declared.replica_core.Core.TheInside.{Inside}
 use Rattle.lasp_core.proofs.CoresLaws.{parked-sound, counted-sound}
 use Rattle.lasp_core.proofs.replica_core.Core.open_read.Goals as goal

@@ -1,10 +1,10 @@
 use Rattle.std.proofs.Common.{◌≡◌, ◌∙◌, sym, ap, subst, Some, slice_get, ◌<◌, length, ℕ}
 use Rattle.std.specs.Arc.{arc_value}
 use Rattle.model_journal.specs.Journal.{graph}
-use Rattle.model_replica.specs.Core.{Core}
+use Rattle.model_core.specs.Core.{Core}
 use Rattle.lasp_graph.specs.States.{held_of}
 use Rattle.lasp_core.specs.Core.{IsStateOf}
-use Rattle.lasp_core.specs.Replica.{frame_of, entries_of}
+use Rattle.lasp_replica.specs.Replica.{frame_of, entries_of}
 use Rattle.lasp_core.proofs.ParkedLaws.{state-there}
 use Rattle.lasp_core.proofs.CoresLaws.{state-is}
 use Rattle.lasp_core.proofs.replica_core.Core.state.Goals as goal

@@ -2,7 +2,7 @@ use Rattle.std.proofs.Common.{◌≡◌, subst}
 use Rattle.model_graph.specs.Graph.{kind_at}
 use Rattle.model_graph.specs.Lawful.{IsDerived}
 use Rattle.model_journal.specs.Journal.{graph}
-use Rattle.model_replica.specs.Core.{Core}
+use Rattle.model_core.specs.Core.{Core}
 use Rattle.lasp_graph.specs.States.{held_at}
 use Rattle.lasp_graph.specs.Evaluated.{number_by}
 use Rattle.lasp_core.proofs.CoresLaws.{held-number}

@@ -1,7 +1,7 @@
 use Rattle.std.proofs.Common.{ℕ, sym, subst}
-use Rattle.model_replica.specs.Core.{Core}
-use Rattle.lasp_core.specs.Replica.{frame_of, entries_of, busy_of}
-use Rattle.lasp_core.specs.Jobs.{IsNext}
+use Rattle.model_core.specs.Core.{Core}
+use Rattle.lasp_replica.specs.Replica.{frame_of, entries_of, busy_of}
+use Rattle.lasp_replica.specs.Jobs.{IsNext}
 use Rattle.lasp_core.proofs.replica_core.Core.take.Goals as goal
 
 pub returns-in_ok-take_var-in-Some-clause-next : goal.returns-in_ok-take_var-in-Some-clause-next

@@ -1,10 +1,10 @@
 use Rattle.std.proofs.Common.{◌∷◌, [], map, ◌∙◌}
 use Rattle.model_journal.specs.Entry as model
-use Rattle.model_replica.specs.Peer.{entry}
-use Rattle.model_replica.specs.Core.{is_met}
+use Rattle.model_journal.specs.Entry.{entry}
+use Rattle.model_core.specs.Core.{is_met}
 use Rattle.lasp_state.specs.State.{op_of}
-use Rattle.lasp_core.specs.Entries.{read_of}
-use Rattle.lasp_core.specs.Replica.{frame_of, entries_of}
+use Rattle.lasp_core.specs.Reads.{read_of}
+use Rattle.lasp_replica.specs.Replica.{frame_of, entries_of}
 use Rattle.lasp_core.proofs.OrderLaws.{passed-ascend}
 use Rattle.lasp_core.proofs.CoresLaws.{all-watched, entered-sound, entries-many}
 use Rattle.lasp_core.proofs.replica_core.Core.update.Goals as goal

@@ -1,14 +1,14 @@
 use Rattle.std.proofs.Common.{Result, refl, sym, ap, subst}
 use Rattle.std.specs.Arc.{arc_value}
-use Rattle.model_journal.specs.Entry.{Deliver, Frame}
+use Rattle.model_journal.specs.Entry.{Deliver, Frame, entry}
 use Rattle.model_journal.specs.Journal.{graph, vals}
 use Rattle.model_world.specs.World.{delivered}
-use Rattle.model_replica.specs.Peer.{entry, peer_of}
-use Rattle.model_replica.proofs.PeerLaws.{graph-delivered}
+use Rattle.model_core.specs.Peer.{peer_of}
+use Rattle.model_core.proofs.PeerLaws.{graph-delivered}
 use Rattle.lasp_drive.specs.Node.{Delivers}
 use Rattle.lasp_drive.specs.declared.node.NodeStop.{NodeStop}
 use Rattle.std.specs.Prelude.{◌≡◌, [], ◌∷◌, ◌++◌, Ok, Err, OnOk}
-use Rattle.model_calls.specs.Calls.{fed, unbound}
+use Rattle.model_runs.specs.Calls.{fed, unbound}
 use Rattle.lasp_drive.specs.Reads.{releases, Grows}
 use Rattle.lasp_node.specs.Reads.{reads_of}
 use Rattle.lasp_node.specs.declared.node.CoreNode.{CoreNode}

@@ -1,10 +1,9 @@
 use Rattle.std.proofs.Common.{ap}
 use Rattle.std.specs.Arc.{arc_value}
-use Rattle.model_journal.specs.Entry.{Frame, Extend}
+use Rattle.model_journal.specs.Entry.{Frame, Extend, entry}
 use Rattle.model_journal.specs.Journal.{graph}
 use Rattle.lasp_graph.specs.Decl.{decl_of}
 use Rattle.lasp_node.proofs.NodeLaws.{on-ok, last-decl, extended-same, extended-peer}
-use Rattle.model_replica.specs.Peer.{entry}
 use Rattle.lasp_node.specs.declared.node.CoreNode.{CoreNode}
 use Rattle.lasp_node.proofs.CallLaws.{declared-calls, declared-grows, same-core, on-err}
 use Rattle.lasp_node.proofs.node.CoreNodeNode.extend.Goals as goal

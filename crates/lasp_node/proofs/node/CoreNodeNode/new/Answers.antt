@@ -2,9 +2,9 @@ use Rattle.std.proofs.Common.{ap, ◌∙◌}
 use Rattle.std.specs.Prelude.{List}
 use Rattle.std.specs.Arc.{arc_value}
 use Rattle.model_graph.specs.Graph.{Decl}
-use Rattle.model_replica.specs.Peer.{peer_of}
-use Rattle.model_replica.specs.Core.{Core}
-use Rattle.model_replica.proofs.PeerLaws.{peer-fresh}
+use Rattle.model_core.specs.Peer.{peer_of}
+use Rattle.model_core.specs.Core.{Core}
+use Rattle.model_core.proofs.PeerLaws.{peer-fresh}
 use Rattle.lasp_core.specs.Core.{fresh_core}
 use Rattle.lasp_node.proofs.node.CoreNodeNode.new.Goals as goal
 

@@ -1,8 +1,8 @@
 use Rattle.std.proofs.Common.{ℕ, sym, ap}
 use Rattle.std.specs.Prelude.{List}
 use Rattle.model_journal.specs.Journal.{graph, vals}
-use Rattle.model_replica.specs.Core.{Read}
-use Rattle.model_replica.proofs.SourceLaws.{sources-source}
+use Rattle.model_core.specs.Core.{Read}
+use Rattle.model_core.proofs.SourceLaws.{sources-source}
 use Rattle.lasp_node.proofs.CallLaws.{parked-unmet}
 use Rattle.lasp_node.proofs.node.CoreNodeNode.recall.Goals as goal
 

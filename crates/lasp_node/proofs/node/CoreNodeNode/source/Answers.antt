@@ -1,6 +1,6 @@
 use Rattle.std.proofs.Common.{sym, ◌∙◌}
 use Rattle.model_journal.specs.Journal.{graph, vals}
-use Rattle.model_replica.proofs.SourceLaws.{sources-source}
+use Rattle.model_core.proofs.SourceLaws.{sources-source}
 use Rattle.lasp_node.proofs.node.CoreNodeNode.source.Goals as goal
 
 pub returns-clause-content : goal.returns-clause-content

@@ -1,6 +1,0 @@
-use Rattle.std.proofs.Common.{ℕ, ◌<◌}
-use Rattle.lasp_core.specs.Jobs.{IsFreeAt}
-use Rattle.lasp_core.proofs.replica.Replica.first_free.Given as goal
-
-abbrev pub invariant-loop-y : goal.invariant-loop-y
-invariant-loop-y l = (z : ℕ) → z < l.y → IsFreeAt l.self z → ⊥

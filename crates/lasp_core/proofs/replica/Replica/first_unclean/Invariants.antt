@@ -1,6 +1,0 @@
-use Rattle.std.proofs.Common.{ℕ, ◌<◌}
-use Rattle.lasp_core.specs.Jobs.{IsUncleanAt}
-use Rattle.lasp_core.proofs.replica.Replica.first_unclean.Given as goal
-
-abbrev pub invariant-loop-y : goal.invariant-loop-y
-invariant-loop-y l = (z : ℕ) → z < l.y → IsUncleanAt l.self z → ⊥

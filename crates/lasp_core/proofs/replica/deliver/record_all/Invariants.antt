@@ -1,5 +1,0 @@
-use Rattle.lasp_core.specs.Delivery.{AreRecordedTo}
-use Rattle.lasp_core.proofs.replica.deliver.record_all.Given as goal
-
-abbrev pub invariant-loop-x : goal.invariant-loop-x
-invariant-loop-x l = AreRecordedTo l.x l.grow l.entry l.fn.histories.items l.histories.items

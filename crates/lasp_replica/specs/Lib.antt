@@ -1,0 +1,9 @@
+pub mod Parts
+pub mod TakenIn
+pub mod Reading
+pub mod Replica
+pub mod Jobs
+pub mod Update
+pub mod Finish
+pub mod Delivery
+pub mod Entries

@@ -1,0 +1,201 @@
+//! Results of jobs.
+
+ghost use Rattle.std.specs.Prelude.{◌≡◌, ◌<◌, ◌≤◌, ◌↔◌, IfOk, OnOk, OnErr, IfErr, IsTrue, IsFalse, IsSome, ◌++◌, ◌∷◌, [], length, map, take, slice_set, slice_index_or, Some, None, vec_len, vec_capacity};
+ghost use Rattle.std.specs.Arc.{arc_value};
+ghost use Rattle.model_sets.specs.Equations.{changed};
+ghost use Rattle.model_states.specs.Content.{size_of, row_limit};
+ghost use Rattle.model_states.specs.Threshold.{set};
+ghost use Rattle.model_graph.specs.Graph.{kind_at};
+ghost use Rattle.model_graph.specs.Evaluation.{equation};
+ghost use Rattle.model_graph.specs.Lawful.{IsDerived};
+ghost use Rattle.model_journal.specs.Journal.{graph, vals};
+ghost use Rattle.model_journal.specs.Clean.{base};
+ghost use Rattle.lasp_state.specs.State.{content_of, shape_of};
+ghost use Rattle.lasp_graph.specs.States.{held_at};
+ghost use Rattle.lasp_replica.specs.Replica.{frame_of, entries_of, told, seen_process, jobs_of, IsReplica, Stays};
+ghost use Rattle.lasp_replica.specs.Jobs.{IsJobOf, IsResultOf, HasBound};
+ghost use Rattle.lasp_replica.specs.Finish.{HasRows, AreNewsOf, IsAlike, HasRoom, base_on};
+
+use super::Replica;
+use super::update::record_growth;
+use crate::entry::{Act, Entry};
+use crate::process::Process;
+use lasp_graph::Inputs;
+use lasp_job::Job;
+use lasp_orset::{OrSet, changed};
+use lasp_state::State;
+use std::alloc::AllocError;
+use std::sync::Arc;
+
+/// The rows of a set, or of the set that a fold covers.
+fn rows_of(state: &State) -> &OrSet
+    requires { HasRows (shape_of state.now) }
+    ensures { result.now ≡ (content_of state.now).rows }
+{
+    match state {
+        State::Set(rows) => rows,
+        State::Fold(rows, _) => rows,
+        _ => unreachable!(),
+    }
+}
+
+/// Whether the state is that of a set.
+fn is_set(state: &State) -> bool
+    ensures { IsTrue result ↔ (shape_of state.now ≡ set) }
+{
+    matches!(state, State::Set(_))
+}
+
+/// Writes an entry down, for which the memory is there.
+fn write_down(journal: &mut Vec<Entry>, entry: Entry)
+    requires { vec_len journal.old < vec_capacity journal.old }
+    ensures { journal.new.items ≡ journal.old.items ++ entry ∷ [] }
+{
+    let _ = journal.push(entry);
+}
+
+/// The process of a derived variable has read these inputs.
+fn rebase(processes: &mut Vec<Option<Process>>, var: u8, n: u64, inputs: Inputs)
+    requires within { var < length processes.old.items }
+    requires derived { IsSome (slice_index_or processes.old.items var None) }
+    ensures bases { map seen_process processes.new.items ≡ slice_set (map seen_process processes.old.items) var (Some (base_on n inputs)) }
+    ensures busy { map jobs_of processes.new.items ≡ map jobs_of processes.old.items }
+{
+    if let Some(process) = &mut processes[var as usize] {
+        process.n = n;
+        process.base = inputs;
+    }
+}
+
+impl Replica {
+    /// The rows that a variable gains by the result of a job.
+    fn gained(&self, job: &Job, state: &State) -> Result<OrSet, AllocError>
+        requires replica { IsReplica self.now }
+        requires job { IsJobOf (frame_of self.now) (entries_of self.now) job.now }
+        requires result { IsResultOf (frame_of self.now) (entries_of self.now) job.now state.now }
+        ensures { IfOk result (λ rows. rows ≡ changed (held_at self.now.states job.now.var).content.rows (content_of state.now).rows) }
+    {
+        let present = rows_of(self.states.at(u64::from(job.var)));
+        match &job.gain {
+            Some(rows) => {
+                rows.ascends();
+                changed(self.allocator(), present, rows)
+            }
+            None => changed(self.allocator(), present, rows_of(state)),
+        }
+    }
+
+    /// Whether a variable grows by the result of a job, and the rows that it gains if it is a set.
+    fn news(&self, job: &Job, state: &State) -> Result<(bool, OrSet), AllocError>
+        requires replica { IsReplica self.now }
+        requires job { IsJobOf (frame_of self.now) (entries_of self.now) job.now }
+        requires result { IsResultOf (frame_of self.now) (entries_of self.now) job.now state.now }
+        ensures { IfOk result (λ news. AreNewsOf (held_at self.now.states job.now.var) state.now news.0 news.1) }
+    {
+        let rows = self.gained(job, state)?;
+        let grows = rows.rows() > 0;
+        if is_set(state) {
+            return Ok((grows, rows));
+        }
+        Ok((grows, rows.empty()))
+    }
+
+    /// How many entries the process of a derived variable last read.
+    fn base_of(&self, var: u8) -> u64
+        requires replica { IsReplica self.now }
+        requires derived { IsDerived (arc_value self.now.graph) var }
+        ensures { result ≡ base (frame_of self.now) (entries_of self.now) var }
+    {
+        match &self.processes[var as usize] {
+            None => 0,
+            Some(process) => process.n,
+        }
+    }
+
+    /// Takes in the result of a job. All memory is taken before anything changes.
+    pub fn finish(&mut self, by: u64, job: Job, state: State) -> Result<(), (Job, AllocError)>
+        requires replica { IsReplica self.old }
+        requires job { IsJobOf (frame_of self.old) (entries_of self.old) job }
+        requires result { IsResultOf (frame_of self.old) (entries_of self.old) job state }
+        ensures ok { OnOk result (HasBound by job.var job.n self.old self.new) }
+        ensures err { OnErr result (Stays self.old self.new) }
+        ensures back { IfErr result (λ e. e.0 ≡ job) }
+    {
+        if job.n <= self.base_of(job.var) {
+            return self.finish_late(by, job);
+        }
+        match self.ready(&job, state) {
+            Err(error) => Err((job, error)),
+            Ok((grows, result)) => {
+                self.bind(by, job, grows, result);
+                Ok(())
+            }
+        }
+    }
+
+    /// The memory that the result of a job needs, whether the variable grows by it, and the result, shared.
+    fn ready(&mut self, job: &Job, state: State) -> Result<(bool, Arc<State>), AllocError>
+        requires replica { IsReplica self.old }
+        requires job { IsJobOf (frame_of self.old) (entries_of self.old) job.now }
+        requires result { IsResultOf (frame_of self.old) (entries_of self.old) job.now state }
+        ensures same { IsAlike self.old self.new }
+        ensures room { IfOk result (λ made. HasRoom job.now.var state made.0 self.new) }
+        ensures state { IfOk result (λ made. arc_value made.1 ≡ state) }
+    {
+        let (grows, rows) = self.news(job, &state)?;
+        self.histories[job.var as usize].prepare(&rows)?;
+        self.journal.reserve(1)?;
+        let result = Arc::new(self.allocator(), state)?;
+        Ok((grows, result))
+    }
+
+    /// Takes in the result of a job for which the memory is there.
+    fn bind(&mut self, by: u64, job: Job, grows: bool, state: Arc<State>)
+        requires replica { IsReplica self.old }
+        requires job { IsJobOf (frame_of self.old) (entries_of self.old) job }
+        requires result { IsResultOf (frame_of self.old) (entries_of self.old) job (arc_value state) }
+        requires later { base (frame_of self.old) (entries_of self.old) job.var < job.n }
+        requires room { HasRoom job.var (arc_value state) grows self.old }
+        ensures { HasBound by job.var job.n self.old self.new }
+    {
+        let parts = job.into_parts();
+        let var = parts.var;
+        self.states.replace(u64::from(var), state);
+        let entry = self.journal.len() as u64;
+        record_growth(&mut self.histories, var, grows, entry);
+        write_down(
+            &mut self.journal,
+            Entry {
+                by,
+                what: Act::Bind(var, parts.n),
+            },
+        );
+        rebase(&mut self.processes, var, parts.n, parts.inputs);
+        self.stop(var);
+    }
+
+    /// Takes in the result of a job whose variable has read as much already.
+    fn finish_late(&mut self, by: u64, job: Job) -> Result<(), (Job, AllocError)>
+        requires replica { IsReplica self.old }
+        requires job { IsJobOf (frame_of self.old) (entries_of self.old) job }
+        requires late { job.n ≤ base (frame_of self.old) (entries_of self.old) job.var }
+        requires small { size_of (equation (kind_at (graph (frame_of self.old) (entries_of self.old)) job.var) (vals (frame_of self.old) (take job.n (entries_of self.old)))) ≤ row_limit }
+        ensures ok { OnOk result (HasBound by job.var job.n self.old self.new) }
+        ensures err { OnErr result (Stays self.old self.new) }
+        ensures back { IfErr result (λ e. e.0 ≡ job) }
+    {
+        if let Err(error) = self.journal.reserve(1) {
+            return Err((job, error));
+        }
+        let parts = job.into_parts();
+        write_down(
+            &mut self.journal,
+            Entry {
+                by,
+                what: Act::Bind(parts.var, parts.n),
+            },
+        );
+        self.stop(parts.var);
+        Ok(())
+    }
+}

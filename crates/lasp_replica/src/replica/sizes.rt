@@ -1,0 +1,37 @@
+//! How large a join would be, and what it would change, before it is made.
+
+ghost use Rattle.std.specs.Prelude.{◌≡◌, ◌≢◌, ◌↔◌, IfOk, OnOk, OnErr, IsTrue, IsFalse, length};
+ghost use Rattle.model_sets.specs.Equations.{changed};
+ghost use Rattle.model_states.specs.Content.{join_contents, size_of, IsContentAtMost};
+ghost use Rattle.lasp_state.specs.State.{content_of, shape_of};
+ghost use Rattle.lasp_replica.specs.Parts.{news_of};
+
+use lasp_orset::{OrSet, changed};
+use lasp_state::State;
+use std::alloc::{AllocError, Global};
+
+/// How many rows or elements the join of two states of one shape has. It costs a search for each row of the smaller one, and takes no memory.
+pub(super) fn joined_size(s: &State, t: &State) -> u64
+    requires { shape_of s.now ≡ shape_of t.now }
+    ensures { result ≡ size_of (join_contents (content_of s.now) (content_of t.now)) }
+{
+    match (s, t) {
+        (State::Set(set), State::Set(rows)) => set.joined_rows(rows),
+        (State::Grow(values), State::Grow(others)) => values.joined_len(others),
+        (State::Count(_), State::Count(_)) => 0,
+        (State::Max(_), State::Max(_)) => 0,
+        (State::Fold(set, _), State::Fold(rows, _)) => set.joined_rows(rows),
+        (_, _) => unreachable!(),
+    }
+}
+
+/// The rows of a set that another one lacks or has live alone; of other states none.
+pub(super) fn news(alloc: Global, s: &State, t: &State) -> Result<OrSet, AllocError>
+    requires { shape_of s.now ≡ shape_of t.now }
+    ensures { IfOk result (λ rows. rows ≡ news_of (shape_of s.now) (content_of s.now) (content_of t.now)) }
+{
+    match (s, t) {
+        (State::Set(set), State::Set(rows)) => changed(alloc, set, rows),
+        (_, _) => Ok(OrSet::new(alloc)),
+    }
+}

@@ -1,0 +1,146 @@
+//! Jobs: what an evaluation of a derived variable needs, without the replica.
+
+ghost use Rattle.std.specs.Prelude.{◌≡◌, ◌<◌, ◌≤◌, IfOk, OnOk, OnErr, IsTrue, IsFalse, Some, length, slice_get, drop, is_some};
+ghost use Rattle.std.specs.Arc.{arc_value};
+ghost use Rattle.model_sets.specs.Rows.{of_rows};
+ghost use Rattle.model_graph.specs.Graph.{is_set, is_source, kind_at};
+ghost use Rattle.model_graph.specs.Lawful.{IsDerived};
+ghost use Rattle.lasp_history.specs.History.{rows_before};
+ghost use Rattle.lasp_graph.specs.Kind.{kind_of};
+ghost use Rattle.lasp_graph.specs.States.{held_of, held_at};
+ghost use Rattle.lasp_graph.specs.Evaluated.{second_of};
+ghost use Rattle.lasp_job.specs.Asked.{has_two};
+ghost use Rattle.lasp_replica.specs.Parts.{first_input, second_input};
+ghost use Rattle.lasp_replica.specs.Replica.{entries_of, growths_at, log_at, IsReplica};
+ghost use Rattle.lasp_replica.specs.Jobs.{IsTaken, HasStarted, HasStopped, AreShared};
+
+use super::Replica;
+use super::least::has_two;
+use crate::process::Process;
+use lasp_graph::{Inputs, Kind};
+use lasp_job::Job;
+use lasp_orset::OrSet;
+use lasp_state::State;
+use std::alloc::AllocError;
+use std::sync::Arc;
+
+/// The same inputs, shared.
+fn shared(inputs: &Inputs) -> Result<Inputs, AllocError>
+    ensures { IfOk result (AreShared inputs.now) }
+{
+    let second = match &inputs.second {
+        None => None,
+        Some(state) => Some(Arc::try_clone(state)?),
+    };
+    Ok(Inputs {
+        first: Arc::try_clone(&inputs.first)?,
+        second,
+    })
+}
+
+impl Replica {
+    /// The rows of variable x that changed since the first n entries. Where all of them did, it shares the set.
+    fn changes(&self, x: u8, n: u64) -> Result<OrSet, AllocError>
+        requires replica { IsReplica self.now }
+        requires var { x < length (arc_value self.now.graph) }
+        requires set { IsTrue (is_set (kind_at (arc_value self.now.graph) x)) }
+        ensures { IfOk result (λ rows. rows ≡ of_rows (drop (rows_before (growths_at self.now x) n) (log_at self.now x))) }
+    {
+        let history = &self.histories[x as usize];
+        if history.rows_before(n) > 0 {
+            return history.since(self.allocator(), n);
+        }
+        match &**self.states.at(u64::from(x)) {
+            State::Set(rows) => rows.try_clone(),
+            _ => unreachable!(),
+        }
+    }
+
+    /// The inputs of a process of this kind as they are.
+    fn inputs(&self, kind: &Kind, x: u8, y: u8) -> Result<Inputs, AllocError>
+        requires first { x < length self.now.states }
+        requires second { y < length self.now.states }
+        ensures first { IfOk result (λ i. held_of (arc_value i.first) ≡ held_at self.now.states x) }
+        ensures second { IfOk result (λ i. IsTrue (has_two (kind_of kind.now)) → held_of (second_of i) ≡ held_at self.now.states y) }
+        ensures one { IfOk result (λ i. IsFalse (has_two (kind_of kind.now)) → held_of (second_of i) ≡ held_at self.now.states x) }
+        ensures two { IfOk result (λ i. is_some i.second ≡ has_two (kind_of kind.now)) }
+    {
+        let first = Arc::try_clone(self.states.at(u64::from(x)))?;
+        let second = if has_two(kind) {
+            Some(Arc::try_clone(self.states.at(u64::from(y)))?)
+        } else {
+            None
+        };
+        Ok(Inputs { first, second })
+    }
+
+    /// A job of a derived variable.
+    fn job(&self, var: u8, process: &Process) -> Result<Job, AllocError>
+        requires replica { IsReplica self.now }
+        requires var { slice_get self.now.processes.items var ≡ Some (Some process.now) }
+        ensures { IfOk result (IsTaken self.now var) }
+    {
+        let kind = &self.graph.at(u64::from(var)).kind;
+        match kind.inputs() {
+            None => unreachable!(),
+            Some((x, y)) => {
+                let first = self.changes(x, process.n)?;
+                let second = if has_two(kind) {
+                    self.changes(y, process.n)?
+                } else {
+                    first.try_clone()?
+                };
+                Ok(Job::new(
+                    var,
+                    self.journal.len() as u64,
+                    self.inputs(kind, x, y)?,
+                    Arc::try_clone(&self.graph)?,
+                    shared(&process.base)?,
+                    Arc::try_clone(self.states.at(u64::from(var)))?,
+                    first,
+                    second,
+                ))
+            }
+        }
+    }
+
+    /// A job of a derived variable, which is busy once more.
+    pub fn take_var(&mut self, var: u8) -> Result<Job, AllocError>
+        requires replica { IsReplica self.old }
+        requires derived { IsDerived (arc_value self.old.graph) var }
+        ensures job { IfOk result (IsTaken self.old var) }
+        ensures ok { OnOk result (HasStarted var self.old self.new) }
+        ensures err { OnErr result (self.new ≡ self.old) }
+    {
+        match &self.processes[var as usize] {
+            None => unreachable!(),
+            Some(process) => {
+                let job = self.job(var, process)?;
+                self.start(var);
+                Ok(job)
+            }
+        }
+    }
+
+    /// Variable y is busy once more.
+    fn start(&mut self, var: u8)
+        requires replica { IsReplica self.old }
+        requires derived { IsDerived (arc_value self.old.graph) var }
+        ensures { HasStarted var self.old self.new }
+    {
+        if let Some(process) = &mut self.processes[var as usize] {
+            process.busy = process.busy.saturating_add(1);
+        }
+    }
+
+    /// Variable y is busy once less.
+    pub fn stop(&mut self, var: u8)
+        requires replica { IsReplica self.old }
+        requires derived { IsDerived (arc_value self.old.graph) var }
+        ensures { HasStopped var self.old self.new }
+    {
+        if let Some(process) = &mut self.processes[var as usize] {
+            process.busy = process.busy.saturating_sub(1);
+        }
+    }
+}
