@@ -15,9 +15,9 @@ use Rattle.model_world.specs.declared.stop.Stop.{Stop}
 use Rattle.model_known.proofs.FollowLaws.{bound}
 use Rattle.model_journal.specs.Entry as model
 use Rattle.model_journal.specs.Entry.{Entry}
-use Rattle.model_replica.specs.Core.{Read}
-use Rattle.model_calls.specs.Calls.{fed, call_of, when_done, calls_of_acts}
-use Rattle.model_calls.proofs.MatchLaws.{append-nothing, append-again}
+use Rattle.model_core.specs.Core.{Read}
+use Rattle.model_runs.specs.Calls.{fed, call_of, when_done, calls_of_acts}
+use Rattle.model_runs.proofs.MatchLaws.{append-nothing, append-again}
 use Rattle.lasp_drive.specs.Calls.{calls_at, GoOnByCalls}
 use Rattle.lasp_drive.specs.Reads.{Reads, no_reads, opened_more, next_read, opens, closes, looks, reads_at}
 

@@ -10,7 +10,7 @@ use Rattle.model_graph.specs.Evaluation.{content_at}
 use Rattle.model_messages.specs.Message.{Message}
 use Rattle.model_world.specs.World.{Peer, Marked, Opened, Run, peer_at, with_mark, with_read}
 use Rattle.model_world.specs.declared.stop.Stop.{Stop}
-use Rattle.model_held.specs.Sound.{IsSound}
+use Rattle.model_runs.specs.Sound.{IsSound}
 use Rattle.lasp_drive.specs.Node.{IsNode}
 use Rattle.lasp_drive.proofs.NodeLaws.{peer-here}
 
@@ -55,7 +55,7 @@ pub network-done : (result : Result Run Stop) (run : Run) (sent more : List Mess
 network-done result run sent more is same = is ∙ ap (λ (ms : List Message). done_with (with_sent run ms)) (sym same)
 
 -- a sound run of it
-pub network-sound : (many c : ℕ) (g : List Decl) (vars : List ℕ) (run : Run) (sent more : List Message) → more ≡ sent → IsSound many c (record { graph = g; marked = vars; sent = length sent }) (with_sent run sent)
+network-sound : (many c : ℕ) (g : List Decl) (vars : List ℕ) (run : Run) (sent more : List Message) → more ≡ sent → IsSound many c (record { graph = g; marked = vars; sent = length sent }) (with_sent run sent)
     → IsSound many c (record { graph = g; marked = vars; sent = length more }) (with_sent run more)
 network-sound many c g vars run sent more same sound = subst (λ (ms : List Message). IsSound many c (record { graph = g; marked = vars; sent = length ms }) (with_sent run ms)) (sym same) sound
 

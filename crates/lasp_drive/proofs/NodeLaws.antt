@@ -16,12 +16,12 @@ use Rattle.model_messages.specs.Spelling.{spelled}
 use Rattle.model_world.specs.World.{Peer, Run, peer_at, no_peer, with_peer, updated, checked_update, delivered, checked_delivery, stop_from, message_at, no_message, sent_number, checked_send, network_size, network_limit}
 use Rattle.model_world.specs.declared.stop.Stop.{Stop}
 use Rattle.model_world.specs.declared.stop.Stop.TheVariants.{TooLarge, NetworkFull}
-use Rattle.model_held.specs.Held.{IsHeld, IsUpdate, IsSentTo, AreBelow}
-use Rattle.model_held.proofs.EachLaws.{each-weaker, below-at}
+use Rattle.model_runs.specs.Held.{IsHeld, IsUpdate, IsSentTo, AreBelow}
+use Rattle.model_runs.proofs.EachLaws.{each-weaker, below-at}
 use Rattle.lasp_state.specs.State.{IsOpOf}
 use Rattle.lasp_state.specs.declared.op.Op as rust
 use Rattle.lasp_gossip.specs.Network.{size_of as size_of_network}
-use Rattle.lasp_gossip.proofs.SpelledLaws.{size_more}
+use Rattle.lasp_gossip.proofs.SizeLaws.{size_more}
 use Rattle.lasp_drive.specs.Node.{Updates, Delivers, IsNode, AreNodes}
 use Rattle.lasp_drive.specs.declared.node.NodeStop.{NodeStop}
 use Rattle.lasp_drive.specs.declared.node.NodeStop.TheVariants as node

@@ -19,9 +19,9 @@ use Rattle.lasp_drive.specs.declared.node.NodeStop.{NodeStop}
 use Rattle.lasp_drive.specs.declared.node.NodeStop.TheVariants as node
 use Rattle.std.specs.declared.vec.Vec.{Vec}
 use Rattle.std.specs.declared.alloc.Global.{Global}
-use Rattle.model_held.specs.Sound.{IsSound, IsOpened, no_read, read_at}
+use Rattle.model_runs.specs.Sound.{IsSound, IsOpened, no_read, read_at}
 use Rattle.lasp_drive.specs.declared.driver.OpenRead.{OpenRead}
-use Rattle.model_held.proofs.SoundLaws.{sound-extend}
+use Rattle.model_runs.proofs.SoundLaws.{sound-extend}
 use Rattle.std.specs.declared.sync.Arc.{Arc}
 use Rattle.lasp_graph.specs.declared.graph.Graph.{Graph}
 use Rattle.lasp_drive.specs.Driver.{opened_of, run_of, stage_of, AreOpened, IsReady}

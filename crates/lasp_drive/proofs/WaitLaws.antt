@@ -7,8 +7,8 @@ use Rattle.std.proofs.lemmas.Option.{slice_get_read}
 use Rattle.model_states.specs.Content.{Content}
 use Rattle.model_states.specs.Threshold.{Threshold, meets}
 use Rattle.model_graph.specs.Evaluation.{content_at}
-use Rattle.model_held.proofs.EachLaws.{each-append, each-weaker}
-use Rattle.model_replica.specs.Core.{Read}
+use Rattle.model_runs.proofs.EachLaws.{each-append, each-weaker}
+use Rattle.model_core.specs.Core.{Read}
 use Rattle.lasp_drive.specs.Node.{Awaited, awaits}
 use Rattle.lasp_drive.specs.Reads.{Reads, no_reads, opened_more, next_read, opens, looks, unmet, releases, Grows}
 use Rattle.lasp_drive.specs.Waiting.{read_of, opened_at, IsWaiting, AreWaiting, opened_counts, OpensNone}

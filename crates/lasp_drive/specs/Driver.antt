@@ -7,7 +7,7 @@ use Rattle.model_world.specs.Lawful.{Stage}
 use Rattle.model_world.specs.World.{Peer, Marked, Opened, Run, network_limit}
 use Rattle.model_world.specs.declared.stop.Stop.{Stop}
 use Rattle.model_world.specs.declared.stop.Stop.TheVariants as stop
-use Rattle.model_held.specs.Sound.{IsSound, IsOpened}
+use Rattle.model_runs.specs.Sound.{IsSound, IsOpened}
 use Rattle.lasp_state.specs.State.{content_of, shape_of}
 use Rattle.lasp_drive.specs.Node.{Awaited, AreNodes}
 use Rattle.lasp_drive.specs.Reads.{Reads}

@@ -3,7 +3,7 @@ use Rattle.std.specs.Prelude.{◌≡◌, ℕ, ◌+◌, ◌-◌, ◌^◌, ◌==�
 use Rattle.model_states.specs.Content.{Content}
 use Rattle.model_states.specs.Threshold.{Threshold, meets}
 use Rattle.model_graph.specs.Evaluation.{content_at}
-use Rattle.model_replica.specs.Core.{Read}
+use Rattle.model_core.specs.Core.{Read}
 
 -- the reads of a node
 pub record Reads : Type 0 where

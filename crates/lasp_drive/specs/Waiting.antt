@@ -3,7 +3,7 @@ use Rattle.std.specs.Prelude.{◌≡◌, ℕ, ◌<◌, ◌==◌, List, [], ◌�
 use Rattle.std.specs.List.{AllByRecursion}
 use Rattle.model_states.specs.Content.{Content}
 use Rattle.model_states.specs.Threshold.{Threshold}
-use Rattle.model_replica.specs.Core.{Read}
+use Rattle.model_core.specs.Core.{Read}
 use Rattle.lasp_drive.specs.Node.{Awaited}
 use Rattle.lasp_drive.specs.Reads.{Reads, unmet, reads_at}
 use Rattle.lasp_drive.specs.declared.driver.OpenRead.{OpenRead}

@@ -14,9 +14,9 @@ ghost use Rattle.model_world.specs.World.{Peer, fresh_peer, updated, delivered, 
 ghost use Rattle.model_world.specs.Line.{shown_content};
 ghost use Rattle.model_readings.specs.Lawful.{FitsAll};
 ghost use Rattle.model_journal.specs.Entry as model;
-ghost use Rattle.model_calls.specs.Calls.{fed};
+ghost use Rattle.model_runs.specs.Calls.{fed};
 ghost use Rattle.model_wire.specs.Lawful.{IsMessage};
-ghost use Rattle.model_held.specs.Held.{IsHeld, IsSentTo, IsUpdate};
+ghost use Rattle.model_runs.specs.Held.{IsHeld, IsSentTo, IsUpdate};
 ghost use Rattle.lasp_state.specs.State as state;
 ghost use Rattle.lasp_state.specs.State.{shown_state, op_of, IsOpOf};
 ghost use Rattle.lasp_state.specs.Threshold.{threshold_of};

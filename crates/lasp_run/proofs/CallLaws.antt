@@ -6,8 +6,8 @@ use Rattle.model_world.specs.Command.{Command}
 use Rattle.model_world.specs.World.{Run, Act, acts, act, each, step}
 use Rattle.model_world.specs.declared.stop.Stop.{Stop}
 use Rattle.model_journal.specs.Entry.{Entry}
-use Rattle.model_calls.specs.Calls.{call_of, when_done, calls_of_acts, calls}
-use Rattle.model_calls.proofs.MatchLaws.{append-nothing, append-again}
+use Rattle.model_runs.specs.Calls.{call_of, when_done, calls_of_acts, calls}
+use Rattle.model_runs.proofs.MatchLaws.{append-nothing, append-again}
 use Rattle.lasp_drive.specs.Calls.{calls_at, GoOnByCalls}
 use Rattle.lasp_drive.specs.Driver.{Does}
 use Rattle.lasp_drive.specs.declared.halt.Halt.{Halt}

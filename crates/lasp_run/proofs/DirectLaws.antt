@@ -3,7 +3,7 @@ use Rattle.std.proofs.Common.{◌≡◌, ℕ, ◌≤◌, Bool, if◌then◌else�
 use Rattle.std.specs.Prelude.{option_and_then}
 use mathlib.Core.Logic.{inl, inr}
 use Rattle.std.proofs.lemmas.Bool.{le-ltb}
-use Rattle.lasp_edge.specs.Told.{Appends}
+use Rattle.model_values.specs.Told.{Appends}
 use Rattle.model_functions.specs.Library.{Library}
 use Rattle.model_graph.specs.Chain.{◌>>=◌, refusing}
 use Rattle.model_graph.specs.Graph.{Decl}

@@ -10,10 +10,10 @@ use Rattle.model_messages.proofs.MessageLaws.{gained-length}
 use Rattle.model_wire.specs.Lawful.{IsMessage}
 use Rattle.model_wire.specs.Message.{decoded}
 use Rattle.model_world.specs.World.{Peer, fresh_peer, delivered}
-use Rattle.model_held.specs.Held.{IsHeld, IsSentTo}
-use Rattle.model_held.proofs.HeldLaws.{held-fresh, held-delivered}
-use Rattle.model_held.proofs.StopLaws.{first-low}
-use Rattle.model_replica.proofs.MessageLaws.{sent-to}
+use Rattle.model_runs.specs.Held.{IsHeld, IsSentTo}
+use Rattle.model_runs.proofs.HeldLaws.{held-fresh, held-delivered}
+use Rattle.model_runs.proofs.StopLaws.{first-low}
+use Rattle.model_core.proofs.MessageLaws.{sent-to}
 use Rattle.model_program.specs.Follows.{Gives}
 use Rattle.model_program.specs.Merge.{may_take, file_at, state_refused, large_refused, replica_before, message_joined, file_joined}
 use Rattle.model_program.proofs.MergeLaws.{take-Decides}
@@ -22,7 +22,7 @@ use Rattle.model_program.specs.declared.refusal.Refusal.TheVariants as refusal
 use Rattle.model_program.specs.declared.state_why.StateWhy.TheVariants.{WrongGraph}
 use Rattle.model_program.specs.declared.failure.Failure.{Failure}
 use Rattle.model_program.specs.declared.failure.Failure.TheVariants.{Refused, ReadFault, Memory}
-use Rattle.lasp_core.specs.Replica.{IsBeginning}
+use Rattle.lasp_replica.specs.Replica.{IsBeginning}
 use Rattle.lasp_drive.specs.Node.{IsNode}
 use Rattle.lasp_run.specs.Merge.{IsReplica, IsRefusal}
 

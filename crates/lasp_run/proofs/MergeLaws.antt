@@ -9,7 +9,7 @@ use Rattle.model_program.specs.Merge.{file_at, file_joined, merging_file, mergin
 use Rattle.model_program.specs.declared.refusal.Refusal.{Refusal}
 use Rattle.model_program.specs.declared.failure.Failure.{Failure}
 use Rattle.model_program.proofs.MergeLaws.{more-none, more-file}
-use Rattle.model_program.proofs.PlanLaws.{performs-checked, stops-checked}
+use Rattle.model_program.proofs.PlanLaws.{performs-checked}
 use Rattle.lasp_run.specs.Merge.{Leads, Ends}
 use Rattle.lasp_run.proofs.PartLaws.{part-of-part}
 
@@ -25,14 +25,7 @@ pub performs-file : {A : Type 0} (shown : A → Peer) (words : List (List ℕ)) 
 performs-file shown words v g i r bytes result passes gives =
     performs-checked shown words v (file_at i) bytes (λ e. e) (file_joined g i r) result passes (subst (λ (answer : Result Peer Refusal). Gives shown answer result) (sym (refusing-itself (file_joined g i r bytes))) gives)
 
-pub stops-file : (words : List (List ℕ)) (v : View) (g : List Decl) (i : ℕ) (r : Option Peer) (failure : Failure) → Stops words v (reading (file_at i)) failure → Stops words v (merging_file g i r) failure
-stops-file words v g i r failure stops = stops-checked words v (file_at i) (λ e. e) (file_joined g i r) failure stops
-
 -- ---- all files
-
--- a call that did nothing came nowhere
-pub leads-itself : (words : List (List ℕ)) (v : View) (p : Plan) → Leads words v p p
-leads-itself words v p w part r h = h
 
 next-file : (g : List Decl) (i more : ℕ) (r : Peer) → 1 ≤ more → merging_more g i more r ≡ merging_file g i (Some r) (λ next. merging_more g (i + 1) (more - 1) next)
 next-file g i more r some =

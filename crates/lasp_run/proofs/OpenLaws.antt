@@ -7,7 +7,7 @@ use Rattle.model_states.specs.Content.{Content}
 use Rattle.model_states.specs.Threshold.{Threshold, meets}
 use Rattle.model_graph.specs.Evaluation.{content_at}
 use Rattle.model_world.specs.Command.{Command}
-use Rattle.model_core.proofs.OneLaws.{same-or-apart}
+use Rattle.lasp_replica.proofs.OneLaws.{same-or-apart}
 use Rattle.lasp_drive.specs.Node.{Awaited}
 use Rattle.lasp_drive.specs.Reads.{Reads, no_reads, next_read, reads_at, opens, looks, OpensAt, LooksAt}
 use Rattle.lasp_drive.specs.Waiting.{AreWaiting, opened_counts, OpensNone}

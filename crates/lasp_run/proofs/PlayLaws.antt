@@ -10,9 +10,9 @@ use Rattle.model_readings.specs.Lawful.{IsNext, IsGraph, FitsAll}
 use Rattle.model_scripts.specs.Progress.{grown_by, grown}
 use Rattle.model_scripts.proofs.GrowthLaws.{grown-added}
 use Rattle.model_world.specs.Command as plain
-use Rattle.model_world.specs.Command.{Command, Script}
+use Rattle.model_world.specs.Command.{Command}
 use Rattle.model_world.specs.Lawful.{Stage, stage_after}
-use Rattle.model_world.specs.World.{Run, Point, act, start, step, play, ended}
+use Rattle.model_world.specs.World.{Run, Point, act, step, play}
 use Rattle.model_world.specs.declared.stop.Stop.{Stop}
 use Rattle.lasp_drive.specs.Driver.{Does, Halts}
 use Rattle.lasp_run.specs.Play.{stages_after}
@@ -123,13 +123,6 @@ stage-graph many s (plain.Await p x u) = refl
 stage-graph many s (plain.Declare d) = refl
 
 -- ---- what is written at the end
-
--- the run of a script from its start
-pub ended-ok : (g : List Decl) (script : Script) (run last : Run) → run ≡ start g script.nodes → play 1 run script.commands ≡ Ok last → ended g script ≡ Ok last
-ended-ok g script run last begins ends = ap (λ (w : Run). play 1 w script.commands) (sym begins) ∙ ends
-
-pub ended-halts : (g : List Decl) (script : Script) (run : Run) (why : Halt) → run ≡ start g script.nodes → Halts (play 1 run script.commands) why → Halts (ended g script) why
-ended-halts g script run why begins h = halts-as (ended g script) (play 1 run script.commands) why (ap (λ (w : Run). play 1 w script.commands) (sym begins)) h
 
 -- the same outcome
 pub does-as : {A : Type 0} (r s : Result Run Stop) (result : Result A Halt) (new : Run) → r ≡ s → Does s result new → Does r result new

@@ -1,19 +1,16 @@
 -- Laws of a command: its acts, one after the other.
-use Rattle.std.proofs.Common.{zero, suc, refl, sym, ap, subst, arith}
+use Rattle.std.proofs.Common.{zero, suc, sym, ap, subst}
 use Rattle.std.specs.Prelude.{◌≡◌, ℕ, ◌+◌, List, [], ◌∷◌, map, length, slice_get, Some, Result, Ok, Err, OnOk}
 use Rattle.std.proofs.lemmas.List.{length-map}
-use Rattle.model_values.specs.Value.{Val}
 use Rattle.model_states.specs.Content.{Content}
 use Rattle.model_graph.specs.Chain.{◌>>=◌}
 use Rattle.model_graph.specs.Graph.{Decl}
-use Rattle.model_wire.specs.Lawful as wire
 use Rattle.model_world.specs.Command as plain
-use Rattle.model_world.specs.Lawful.{Stage, stage_after, MayAsk, IsMarkOf}
-use Rattle.model_world.specs.Lawful as lawful
+use Rattle.model_world.specs.Lawful.{Stage, stage_after}
 use Rattle.model_world.specs.World.{Peer, Run, Act, Point, act, acts, each, sync_acts, mark_at}
 use Rattle.model_world.specs.declared.stop.Stop.{Stop}
 use Rattle.model_world.proofs.StopLaws.{point-same}
-use Rattle.model_held.proofs.SoundLaws.{sound-later}
+use Rattle.model_runs.proofs.SoundLaws.{sound-later}
 use Rattle.lasp_drive.specs.Node.{Awaited}
 use Rattle.lasp_drive.specs.Reads.{Reads}
 use Rattle.lasp_drive.specs.Driver.{marked_of, run_of, stage_of, IsReady, Does}
@@ -22,10 +19,8 @@ use Rattle.lasp_drive.specs.declared.driver.Driver.{Driver}
 use Rattle.lasp_drive.specs.declared.halt.Halt.{Halt}
 use Rattle.lasp_drive.proofs.SyncLaws.{halts-first}
 use Rattle.lasp_drive.proofs.WaitLaws.{all-later}
-use Rattle.lasp_run.specs.Play.{IsUntilWithin, Steps}
-use Rattle.lasp_script.specs.Command.{until_of}
+use Rattle.lasp_run.specs.Play.{Steps}
 use Rattle.lasp_script.specs.declared.command.Until.{Until}
-use Rattle.lasp_script.specs.declared.command.Until.TheVariants as until
 
 module _ {N R : Type 0} (decls : N → List Decl) (number among : N → ℕ) (peer : N → Peer) (awaited : R → Awaited) (number_of : R → ℕ) (shown : N → List Content) (reads : N → Reads) where
   -- a driver before a command stands before a later one, too
@@ -58,28 +53,13 @@ pub does-two : {A : Type 0} (c : ℕ) (run next : Run) (a b : Act) (result : Res
 does-two c run next a b result new first second =
     subst (λ (r : Result Run Stop). Does r result new) (sym (ap (λ (r : Result Run Stop). r >>= (λ n. each c n (b ∷ []))) first)) (does-one c next b result new second)
 
--- a value that a script may give is one of the format
-pub value-here : (v : Val) → lawful.IsSourceValue v → wire.IsSpellable v → wire.IsSourceValue v
-value-here v may parts = record { size = may.0; parts = parts }
-
 -- ---- marks
-
-length-marks : (marks : List Mark) → length (map marked_of marks) ≡ length marks
-length-marks marks = length-map marks marked_of
 
 -- what a mark keeps
 pub mark-here : (marks : List Mark) (m : ℕ) (mark : Mark) → slice_get marks m ≡ Some mark → mark_at (map marked_of marks) m ≡ marked_of mark
 mark-here [] m mark at = absurd cc
 mark-here (k ∷ marks) zero mark at = ap marked_of (let same : k ≡ mark = cc in same)
 mark-here (k ∷ marks) (suc m) mark at = mark-here marks m mark at
-
--- the mark that a threshold names is there
-pub until-within : (nodes x : ℕ) (s : Stage) (t : Until) (many : ℕ) → length s.marked ≡ many → MayAsk nodes s x (until_of t) → IsUntilWithin many t
-until-within nodes x s (until.AtLeast m) many same may = omega (arith, may.0, same)
-until-within nodes x s (until.Above m) many same may = omega (arith, may.0, same)
-until-within nodes x s (until.Count k) many same may = tt
-until-within nodes x s (until.Added vs) many same may = tt
-until-within nodes x s (until.Removed vs) many same may = tt
 
 -- ---- two acts
 

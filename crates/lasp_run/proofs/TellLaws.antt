@@ -1,7 +1,7 @@
 -- Laws of what is appended piece by piece.
 use Rattle.std.proofs.Common.{sym, ap, subst, ◌∙◌, append_assoc}
 use Rattle.std.specs.Prelude.{◌≡◌, ℕ, List, ◌∷◌, ◌++◌, Option, Some, None, Result, Ok, Err, OnErr}
-use Rattle.lasp_edge.specs.Told.{Appends, AppendsPrefix}
+use Rattle.model_values.specs.Told.{Appends, AppendsPrefix}
 use Rattle.model_world.specs.Line.{line_rest}
 
 -- one piece after the other

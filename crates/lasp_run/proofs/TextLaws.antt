@@ -7,7 +7,7 @@ use Rattle.model_states.specs.Content.{Content}
 use Rattle.model_graph.specs.Graph.{Decl}
 use Rattle.model_graph.specs.Evaluation.{content_at, first_large}
 use Rattle.model_graph.proofs.EvalLaws.{eval-length}
-use Rattle.model_held.proofs.StopLaws.{first-low}
+use Rattle.model_runs.proofs.StopLaws.{first-low}
 use Rattle.model_program.specs.Merge.{value_lines}
 use Rattle.model_world.specs.Line.{line, shown_content}
 use Rattle.model_world.specs.World.{Peer, shown_at}

@@ -2,7 +2,7 @@
 use Rattle.std.specs.Prelude.{◌≡◌, ℕ, List, length, Result, Ok, Err}
 use Rattle.model_graph.specs.Graph.{Decl}
 use Rattle.model_world.specs.World.{Peer}
-use Rattle.model_held.specs.Held.{IsHeld}
+use Rattle.model_runs.specs.Held.{IsHeld}
 use Rattle.model_program.specs.Plan.{Plan}
 use Rattle.model_program.specs.Follows.{View, IsPartOf, Follows}
 use Rattle.model_program.specs.declared.refusal.Refusal.{Refusal}

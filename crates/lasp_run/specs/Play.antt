@@ -6,7 +6,7 @@ use Rattle.model_world.specs.Command as plain
 use Rattle.model_world.specs.Lawful.{Stage, stage_after, MayBeDone}
 use Rattle.model_world.specs.World.{Peer, acts, step}
 use Rattle.model_journal.specs.Entry.{Entry}
-use Rattle.model_calls.specs.Calls.{calls_of_acts}
+use Rattle.model_runs.specs.Calls.{calls_of_acts}
 use Rattle.lasp_drive.specs.Node.{Awaited}
 use Rattle.lasp_drive.specs.Reads.{Reads}
 use Rattle.lasp_drive.specs.Waiting.{opened_counts}

@@ -8,7 +8,7 @@ ghost use Rattle.model_world.specs.Report.{report_of};
 ghost use Rattle.model_world.specs.World.{start, ended, play};
 ghost use Rattle.model_scripts.specs.Progress.{grown};
 ghost use Rattle.model_program.specs.Program.{exported_bytes};
-ghost use Rattle.model_calls.specs.Calls.{calls};
+ghost use Rattle.model_runs.specs.Calls.{calls};
 ghost use Rattle.lasp_graph.specs.Library.{library_of};
 ghost use Rattle.lasp_script.specs.Command.{command_of};
 ghost use Rattle.lasp_drive.specs.Node.{AreSettled};

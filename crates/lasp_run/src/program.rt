@@ -1,8 +1,8 @@
 //! The program on one thread.
 
 ghost use Rattle.std.specs.Prelude.{◌≡◌, ◌≢◌, ◌≤◌, ◌⊎◌, ℕ, List, Result, Some, Ok, Err};
-ghost use Rattle.lasp_edge.specs.Faults.{Rose};
-ghost use Rattle.lasp_edge.specs.Told.{Appends};
+ghost use Rattle.model_values.specs.Faults.{Rose};
+ghost use Rattle.model_values.specs.Told.{Appends};
 ghost use Rattle.model_graph.specs.Graph.{Decl};
 ghost use Rattle.model_world.specs.Command.{Script};
 ghost use Rattle.model_world.specs.World.{Run, ended};

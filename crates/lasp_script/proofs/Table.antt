@@ -7,7 +7,7 @@ use Rattle.std.proofs.lemmas.List.{append_assoc, append-nil}
 use Rattle.serde_json.specs.Data.{Data, Num}
 use Rattle.serde_json.specs.Find.{as_u64, as_i64}
 use Rattle.model_values.specs.Value.{Val, int}
-use Rattle.lasp_value.specs.Json.{read_value}
+use Rattle.model_values.specs.Json.{read_value}
 use Rattle.model_states.specs.Threshold.{is_counted, has_values, has_rows}
 use Rattle.model_functions.specs.Library.{Library}
 use Rattle.model_graph.specs.Chain.{◌>>=◌, check, or_else, refusing}

@@ -3,8 +3,8 @@ use Rattle.std.specs.Prelude.{ℕ, ℤ, ◌&&◌, ◌==◌, List, [], ◌∷◌,
 use Rattle.serde_json.specs.Data.{Data, Num}
 use Rattle.serde_json.specs.Find.{as_u64, as_i64}
 use Rattle.model_values.specs.Value.{Val}
-use Rattle.lasp_value.specs.Json.{read_value}
-use Rattle.lasp_value.specs.declared.refused.ValueRefused.{ValueRefused}
+use Rattle.model_values.specs.Json.{read_value}
+use Rattle.model_values.specs.declared.value_why.ValueWhy.{ValueWhy}
 use Rattle.model_states.specs.Threshold.{is_counted, has_values, has_rows}
 use Rattle.model_functions.specs.Library.{Library}
 use Rattle.model_graph.specs.Chain.{◌>>=◌, check, or_else, refusing}
@@ -42,7 +42,7 @@ kind_checked works g x = check (works (kind_at g x)) why.WrongOp
 
 -- ---- what a word brings
 
-abbrev pub why_refused : ValueRefused → ScriptWhy
+abbrev pub why_refused : ValueWhy → ScriptWhy
 why_refused e = why.ValueRefused
 
 unfoldable pub value_read : Data → Result Val ScriptWhy

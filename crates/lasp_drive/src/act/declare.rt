@@ -11,7 +11,7 @@ ghost use Rattle.model_world.specs.Lawful.{stage_after};
 ghost use Rattle.model_world.specs.World.{act, extended, Extend};
 ghost use Rattle.lasp_graph.specs.Decl.{decl_of};
 ghost use Rattle.lasp_drive.specs.Node.{AreNodes};
-ghost use Rattle.model_calls.specs.Calls.{fed, call_of};
+ghost use Rattle.model_runs.specs.Calls.{fed, call_of};
 ghost use Rattle.lasp_drive.specs.Calls.{GoOnByCalls};
 ghost use Rattle.lasp_drive.specs.declared.driver.OpenRead.{OpenRead};
 ghost use Rattle.lasp_drive.specs.Waiting.{AreWaiting, OpensNone, opened_counts};

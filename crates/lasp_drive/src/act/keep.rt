@@ -11,7 +11,7 @@ ghost use Rattle.model_world.specs.Lawful.{stage_after};
 ghost use Rattle.model_world.specs.World as world;
 ghost use Rattle.model_world.specs.World.{act, Keep, Open};
 ghost use Rattle.lasp_state.specs.Threshold.{threshold_of};
-ghost use Rattle.model_calls.specs.Calls.{call_of};
+ghost use Rattle.model_runs.specs.Calls.{call_of};
 ghost use Rattle.lasp_drive.specs.Calls.{GoOnByCalls};
 ghost use Rattle.lasp_drive.specs.Reads.{OpensAt};
 ghost use Rattle.lasp_drive.specs.Waiting.{OpensNone, HasOpened};

@@ -1,4 +1,4 @@
-//! Messages: a node sends, and a node takes what was sent. Each goes through its bytes.
+//! Messages: a node sends, and a node takes what was sent.
 
 ghost use Rattle.std.specs.Prelude.{◌≡◌, ◌<◌, ◌≤◌, length, OnOk};
 ghost use Rattle.std.specs.Arc.{arc_value};
@@ -6,7 +6,7 @@ ghost use Rattle.model_readings.specs.Lawful.{IsGraph};
 ghost use Rattle.model_world.specs.Command as command;
 ghost use Rattle.model_world.specs.Lawful.{stage_after};
 ghost use Rattle.model_world.specs.World.{act, Post, Take};
-ghost use Rattle.model_calls.specs.Calls.{call_of};
+ghost use Rattle.model_runs.specs.Calls.{call_of};
 ghost use Rattle.lasp_drive.specs.Calls.{GoOnByCalls};
 ghost use Rattle.lasp_drive.specs.Waiting.{OpensNone};
 ghost use Rattle.lasp_drive.specs.Driver.{run_of, stage_of, IsReady, Does};
@@ -32,7 +32,7 @@ impl<N: Node> Driver<N> {
         self.graph.recall();
         self.network.len();
         let message = self.nodes[p as usize].message(alloc)?;
-        match self.network.send(alloc, &message) {
+        match self.network.send(message) {
             Ok(_) => Ok(()),
             Err(SendRefused::NetworkFull) => Err(Halt::NetworkFull(c)),
             Err(SendRefused::Memory) => Err(Halt::Memory),
@@ -50,7 +50,7 @@ impl<N: Node> Driver<N> {
         ensures calls { OnOk result (GoOnByCalls N.calls self.old.nodes.items self.new.nodes.items (λ q. call_of (run_of N.peer N.awaited self.old) q (Take p i))) }
         ensures reads { OnOk result (OpensNone N.reads self.old self.new) }
     {
-        let message = self.network.receive(alloc, i)?;
+        let message = self.network.receive(i)?;
         match self.nodes[p as usize].deliver(alloc, i, &message) {
             Ok(()) => Ok(()),
             Err(NodeStop::TooLarge(x)) => Err(Halt::TooLarge(c, p, x)),

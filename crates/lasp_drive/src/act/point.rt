@@ -3,11 +3,11 @@
 ghost use Rattle.std.specs.Prelude.{◌≡◌, ◌<◌, ◌≤◌, ℕ, List, length, map, OnOk};
 ghost use Rattle.std.specs.Arc.{arc_value};
 ghost use Rattle.model_readings.specs.Lawful.{FitsAll};
-ghost use Rattle.model_held.specs.Held.{IsHeld};
+ghost use Rattle.model_runs.specs.Held.{IsHeld};
 ghost use Rattle.model_world.specs.World.{act, Run, Point, peer_at, point_from};
 ghost use Rattle.lasp_graph.specs.Library.{library_of};
 ghost use Rattle.lasp_drive.specs.Node.{AreNodes, AreSettled};
-ghost use Rattle.model_calls.specs.Calls.{call_of};
+ghost use Rattle.model_runs.specs.Calls.{call_of};
 ghost use Rattle.lasp_drive.specs.Calls.{GoOnByCalls};
 ghost use Rattle.lasp_drive.specs.declared.driver.OpenRead.{OpenRead};
 ghost use Rattle.lasp_drive.specs.Waiting.{AreWaiting, OpensNone, opened_counts};

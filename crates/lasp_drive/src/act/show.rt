@@ -11,7 +11,7 @@ ghost use Rattle.model_world.specs.World as world;
 ghost use Rattle.model_world.specs.World.{act, shown_at, Show, Reach};
 ghost use Rattle.lasp_state.specs.Threshold.{threshold_of};
 ghost use Rattle.lasp_drive.specs.Node.{IsNode, AreSettled};
-ghost use Rattle.model_calls.specs.Calls.{call_of};
+ghost use Rattle.model_runs.specs.Calls.{call_of};
 ghost use Rattle.lasp_drive.specs.Calls.{GoOnByCalls};
 ghost use Rattle.lasp_drive.specs.Reads.{looks, LooksAt};
 ghost use Rattle.lasp_drive.specs.Waiting.{OpensNone};

@@ -5,7 +5,7 @@ ghost use Rattle.std.specs.List.{range_with_len};
 ghost use Rattle.model_world.specs.Command as command;
 ghost use Rattle.model_world.specs.Lawful.{stage_after};
 ghost use Rattle.model_world.specs.World.{each, takes, sync_acts, Post};
-ghost use Rattle.model_calls.specs.Calls.{calls_of_acts};
+ghost use Rattle.model_runs.specs.Calls.{calls_of_acts};
 ghost use Rattle.lasp_drive.specs.Calls.{GoOnByCalls};
 ghost use Rattle.lasp_drive.specs.Waiting.{OpensNone};
 ghost use Rattle.lasp_drive.specs.Driver.{run_of, stage_of, IsReady, Does};

@@ -1,8 +1,8 @@
 //! Lines of words on a sink. No memory is taken.
 
 ghost use Rattle.std.specs.Prelude.{◌≡◌, ◌≤◌, ◌∷◌, [], List, ℕ, map, ◌++◌, OnOk, OnErr};
-ghost use Rattle.lasp_edge.specs.Faults.{Rose};
-ghost use Rattle.lasp_edge.specs.Told.{Appends, AppendsPrefix};
+ghost use Rattle.model_values.specs.Faults.{Rose};
+ghost use Rattle.model_values.specs.Told.{Appends, AppendsPrefix};
 ghost use Rattle.model_world.specs.Line.{line, line_rest};
 
 use lasp_edge::{Failed, Sink};

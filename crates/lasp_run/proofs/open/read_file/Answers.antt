@@ -1,7 +1,7 @@
 use Rattle.std.proofs.Common.{ap, subst, ◌∙◌, List, ℕ}
 use Rattle.std.specs.Prelude.{◌<◌, length, Err}
-use Rattle.lasp_edge.specs.Faults.{Rose}
-use Rattle.lasp_edge.specs.Told.{Sees}
+use Rattle.model_values.specs.Faults.{Rose}
+use Rattle.model_values.specs.Told.{Sees}
 use Rattle.lasp_edge.specs.declared.error.Fetch.{Fetch}
 use Rattle.model_program.specs.Plan.{reading, file_limit}
 use Rattle.model_program.specs.Follows.{view}

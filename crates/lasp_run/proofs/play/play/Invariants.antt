@@ -6,7 +6,7 @@ use Rattle.model_world.specs.Lawful.{AreLawful}
 use Rattle.model_world.specs.World.{play}
 use Rattle.lasp_graph.specs.Library.{library_of}
 use Rattle.lasp_drive.specs.Driver.{IsReady, run_of, stage_of}
-use Rattle.model_calls.specs.Calls.{calls}
+use Rattle.model_runs.specs.Calls.{calls}
 use Rattle.lasp_drive.proofs.CallLaws.{AreToCome}
 use Rattle.lasp_run.specs.Play.{opened_by, all_asked, stages_after}
 use Rattle.lasp_run.proofs.play.play.Given as goal

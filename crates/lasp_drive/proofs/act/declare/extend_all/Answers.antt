@@ -6,7 +6,7 @@ use Rattle.std.proofs.lemmas.Option.{slice_get_read, slice_get_within}
 use Rattle.model_graph.specs.Graph.{Decl}
 use Rattle.model_world.specs.World.{extended}
 use Rattle.model_journal.specs.Entry as model
-use Rattle.model_calls.specs.Calls.{fed}
+use Rattle.model_runs.specs.Calls.{fed}
 use Rattle.lasp_graph.specs.Decl.{decl_of}
 use Rattle.lasp_drive.specs.Reads.{Reads, releases}
 use Rattle.lasp_drive.proofs.WaitLaws.{all-called, counts-stay}

@@ -3,7 +3,7 @@ use Rattle.std.specs.Prelude.{List, slice_get, Some}
 use Rattle.std.specs.Arc.{arc_value}
 use Rattle.model_world.specs.World.{extended}
 use Rattle.model_journal.specs.Entry as model
-use Rattle.model_calls.specs.Calls.{fed}
+use Rattle.model_runs.specs.Calls.{fed}
 use Rattle.lasp_graph.specs.Decl.{decl_of}
 use Rattle.lasp_drive.specs.Node.{IsNode}
 use Rattle.lasp_drive.specs.Waiting.{AreWaiting, opened_counts}

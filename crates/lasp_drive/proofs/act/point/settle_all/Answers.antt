@@ -4,7 +4,7 @@ use Rattle.std.proofs.lemmas.List.{length-set}
 use Rattle.model_graph.specs.Graph.{Decl}
 use Rattle.model_graph.specs.Evaluation.{first_large}
 use Rattle.model_readings.specs.Lawful.{FitsAll}
-use Rattle.model_held.specs.Held.{IsHeld}
+use Rattle.model_runs.specs.Held.{IsHeld}
 use Rattle.model_world.specs.World.{Peer, peer_at, shown_at}
 use Rattle.model_world.specs.declared.stop.Stop.TheVariants.{TooLarge}
 use Rattle.lasp_graph.specs.Library.{library_of}

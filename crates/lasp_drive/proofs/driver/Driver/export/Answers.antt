@@ -6,7 +6,7 @@ use Rattle.model_messages.specs.Spelling.{spelled}
 use Rattle.model_wire.specs.Lawful.{IsMessage}
 use Rattle.model_readings.specs.Lawful.{IsGraph}
 use Rattle.model_world.specs.World.{peer_at}
-use Rattle.model_held.proofs.HeldLaws.{held-message}
+use Rattle.model_runs.proofs.HeldLaws.{held-message}
 use Rattle.lasp_drive.proofs.NodeLaws.{node-here, message-here, below-limit}
 use Rattle.lasp_drive.proofs.driver.Driver.export.Goals as goal
 

@@ -3,7 +3,7 @@ use Rattle.std.specs.Prelude.{List}
 use Rattle.std.specs.Arc.{arc_value}
 use Rattle.model_graph.specs.Graph.{Decl}
 use Rattle.model_journal.specs.Entry as model
-use Rattle.model_calls.specs.Calls.{fed}
+use Rattle.model_runs.specs.Calls.{fed}
 use Rattle.lasp_graph.specs.Decl.{decl_of}
 use Rattle.lasp_drive.specs.Node.{AreNodes}
 use Rattle.lasp_drive.proofs.PointLaws.{extended-ready}

@@ -1,7 +1,7 @@
 use Rattle.std.proofs.Common.{rules, ◌≡◌, ◌++◌, ◌∷◌, [], length, refl, ◌∙◌, ap, map}
 use Rattle.std.specs.Arc.{arc_value}
 use Rattle.std.proofs.lemmas.List.{map-append}
-use Rattle.model_held.proofs.SoundLaws.{sound-keep}
+use Rattle.model_runs.proofs.SoundLaws.{sound-keep}
 use Rattle.lasp_state.specs.State.{content_of, shape_of}
 use Rattle.lasp_drive.specs.Driver.{marked_of, run_of, stage_of}
 use Rattle.lasp_drive.specs.declared.driver.Mark.{Mark}

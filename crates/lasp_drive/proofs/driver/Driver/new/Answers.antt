@@ -4,8 +4,8 @@ use Rattle.std.specs.Arc.{arc_value}
 use Rattle.model_graph.specs.Graph.{Decl}
 use Rattle.model_world.specs.World.{Run, start}
 use Rattle.model_world.specs.Lawful.{Stage, opening_stage}
-use Rattle.model_held.specs.Sound.{IsSound}
-use Rattle.model_held.proofs.SoundLaws.{sound-start}
+use Rattle.model_runs.specs.Sound.{IsSound}
+use Rattle.model_runs.proofs.SoundLaws.{sound-start}
 use Rattle.lasp_gossip.specs.Network.{Network}
 use Rattle.lasp_drive.specs.Node.{AreNodes}
 use Rattle.lasp_drive.specs.Driver.{run_of, stage_of}

@@ -5,7 +5,7 @@ use Rattle.std.proofs.lemmas.List.{map-append, length-set}
 use Rattle.model_states.specs.Threshold.{Threshold, suits}
 use Rattle.model_graph.specs.Graph.{kind_at}
 use Rattle.model_graph.specs.Lawful.{shape_of}
-use Rattle.model_held.proofs.SoundLaws.{sound-open, sound-later}
+use Rattle.model_runs.proofs.SoundLaws.{sound-open, sound-later}
 use Rattle.model_world.specs.World.{Run, Opened, Open, act, with_read}
 use Rattle.model_world.specs.World as world
 use Rattle.lasp_state.specs.Threshold.{threshold_of}

@@ -5,8 +5,8 @@ use Rattle.model_messages.specs.Message.{Message}
 use Rattle.model_wire.specs.Lawful.{IsMessage}
 use Rattle.model_readings.specs.Lawful.{IsGraph}
 use Rattle.model_world.specs.World.{message_at, peer_at}
-use Rattle.model_held.proofs.HeldLaws.{held-message}
-use Rattle.model_held.proofs.SoundLaws.{sound-post}
+use Rattle.model_runs.proofs.HeldLaws.{held-message}
+use Rattle.model_runs.proofs.SoundLaws.{sound-post}
 use Rattle.lasp_gossip.specs.Network.{Network}
 use Rattle.lasp_drive.specs.Driver.{run_of, stage_of}
 use Rattle.lasp_drive.specs.declared.driver.Mark.{Mark}

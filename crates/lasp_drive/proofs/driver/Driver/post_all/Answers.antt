@@ -2,7 +2,7 @@ use Rattle.std.proofs.Common.{◌<◌, ◌+◌, drop, length, sym, subst, ◌∙
 use Rattle.std.specs.Prelude.{ℕ}
 use Rattle.std.specs.List.{range_with_len}
 use Rattle.model_world.specs.World.{each, Post}
-use Rattle.model_calls.specs.Calls.{calls_of_acts}
+use Rattle.model_runs.specs.Calls.{calls_of_acts}
 use Rattle.lasp_drive.specs.Driver.{IsReady, run_of, stage_of}
 use Rattle.lasp_drive.proofs.SyncLaws.{posts-next, posts-end, sent-next, halts-as, post-next, post-halts, post-end}
 use Rattle.lasp_drive.proofs.WaitLaws.{none-then}

@@ -7,7 +7,7 @@ use Rattle.lasp_state.specs.Threshold.{threshold_of}
 use Rattle.lasp_drive.specs.Driver.{run_of, stage_of}
 use Rattle.lasp_drive.proofs.NodeLaws.{node-here, node-stays, nodes-set}
 use Rattle.lasp_drive.proofs.PointLaws.{all-stay, called-same, called-sound, shown-here, reached-there, reach-done, reach-stops}
-use Rattle.model_held.proofs.SoundLaws.{sound-later}
+use Rattle.model_runs.proofs.SoundLaws.{sound-later}
 use Rattle.lasp_drive.proofs.WaitLaws.{all-looked}
 use Rattle.lasp_drive.proofs.CallLaws.{calls-stay, looks-at}
 use Rattle.lasp_drive.proofs.driver.Driver.reach.Goals as goal

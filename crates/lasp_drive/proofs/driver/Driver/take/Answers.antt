@@ -4,15 +4,12 @@ use Rattle.std.specs.Arc.{arc_value}
 use Rattle.std.proofs.lemmas.List.{length-set}
 use Rattle.model_messages.specs.Message.{Message}
 use Rattle.model_world.specs.World.{Take, delivered, sent_number}
-use Rattle.model_held.specs.Held.{IsSentTo}
-use Rattle.model_held.proofs.SoundLaws.{sound-take}
+use Rattle.model_runs.specs.Held.{IsSentTo}
+use Rattle.model_runs.proofs.SoundLaws.{sound-take}
 use Rattle.model_journal.specs.Entry.{Entry, Deliver}
-use Rattle.model_calls.specs.Calls.{fed, call_of}
-use Rattle.lasp_gossip.specs.Network.{Network}
+use Rattle.model_runs.specs.Calls.{fed, call_of}
 use Rattle.lasp_drive.specs.Driver.{run_of, stage_of}
-use Rattle.lasp_drive.specs.declared.driver.Mark.{Mark}
 use Rattle.lasp_drive.proofs.NodeLaws.{node-here, node-stays, nodes-set, held-here, sent-here, sent-read, with_peers, deliver-done, deliver-stops, stopped-delivery}
-use Rattle.lasp_drive.proofs.DriverLaws.{network-done, network-sound}
 use Rattle.lasp_drive.proofs.WaitLaws.{all-called, counts-stay}
 use Rattle.lasp_drive.specs.Reads.{Reads}
 use Rattle.lasp_drive.proofs.CallLaws.{calls-set, taken-there, taken-elsewhere}
@@ -37,10 +34,8 @@ returns-in-Ok-clause-done g c =
     let nodes = c.args.self.now.nodes.items in
     let here = node-here g.N.Node.decls g.N.Node.number g.N.Node.among graph (length nodes) nodes c.args.p c.index_mut.result.now c.requires.ready.nodes c.requires.node c.index_mut.ensures.value in
     let run = run_of g.N.Node.peer g.N.Node.awaited c.args.self.now in
-    network-done _ (with_peers run (map g.N.Node.peer (slice_set nodes c.args.p c.deliver.new.self))) c.args.self.now.network.sent c.receive.new.self.sent
-    (deliver-done g.N.Node.decls g.N.Node.peer run (arc_value c.in_ok-message.message) (sent_number c.args.self.now.network.sent c.args.i) nodes c.args.c c.args.p c.index_mut.result.now c.deliver.new.self
-    refl here.graph (sent-read c.args.self.now.network.sent c.args.i (arc_value c.in_ok-message.message) c.in_ok-message.ensures.message) c.requires.node c.index_mut.ensures.value c.in-Ok.ensures.done.0 c.in-Ok.ensures.done.1)
-    (ap (λ (n : Network). n.sent) c.receive.ensures.same)
+    deliver-done g.N.Node.decls g.N.Node.peer run (arc_value c.in_ok-message.message) (sent_number c.args.self.now.network.sent c.args.i) nodes c.args.c c.args.p c.index_mut.result.now c.deliver.new.self
+    refl here.graph (sent-read c.args.self.now.network.sent c.args.i (arc_value c.in_ok-message.message) c.in_ok-message.ensures.message) c.requires.node c.index_mut.ensures.value c.in-Ok.ensures.done.0 c.in-Ok.ensures.done.1
 
 pub returns-in-Ok-clause-ready : goal.returns-in-Ok-clause-ready
 returns-in-Ok-clause-ready g c =
@@ -55,11 +50,10 @@ returns-in-Ok-clause-ready g c =
       few = c.requires.ready.few;
       size = length-set nodes c.args.p c.deliver.new.self;
       nodes = nodes-set g.N.Node.decls g.N.Node.number g.N.Node.among graph (length nodes) nodes c.args.p c.deliver.new.self c.requires.ready.nodes stays;
-      limit = ap (λ (n : Network). n.limit) c.receive.ensures.same ∙ c.requires.ready.limit;
-      sound = network-sound (length nodes) c.args.c graph (map (λ (m : Mark). m.var) c.args.self.now.marks.items) next c.args.self.now.network.sent c.receive.new.self.sent (ap (λ (n : Network). n.sent) c.receive.ensures.same)
-          (sound-take (length nodes) c.args.c c.args.p c.args.i (stage_of c.args.self.now) run next c.requires.ready.sound c.requires.node c.requires.message
+      limit = c.requires.ready.limit;
+      sound = sound-take (length nodes) c.args.c c.args.p c.args.i (stage_of c.args.self.now) run next c.requires.ready.sound c.requires.node c.requires.message
           (deliver-done g.N.Node.decls g.N.Node.peer run (arc_value c.in_ok-message.message) (sent_number c.args.self.now.network.sent c.args.i) nodes c.args.c c.args.p c.index_mut.result.now c.deliver.new.self
-          refl here.graph (sent-read c.args.self.now.network.sent c.args.i (arc_value c.in_ok-message.message) c.in_ok-message.ensures.message) c.requires.node c.index_mut.ensures.value c.in-Ok.ensures.done.0 c.in-Ok.ensures.done.1));
+          refl here.graph (sent-read c.args.self.now.network.sent c.args.i (arc_value c.in_ok-message.message) c.in_ok-message.ensures.message) c.requires.node c.index_mut.ensures.value c.in-Ok.ensures.done.0 c.in-Ok.ensures.done.1);
       waiting = all-called g.N.Node.awaited g.N.Node.number_of g.N.Node.shown g.N.Node.reads c.args.c c.args.p nodes c.args.self.now.reads.items c.index_mut.result.now c.deliver.new.self c.requires.node c.index_mut.ensures.value c.in-Ok.ensures.grew c.in-Ok.ensures.reads c.requires.ready.waiting;
     }
 

@@ -2,7 +2,7 @@ use Rattle.std.proofs.Common.{◌<◌, ◌+◌, drop, length, sym, subst, ◌∙
 use Rattle.std.specs.Prelude.{ℕ, flat_map}
 use Rattle.std.specs.List.{range_with_len}
 use Rattle.model_world.specs.World.{each, takes}
-use Rattle.model_calls.specs.Calls.{calls_of_acts}
+use Rattle.model_runs.specs.Calls.{calls_of_acts}
 use Rattle.lasp_drive.specs.Calls.{GoOnByCalls}
 use Rattle.lasp_drive.specs.Driver.{IsReady, run_of}
 use Rattle.lasp_drive.proofs.SyncLaws.{halts-as, all-takes-next, all-takes-end, all-next, all-halts, all-end, many-halts, many-done}

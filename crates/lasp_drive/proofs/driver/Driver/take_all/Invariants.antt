@@ -4,7 +4,7 @@ use Rattle.std.specs.List.{range_with_len}
 use Rattle.model_world.specs.World.{each, takes}
 use Rattle.lasp_drive.specs.Waiting.{OpensNone}
 use Rattle.lasp_drive.specs.Driver.{IsReady, run_of, stage_of}
-use Rattle.model_calls.specs.Calls.{calls_of_acts}
+use Rattle.model_runs.specs.Calls.{calls_of_acts}
 use Rattle.lasp_drive.proofs.CallLaws.{AreToCome}
 use Rattle.lasp_drive.proofs.driver.Driver.take_all.Given as goal
 

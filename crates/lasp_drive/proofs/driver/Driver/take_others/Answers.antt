@@ -2,7 +2,7 @@ use Rattle.std.proofs.Common.{◌<◌, ◌+◌, length, drop, sym, subst, ap, �
 use Rattle.std.specs.Prelude.{ℕ}
 use Rattle.std.specs.List.{range_with_len}
 use Rattle.model_world.specs.World.{each, takes, Take}
-use Rattle.model_calls.specs.Calls.{calls_of_acts}
+use Rattle.model_runs.specs.Calls.{calls_of_acts}
 use Rattle.lasp_drive.specs.Driver.{IsReady, run_of, stage_of}
 use Rattle.lasp_drive.specs.declared.driver.Driver.{Driver}
 use Rattle.lasp_drive.proofs.SyncLaws.{halts-as, other-node, own-node, takes_of, takes-other, takes-own, takes-end, take-next, take-own, take-halts, take-end}

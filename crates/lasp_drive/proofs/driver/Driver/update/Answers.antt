@@ -3,9 +3,9 @@ use Rattle.std.proofs.Common.{length, List, ◌++◌, refl, sym, ap, ◌∙◌}
 use Rattle.std.specs.Arc.{arc_value}
 use Rattle.std.proofs.lemmas.List.{length-set}
 use Rattle.model_world.specs.World.{Update, updated}
-use Rattle.model_held.proofs.SoundLaws.{sound-update}
+use Rattle.model_runs.proofs.SoundLaws.{sound-update}
 use Rattle.model_journal.specs.Entry.{Entry}
-use Rattle.model_calls.specs.Calls.{call_of}
+use Rattle.model_runs.specs.Calls.{call_of}
 use Rattle.lasp_state.specs.State.{op_of}
 use Rattle.lasp_drive.specs.Driver.{run_of, stage_of}
 use Rattle.lasp_drive.proofs.NodeLaws.{node-here, node-stays, nodes-set, held-here, update-here, suits-here, room-here, member-here, var-here, update-done, update-stops, stopped-large}

@@ -3,7 +3,7 @@
 ghost use Rattle.std.specs.Prelude.{◌≡◌, IfOk, map};
 ghost use Rattle.lasp_fns.specs.Map.{map_op_of};
 ghost use Rattle.lasp_fns.specs.Predicate.{pred_op_of};
-ghost use Rattle.lasp_cli.specs.Tables.{condition_view};
+ghost use Rattle.lasp_program.specs.Tables.{condition_view};
 
 use crate::functions::Condition;
 use lasp_fns::{MapOp, MapOps, PredOp, PredOps};

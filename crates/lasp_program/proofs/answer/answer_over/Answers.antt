@@ -3,12 +3,12 @@ use Rattle.lasp_fns.specs.declared.map.MapOp.{MapOp}
 use Rattle.lasp_fns.specs.declared.lift.LiftOp.{LiftOp}
 use Rattle.lasp_fns.specs.declared.lift.LiftOp.TheVariants.{One}
 use Rattle.lasp_fns.specs.Library.{maps_of, predicates_of, lifts_of}
-use Rattle.lasp_cli.specs.declared.functions.Condition.{Condition}
-use Rattle.lasp_cli.specs.Functions.{program_maps, program_predicates, program_lifts}
-use Rattle.lasp_cli.specs.Tables.{map_entry, predicate_entry, lift_entry}
-use Rattle.lasp_cli.proofs.TableLaws.{entry-named, entry-free, entries-added, few-added, free-in, one-more}
-use Rattle.lasp_cli.proofs.FunctionLaws.{maps-free, predicates-free, lifts-free, few-maps, few-predicates, few-lifts, library-whole}
-use Rattle.lasp_cli.proofs.answer.answer_words.Goals as goal
+use Rattle.lasp_program.specs.declared.functions.Condition.{Condition}
+use Rattle.lasp_program.specs.Functions.{program_maps, program_predicates, program_lifts}
+use Rattle.lasp_program.specs.Tables.{map_entry, predicate_entry, lift_entry}
+use Rattle.lasp_program.proofs.TableLaws.{entry-named, entry-free, entries-added, few-added, free-in, one-more}
+use Rattle.lasp_program.proofs.FunctionLaws.{maps-free, predicates-free, lifts-free, few-maps, few-predicates, few-lifts, library-whole}
+use Rattle.lasp_program.proofs.answer.answer_over.Goals as goal
 
 abbrev no_map : Bor (List ℕ) × Bor (List MapOp)
 no_map = (record { ref_ptr = (0, 0); now = [] }, record { ref_ptr = (0, 0); now = [] })

@@ -8,8 +8,8 @@ use Rattle.lasp_fns.specs.declared.map.MapOp.{MapOp}
 use Rattle.lasp_fns.specs.declared.lift.LiftOp.{LiftOp}
 use Rattle.lasp_fns.specs.Map.{map_op_of}
 use Rattle.lasp_fns.specs.Lift.{lift_op_of}
-use Rattle.lasp_cli.specs.declared.functions.Condition.{Condition}
-use Rattle.lasp_cli.specs.declared.functions.Condition.TheVariants.{Even, Above, Below, IsText, StartsWith, KeyMatch, Same}
+use Rattle.lasp_program.specs.declared.functions.Condition.{Condition}
+use Rattle.lasp_program.specs.declared.functions.Condition.TheVariants.{Even, Above, Below, IsText, StartsWith, KeyMatch, Same}
 
 abbrev pub condition_view : Condition → plain.PredOp
 condition_view Even = plain.Even

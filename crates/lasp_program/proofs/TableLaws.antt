@@ -1,7 +1,7 @@
 -- A table of named functions, entry by entry: what each adds, and that its name is a name and free.
 use Rattle.std.proofs.Common.{◌≡◌, refl, sym, ap, ◌∙◌, ℕ, suc, zero, ◌+◌, ◌<◌, ◌≤◌, List, [], ◌∷◌, ◌++◌, length, take, map, slice_index_or, Bool, true, false, not, ◌&&◌, subst, append_assoc, add-one, arith}
 use Rattle.std.proofs.lemmas.List.{length-map}
-use Rattle.lasp_value.specs.Name.{is_name}
+use Rattle.model_values.specs.Name.{is_name}
 use Rattle.lasp_fns.specs.Named.{is_named}
 
 -- each name behind these is a name, and stands under none before it

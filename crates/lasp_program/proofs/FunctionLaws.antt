@@ -1,8 +1,8 @@
 -- The program's tables: few entries, and each name is a name and stands once.
 use Rattle.std.proofs.Common.{◌≡◌, refl, ◌≤◌, [], length, true, arith}
 use Rattle.model_functions.specs.Library.{Library}
-use Rattle.lasp_cli.specs.Functions.{program_maps, program_predicates, program_lifts, program_library}
-use Rattle.lasp_cli.proofs.TableLaws.{are_free}
+use Rattle.lasp_program.specs.Functions.{program_maps, program_predicates, program_lifts, program_library}
+use Rattle.lasp_program.proofs.TableLaws.{are_free}
 
 pub maps-free : are_free [] program_maps ≡ true
 unfolding program_maps

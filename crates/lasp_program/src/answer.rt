@@ -13,15 +13,15 @@ ghost use Rattle.model_program.specs.declared.form.Form.{Form};
 ghost use Rattle.model_program.specs.declared.refusal.Refusal.{Refusal};
 ghost use Rattle.model_program.specs.declared.failure.Failure.{Failure};
 ghost use Rattle.lasp_value.specs.Value.{val_of};
-ghost use Rattle.lasp_edge.specs.Faults.{Rose};
-ghost use Rattle.lasp_edge.specs.Told.{Appends};
+ghost use Rattle.model_values.specs.Faults.{Rose};
+ghost use Rattle.model_values.specs.Told.{Appends};
 ghost use Rattle.lasp_fns.specs.Lift.{lift_op_of};
 ghost use Rattle.lasp_fns.specs.Answers.{Answers};
 ghost use Rattle.lasp_run.specs.Words.{words_of};
-ghost use Rattle.lasp_cli.specs.Functions.{program_maps, program_predicates, program_lifts, program_library};
-ghost use Rattle.lasp_cli.specs.Tables.{map_entry, predicate_entry, lift_entry};
+ghost use Rattle.lasp_program.specs.Functions.{program_maps, program_predicates, program_lifts, program_library};
+ghost use Rattle.lasp_program.specs.Tables.{map_entry, predicate_entry, lift_entry};
 
-use crate::functions::Condition;
+use crate::functions::{Condition, LIFTS, MAPS, PREDICATES};
 use crate::library::{add_lift, add_map, add_predicate};
 use crate::operations::{conditions_of, steps_of};
 use lasp_edge::{Files, Sink};
@@ -30,21 +30,15 @@ use lasp_run::one_thread;
 use lasp_value::Value;
 use std::alloc::{AllocError, Global};
 
-/// Answers the words as `one_thread` does over the library of these functions, whose closures are made here. Where no memory is found for them, nothing is read or written.
+/// Answers the words as `one_thread` does over the program's functions. Where no memory is found for these, nothing is read or written.
+#[tactic(auto, unfolding(crate::specs::Functions::program_maps, crate::specs::Functions::program_predicates, crate::specs::Functions::program_lifts))]
 pub fn answer_words<F: Files, O: Sink, E: Sink>(
     alloc: Global,
-    maps: &[(&str, &[MapOp])],
-    predicates: &[(&str, &[Condition])],
-    lifts: &[(&str, LiftOp)],
     words: &[String],
     files: &mut F,
     out: &mut O,
     err: &mut E,
 ) -> Result<u8, AllocError>
-    // the functions are those of the program
-    requires maps { map map_entry maps.now ≡ program_maps }
-    requires predicates { map predicate_entry predicates.now ≡ program_predicates }
-    requires lifts { map lift_entry lifts.now ≡ program_lifts }
     // some answer follows the plan of the words over the program's library, and the call ends by it
     ensures ends { IfOk result (λ status. (answer : Result (List ℕ) Failure)
         × Follows (words_of words.now) (view (F.content files.old) (F.faults files.old) (F.faults files.new)) (plan program_library (words_of words.now)) answer
@@ -66,6 +60,41 @@ pub fn answer_words<F: Files, O: Sink, E: Sink>(
     // with another status than 0 and 5 nothing is written to `out`
     ensures quiet { IfOk result (λ status. status ≢ 0 → status ≢ 5 → O.written out.new ≡ O.written out.old) }
     // where the library found no memory, nothing was done
+    ensures err { OnErr result ((files.new ≡ files.old) × (out.new ≡ out.old) × (err.new ≡ err.old)) }
+{
+    answer_over(alloc, &MAPS, &PREDICATES, &LIFTS, words, files, out, err)
+}
+
+/// Answers the words over the functions of these tables, whose closures are made here. They come as slices, so that no step of the loops speaks of all their entries.
+fn answer_over<F: Files, O: Sink, E: Sink>(
+    alloc: Global,
+    maps: &[(&str, &[MapOp])],
+    predicates: &[(&str, &[Condition])],
+    lifts: &[(&str, LiftOp)],
+    words: &[String],
+    files: &mut F,
+    out: &mut O,
+    err: &mut E,
+) -> Result<u8, AllocError>
+    // the functions are those of the program
+    requires maps { map map_entry maps.now ≡ program_maps }
+    requires predicates { map predicate_entry predicates.now ≡ program_predicates }
+    requires lifts { map lift_entry lifts.now ≡ program_lifts }
+    // the clauses of `answer_words`, which are explained there
+    ensures ends { IfOk result (λ status. (answer : Result (List ℕ) Failure)
+        × Follows (words_of words.now) (view (F.content files.old) (F.faults files.old) (F.faults files.new)) (plan program_library (words_of words.now)) answer
+        × Ends (words_of words.now) answer (writing (O.written out.old) (O.written out.new) (O.faults out.old) (O.faults out.new)) (writing (E.written err.old) (E.written err.new) (E.faults err.old) (E.faults err.new)) status) }
+    ensures refused { IfOk result (λ status. (x : Refusal) → told_answer (F.content files.old) (words_of words.now) (plan program_library (words_of words.now)) ≡ Some (Err x)
+        → (status ≡ status_of (Failure.Refused x)) ⊎ ((status ≡ 7) ⊎ ((f : ℕ) × (status ≡ 4) × Comes (F.content files.old) (words_of words.now) (plan program_library (words_of words.now)) f × Rose (F.faults files.old (word_at (words_of words.now) f)) (F.faults files.new (word_at (words_of words.now) f))))) }
+    ensures complete { IfOk result (λ status. (text : List ℕ) → told_answer (F.content files.old) (words_of words.now) (plan program_library (words_of words.now)) ≡ Some (Ok text)
+        → NoFault (words_of words.now) (view (F.content files.old) (F.faults files.old) (F.faults files.new)) (plan program_library (words_of words.now)) → ¬ Rose (O.faults out.old) (O.faults out.new)
+        → ((status ≡ 0) × Appends (O.written out.old) text (O.written out.new)) ⊎ (status ≡ 7)) }
+    ensures same { IfOk result (λ _. (name : List ℕ) → F.content files.new name ≡ F.content files.old name) }
+    ensures later { IfOk result (λ _. (name : List ℕ) → F.faults files.old name ≤ F.faults files.new name) }
+    ensures out_later { IfOk result (λ _. O.faults out.old ≤ O.faults out.new) }
+    ensures err_later { IfOk result (λ _. E.faults err.old ≤ E.faults err.new) }
+    ensures unread { form (words_of words.now) ≡ Form.Wrong → files.new ≡ files.old }
+    ensures quiet { IfOk result (λ status. status ≢ 0 → status ≢ 5 → O.written out.new ≡ O.written out.old) }
     ensures err { OnErr result ((files.new ≡ files.old) × (out.new ≡ out.old) × (err.new ≡ err.old)) }
 {
     let mut library = Library::new(alloc);

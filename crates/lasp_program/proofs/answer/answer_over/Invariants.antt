@@ -1,7 +1,7 @@
 use Rattle.std.proofs.Common.{◌≡◌, take, []}
 use Rattle.lasp_fns.specs.Library.{maps_of, predicates_of, lifts_of}
-use Rattle.lasp_cli.specs.Functions.{program_maps, program_predicates, program_lifts}
-use Rattle.lasp_cli.proofs.answer.answer_words.Given as goal
+use Rattle.lasp_program.specs.Functions.{program_maps, program_predicates, program_lifts}
+use Rattle.lasp_program.proofs.answer.answer_over.Given as goal
 
 abbrev pub invariant-loop-name : goal.invariant-loop-name
 invariant-loop-name g l = record {
