@@ -1,0 +1,4 @@
+-- The laws of the searches and of the loops.
+pub mod PlaceLaws
+pub mod RaiseLaws
+pub mod SetLaws

@@ -1,0 +1,11 @@
+use Rattle.std.proofs.Common.{◌≤◌, ◌-◌, length}
+use Rattle.lasp_value.specs.Value.{val_of}
+use Rattle.lasp_dots.specs.Places.{is_before, many}
+use Rattle.lasp_dots.proofs.search.begin_of.Given as goal
+
+-- The number lies between the two.
+abbrev pub invariant-loop-low : goal.invariant-loop-low
+invariant-loop-low l = (l.low ≤ many (is_before (val_of l.value)) l.dots) × (many (is_before (val_of l.value)) l.dots ≤ l.high) × (l.high ≤ length l.dots)
+
+abbrev pub decreases-loop-low : goal.decreases-loop-low
+decreases-loop-low l = l.high - l.low

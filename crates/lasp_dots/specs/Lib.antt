@@ -1,0 +1,3 @@
+-- What is kept of a set, and what its searches find.
+pub mod Kept
+pub mod Places

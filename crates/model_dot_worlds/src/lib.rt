@@ -1,0 +1,10 @@
+//! What the replicas of a run know without tombstones: their live rows and counts stand for all that they know. There is nothing to run here: each function's contract is a group of laws.
+#![tactic(auto)]
+
+mod agreement;
+mod counted;
+mod report;
+
+pub use agreement::replicas_without_tombstones_stand_for_those_with_them;
+pub use counted::what_is_counted_and_absent_was_removed;
+pub use report::reports_need_no_tombstones;

@@ -1,0 +1,4 @@
+-- The laws of sets without tombstones.
+pub mod DotLaws
+pub mod StandLaws
+pub mod LoopLaws

@@ -1,0 +1,3 @@
+-- What sets without tombstones mean.
+pub mod Dots
+pub mod Loops
