@@ -6,8 +6,8 @@ use Rattle.model_graph.specs.Evaluation.{content_at}
 use Rattle.model_graph.specs.Width.{HasWidth}
 use Rattle.model_wire.specs.Lawful.{IsSource}
 use Rattle.model_journal.specs.Journal.{graph, vals}
-use Rattle.model_replica.specs.Core.{Core, IsCore}
-use Rattle.model_replica.proofs.SourceLaws.{sources-source}
+use Rattle.model_core.specs.Core.{Core, IsCore}
+use Rattle.model_core.proofs.SourceLaws.{sources-source}
 use Rattle.lasp_graph.specs.States.{Held, contents_of}
 use Rattle.lasp_graph.specs.Evaluated.{AreNarrow}
 use Rattle.lasp_node.proofs.NodeLaws.{states-long}

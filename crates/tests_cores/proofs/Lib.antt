@@ -1,4 +1,3 @@
-mod Asked
 mod Declared
 mod Evaluated
-mod Later
+mod Kept

@@ -1,4 +1,4 @@
-//! What may be done to a core, as data.
+//! Calls as lines of text: a word, and up to two numbers.
 
 /// What is done to a source, each to one kind.
 #[derive(Clone, Copy)]
@@ -16,11 +16,11 @@ pub enum Doing {
 #[derive(Clone, Copy)]
 pub enum Until {
     /// So many elements, or so large a total.
-    Count(u64),
+    Counted,
     /// A row or an element of this number.
-    Added(i8),
+    Added,
     /// A dead row of this number.
-    Removed(i8),
+    Removed,
     /// More than there is.
     More,
 }
@@ -28,49 +28,133 @@ pub enum Until {
 /// What is told of a core.
 #[derive(Clone, Copy)]
 pub enum What {
-    /// Each entry by its caller and its numbers.
+    /// Each entry by its caller and its act.
     Entries,
     /// Each state with its number of rows.
     States,
-    /// What plain evaluation makes of the sources, in the same form.
-    Evaluated,
-    /// Whether it is settled, and which of its derived variables are clean.
+    /// Which of its derived variables are clean, and whether it is settled.
     Settled,
     /// The reads that wait, each with its variable.
-    Parked,
+    Reads,
     /// How many updates of each replica it knows.
     Counts,
+    /// The sources of the other core's next message, each by its name and its state, and its counts.
+    Message,
+    /// The calls of stored functions that jobs took so far, by the rows that they brought and by their bases, and what is owed.
+    Cost,
+}
+
+/// What is done. The numbers that each takes stand beside it.
+#[derive(Clone, Copy)]
+pub enum Verb {
+    /// A variable, a number.
+    Update(Doing),
+    /// A variable, and how often it is updated: by each number from 0 on, or by 1 where it counts.
+    Fill(Doing),
+    /// A declaration of the list.
+    Declare,
+    /// The other core sends a message.
+    Send,
+    /// A core of another graph sends one.
+    Stray,
+    /// A message.
+    Deliver,
+    /// Takes the next job and keeps it.
+    Next,
+    /// Takes a job of a variable and keeps it.
+    Take,
+    /// Hands in the result of a job, by its place among those that are kept.
+    End,
+    /// Gives such a job back.
+    Back,
+    /// Does the next job, by what is known of any replica that hands out jobs.
+    Work,
+    /// A variable, a number.
+    Open(Until),
+    /// What a read is answered, by its place among those that were opened.
+    Ask,
+    /// Closes such a read.
+    Close,
+    Tell(What),
 }
 
 /// A call.
 #[derive(Clone, Copy)]
-pub enum Call<'a> {
-    /// Updates a variable.
-    Update(u8, Doing, i8),
-    /// Updates a variable of the other core.
-    Other(u8, Doing, i8),
-    /// Keeps a message of what the other core holds.
-    Send,
-    /// Delivers the message that was kept under a number.
-    Deliver(u32),
-    /// Declares a variable.
-    Declare(&'a str),
-    /// Declares a variable at the other core.
-    DeclareOther(&'a str),
-    /// Takes the next job and leaves it out.
-    Take,
-    /// Takes the next job and gives it back.
-    Return,
-    /// Takes a job of a variable and gives it back.
-    ReturnAt(u8),
-    /// Does the next job.
-    Work,
-    /// Does a job of a variable.
-    WorkAt(u8),
-    /// Opens a read of a variable.
-    Open(u8, Until),
-    /// Closes the read that was opened at a place.
-    Close(usize),
-    /// Tells something of the core.
-    Tell(What),
+pub struct Call {
+    /// Whether the other core is meant.
+    pub is_there: bool,
+    pub verb: Verb,
+    /// A variable, or what else is counted from 0.
+    pub first: u8,
+    pub second: i64,
+}
+
+const WORDS: [(&str, Verb); 30] = [
+    ("add", Verb::Update(Doing::Add)),
+    ("remove", Verb::Update(Doing::Remove)),
+    ("insert", Verb::Update(Doing::Insert)),
+    ("inc", Verb::Update(Doing::Count)),
+    ("max", Verb::Update(Doing::Raise)),
+    ("join", Verb::Update(Doing::Join)),
+    ("fill", Verb::Fill(Doing::Add)),
+    ("tick", Verb::Fill(Doing::Count)),
+    ("declare", Verb::Declare),
+    ("send", Verb::Send),
+    ("stray", Verb::Stray),
+    ("deliver", Verb::Deliver),
+    ("next", Verb::Next),
+    ("take", Verb::Take),
+    ("end", Verb::End),
+    ("back", Verb::Back),
+    ("work", Verb::Work),
+    ("count", Verb::Open(Until::Counted)),
+    ("added", Verb::Open(Until::Added)),
+    ("removed", Verb::Open(Until::Removed)),
+    ("more", Verb::Open(Until::More)),
+    ("ask", Verb::Ask),
+    ("close", Verb::Close),
+    ("entries", Verb::Tell(What::Entries)),
+    ("states", Verb::Tell(What::States)),
+    ("settled", Verb::Tell(What::Settled)),
+    ("reads", Verb::Tell(What::Reads)),
+    ("counts", Verb::Tell(What::Counts)),
+    ("message", Verb::Tell(What::Message)),
+    ("cost", Verb::Tell(What::Cost)),
+];
+
+/// What a word says.
+fn verb_of(words: &[(&str, Verb)], wanted: &str) -> Option<Verb> {
+    for (word, verb) in words {
+        if *word == wanted {
+            return Some(*verb);
+        }
+    }
+    None
+}
+
+/// The number that a word is, or 0.
+fn number_of(word: Option<&str>) -> i64 {
+    match word {
+        Some(digits) => digits.parse::<i64>().unwrap_or(0),
+        None => 0,
+    }
+}
+
+/// The call that a line says. What stands behind its numbers is no part of it.
+pub fn read_call(line: &str) -> Option<Call> {
+    let mut words = line.split_whitespace();
+    let mut word = words.next()?;
+    let is_there = word == "there";
+    if is_there {
+        word = words.next()?;
+    }
+    let verb = verb_of(&WORDS, word)?;
+    let first = number_of(words.next());
+    let second = number_of(words.next());
+    Some(Call {
+        is_there,
+        verb,
+        first: u8::try_from(first).unwrap_or(0),
+        second,
+    })
 }

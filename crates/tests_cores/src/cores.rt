@@ -1,107 +1,57 @@
-//! Calls of cores, each with what it asks for.
+//! Calls of cores, each with what it asks for. Whatever they come to, a core's journal only goes on.
 
-ghost use Rattle.std.specs.Prelude.{◌≡◌, ◌<◌, ◌≤◌, ◌++◌, ◌∷◌, [], IfOk, IfSome, OnOk, OnErr, IsTrue};
+ghost use Rattle.std.specs.Prelude.{◌≡◌, ℕ, ◌<◌, ◌≤◌, IfOk, IfSome, IsTrue};
 ghost use Rattle.model_graph.specs.Lawful.{IsDerived};
 ghost use Rattle.model_readings.specs.Lawful.{IsNext};
-ghost use Rattle.model_journal.specs.Entry as model;
 ghost use Rattle.model_journal.specs.Journal.{graph};
-ghost use Rattle.model_replica.specs.Peer.{entry};
 ghost use Rattle.lasp_graph.specs.Decl.{decl_of};
 ghost use Rattle.lasp_core.specs.Core.{IsOpen};
-ghost use Rattle.lasp_core.specs.Entries.{read_of};
+ghost use Rattle.lasp_core.specs.Reads.{read_of};
+ghost use Rattle.lasp_replica.specs.Jobs.{IsJobOf, IsJobNow, IsResultOf, unread_rows};
 ghost use Rattle.lasp_core.specs.Listed.{GoesOn};
-ghost use Rattle.lasp_core.specs.Jobs.{IsJobOf, IsJobNow, IsResultOf};
+ghost use Rattle.lasp_replica.specs.Replica.{IsSmall};
 
-use crate::call::Doing;
+use crate::call::{Doing, Until};
+use crate::traits;
 use crate::wrong::Wrong;
-use lasp_core::{Core, ReadNo, Released, UpdateRefused};
-use lasp_fns::{Library, StepLib};
-use lasp_graph::{Decl, DeclRefused, Graph, read_decl, read_graph};
+use lasp_core::{Core, DeliverRefused, ReadNo, Released, UpdateRefused, jobs_have_the_unread_rows};
+use lasp_fns::Library;
+use lasp_graph::{Decl, DeclRefused, EvalAll, Graph, States, eval_all, read_decl, read_graph};
 use lasp_job::Job;
-use lasp_node::message_of;
 use lasp_orset::add_delta;
 use lasp_state::{Op, State, Threshold};
-use lasp_value::Value;
+use lasp_value::{Value, Values};
 use lasp_wire::Message;
 use model_readings::read_declarations_are_lawful;
+use model_runs::sources_stay_within_the_format;
 use serde_json::Value as Json;
 use std::alloc::{AllocError, Global};
 use std::sync::Arc;
 
-/// The core of replica `me` of so many nodes, to which nothing has happened.
-pub fn core_of(alloc: Global, text: &str, lib: &Library, me: u8, nodes: u8) -> Result<Core, Wrong>
-    requires member { me < nodes }
-    requires few { nodes ≤ 8 }
+/// The core of replica `me` of two, to which nothing has happened.
+pub fn core_of(alloc: Global, text: &str, lib: &Library, me: u8) -> Result<Core, Wrong>
+    requires { me < 2 }
 {
     let graph = read_graph(alloc, text.as_bytes(), lib)?;
-    Ok(Core::new(alloc, Arc::new(alloc, graph)?, me, nodes)?)
+    Ok(Core::new(alloc, Arc::new(alloc, graph)?, me, 2)?)
 }
 
-/// Adds a number to a set.
-pub fn add(core: &mut Core, var: u8, n: i64) -> Result<Released, UpdateRefused>
-    ensures frame { core.new.frame ≡ core.old.frame }
-    ensures entries { GoesOn core.old.entries core.new.entries }
+/// An operation by a number. A row that is joined in is one that an update of replica 0 may have added.
+fn op_of(alloc: Global, doing: Doing, n: i64) -> Result<Op, AllocError>
+    ensures { IfOk result (λ op. (nodes : ℕ) → 1 ≤ nodes → IsSmall nodes op) }
 {
-    core.update(0, var, &Op::Add(Value::Int(n)))
-}
-
-/// Removes a number from a set.
-pub fn remove(core: &mut Core, var: u8, n: i64) -> Result<Released, UpdateRefused>
-    ensures frame { core.new.frame ≡ core.old.frame }
-    ensures entries { GoesOn core.old.entries core.new.entries }
-{
-    core.update(0, var, &Op::Remove(Value::Int(n)))
-}
-
-/// Counts so many more.
-pub fn count(core: &mut Core, var: u8, by: u32) -> Result<Released, UpdateRefused>
-    ensures frame { core.new.frame ≡ core.old.frame }
-    ensures entries { GoesOn core.old.entries core.new.entries }
-{
-    core.update(0, var, &Op::Inc(by))
-}
-
-/// Joins one row of a set in, which an update of replica 0 may have added.
-fn join(
-    alloc: Global,
-    core: &mut Core,
-    var: u8,
-    n: i64,
-    update: u64,
-) -> Result<Released, UpdateRefused>
-    requires some { 1 ≤ update }
-    requires few { update ≤ 100000 }
-    ensures frame { core.new.frame ≡ core.old.frame }
-    ensures entries { GoesOn core.old.entries core.new.entries }
-{
-    let rows = add_delta(alloc, &Value::Int(n), 0, update)?;
-    let state = Arc::new(alloc, State::Set(rows))?;
-    core.recall();
-    core.update(0, var, &Op::Join(state))
-}
-
-/// Adds a number to a set, whatever reads that releases.
-pub fn add_only(core: &mut Core, var: u8, n: i64) -> Result<(), UpdateRefused> {
-    add(core, var, n)?;
-    Ok(())
-}
-
-/// Removes a number from a set, whatever reads that releases.
-pub fn remove_only(core: &mut Core, var: u8, n: i64) -> Result<(), UpdateRefused> {
-    remove(core, var, n)?;
-    Ok(())
-}
-
-/// Counts so many more, whatever reads that releases.
-pub fn count_only(core: &mut Core, var: u8, by: u32) -> Result<(), UpdateRefused> {
-    count(core, var, by)?;
-    Ok(())
-}
-
-/// The message of a core.
-pub fn shared_message(alloc: Global, core: &Core) -> Result<Arc<Message>, Wrong> {
-    let message = message_of(alloc, core)?;
-    Ok(Arc::new(alloc, message)?)
+    let few = (n.unsigned_abs() % 1000) as u32;
+    match doing {
+        Doing::Add => Ok(Op::Add(Value::Int(n))),
+        Doing::Remove => Ok(Op::Remove(Value::Int(n))),
+        Doing::Insert => Ok(Op::Insert(Value::Int(n))),
+        Doing::Count => Ok(Op::Inc(few)),
+        Doing::Raise => Ok(Op::Max(n)),
+        Doing::Join => {
+            let rows = add_delta(alloc, &Value::Int(n), 0, u64::from(few) + 1)?;
+            Ok(Op::Join(Arc::new(alloc, State::Set(rows))?))
+        }
+    }
 }
 
 /// An update by a number.
@@ -110,21 +60,22 @@ pub fn update(
     core: &mut Core,
     var: u8,
     doing: Doing,
-    n: i8,
+    n: i64,
 ) -> Result<Released, UpdateRefused>
     ensures frame { core.new.frame ≡ core.old.frame }
     ensures entries { GoesOn core.old.entries core.new.entries }
 {
-    let number = i64::from(n);
-    let size = n.unsigned_abs();
-    match doing {
-        Doing::Add => add(core, var, number),
-        Doing::Remove => remove(core, var, number),
-        Doing::Insert => core.update(0, var, &Op::Insert(Value::Int(number))),
-        Doing::Count => count(core, var, u32::from(size)),
-        Doing::Raise => core.update(0, var, &Op::Max(number)),
-        Doing::Join => join(alloc, core, var, number, u64::from(size) + 1),
-    }
+    core.recall();
+    let op = op_of(alloc, doing, n)?;
+    core.update(0, var, &op)
+}
+
+/// Joins a message in.
+pub fn deliver(core: &mut Core, n: u32, message: &Arc<Message>) -> Result<Released, DeliverRefused>
+    ensures frame { core.new.frame ≡ core.old.frame }
+    ensures entries { GoesOn core.old.entries core.new.entries }
+{
+    core.deliver(1, n, message)
 }
 
 /// The declaration that a tree is, which may stand behind those of a graph.
@@ -159,6 +110,77 @@ pub fn is_derived(core: &Core, var: u8) -> bool
     u64::from(var) < graph.len() && !graph.at(u64::from(var)).kind.is_source()
 }
 
+/// Gives a job back, where its variable is derived.
+pub fn give_back(core: &mut Core, job: Job)
+    ensures frame { core.new.frame ≡ core.old.frame }
+    ensures entries { core.new.entries ≡ core.old.entries }
+{
+    if is_derived(core, job.var) {
+        traits::give_back(core, job);
+    } else {
+        drop(job.into_parts());
+    }
+}
+
+/// A job of this variable, where it is derived, or else the next one, where there is one.
+pub fn job_of(core: &mut Core, var: Option<u8>) -> Result<Option<Job>, AllocError>
+    ensures frame { core.new.frame ≡ core.old.frame }
+    ensures entries { core.new.entries ≡ core.old.entries }
+    ensures job { IfOk result (λ found. IfSome found (λ job. IsJobNow core.new.frame core.new.entries job.var job)) }
+{
+    match var {
+        Some(var) if is_derived(core, var) => Ok(Some(core.take_var(var)?)),
+        Some(_) => Ok(None),
+        None => core.take(),
+    }
+}
+
+/// The changed rows of a job that was just taken: those that its variable hasn't read.
+pub fn unread_of(core: &Core, job: &Job) -> u64
+    requires { IsJobNow core.now.frame core.now.entries job.now.var job.now }
+    ensures { result ≡ unread_rows core.now.frame core.now.entries job.now.var }
+{
+    jobs_have_the_unread_rows();
+    job.changed_rows()
+}
+
+/// Hands a result in.
+pub fn hand_in(core: &mut Core, job: Job, state: State) -> Result<Option<Released>, Wrong>
+    requires job { IsJobOf core.old.frame core.old.entries job }
+    requires result { IsResultOf core.old.frame core.old.entries job state }
+    ensures frame { core.new.frame ≡ core.old.frame }
+    ensures entries { GoesOn core.old.entries core.new.entries }
+{
+    match core.finish(2, job, state) {
+        Ok(released) => Ok(Some(released)),
+        Err((job, _)) => {
+            drop(job.into_parts());
+            Err(Wrong::Refused)
+        }
+    }
+}
+
+/// What a read waits for.
+pub fn threshold(
+    alloc: Global,
+    core: &Core,
+    var: u8,
+    until: Until,
+    n: i64,
+) -> Result<Threshold, AllocError> {
+    let mut values = Values::new(alloc);
+    values.push(Value::Int(n))?;
+    match until {
+        Until::Counted => Ok(Threshold::Count(n.unsigned_abs())),
+        Until::Added => Ok(Threshold::Added(values)),
+        Until::Removed => Ok(Threshold::Removed(values)),
+        Until::More if u64::from(var) < core.graph().len() => {
+            Ok(Threshold::Above(Arc::try_clone(core.state(var))?))
+        }
+        Until::More => Ok(Threshold::Count(0)),
+    }
+}
+
 /// Opens a read, where its threshold suits its variable.
 pub fn open(core: &mut Core, var: u8, threshold: Threshold) -> Result<Option<ReadNo>, AllocError>
     ensures frame { core.new.frame ≡ core.old.frame }
@@ -171,134 +193,14 @@ pub fn open(core: &mut Core, var: u8, threshold: Threshold) -> Result<Option<Rea
     Ok(Some(core.open_read(var, threshold)?))
 }
 
-/// A job that was evaluated, with its result.
-pub struct Work {
-    pub job: Job,
-    pub state: State,
-}
-
-/// Evaluates a job that was just taken; without a result where its functions aren't those of the library, or no memory is left.
-fn evaluated(alloc: Global, core: &Core, lib: &mut StepLib, mut job: Job) -> (Job, Option<State>)
-    requires job { IsJobNow core.now.frame core.now.entries job.var job }
-    ensures job { IsJobOf core.now.frame core.now.entries result.0 }
-    ensures state { IfSome result.1 (λ s. IsResultOf core.now.frame core.now.entries result.0 s) }
-    ensures same { (result.0.var ≡ job.var) × (result.0.n ≡ job.n) }
-{
+/// The states by plain evaluation of a core's sources, or none where the functions aren't those of the library.
+pub fn evaluated(alloc: Global, core: &Core, lib: &Library) -> Result<States, EvalAll> {
     core.recall();
-    if !job.fits(lib) {
-        return (job, None);
-    }
-    match job.evaluate(alloc, lib) {
-        Ok(state) => (job, Some(state)),
-        Err(_) => (job, None),
-    }
-}
-
-/// Gives a job back, where its variable is derived.
-pub fn put_back(core: &mut Core, job: Job)
-    ensures frame { core.new.frame ≡ core.old.frame }
-    ensures entries { core.new.entries ≡ core.old.entries }
-{
-    if is_derived(core, job.var) {
-        core.give_back(job);
+    sources_stay_within_the_format();
+    let graph = core.graph();
+    if graph.fits(lib) {
+        eval_all(alloc, graph, lib, core.states())
     } else {
-        drop(job.into_parts());
-    }
-}
-
-/// The variable of the next job, which is given back.
-pub fn put_back_next(core: &mut Core) -> Result<Option<u8>, AllocError>
-    ensures frame { core.new.frame ≡ core.old.frame }
-    ensures entries { core.new.entries ≡ core.old.entries }
-{
-    match core.take()? {
-        Some(job) => {
-            let var = job.var;
-            put_back(core, job);
-            Ok(Some(var))
-        }
-        None => Ok(None),
-    }
-}
-
-/// The variable of the next job, which stays out.
-pub fn take_next(core: &mut Core) -> Result<Option<u8>, AllocError>
-    ensures frame { core.new.frame ≡ core.old.frame }
-    ensures entries { core.new.entries ≡ core.old.entries }
-{
-    match core.take()? {
-        Some(job) => Ok(Some(job.into_parts().var)),
-        None => Ok(None),
-    }
-}
-
-/// Evaluates a job that was just taken, or gives it back.
-fn work_of(alloc: Global, core: &mut Core, lib: &mut StepLib, job: Job) -> Result<Work, AllocError>
-    requires job { IsJobNow core.old.frame core.old.entries job.var job }
-    ensures frame { core.new.frame ≡ core.old.frame }
-    ensures entries { core.new.entries ≡ core.old.entries }
-    ensures job { IfOk result (λ work. IsJobOf core.new.frame core.new.entries work.job) }
-    ensures result { IfOk result (λ work. IsResultOf core.new.frame core.new.entries work.job work.state) }
-{
-    match evaluated(alloc, core, lib, job) {
-        (job, Some(state)) => Ok(Work { job, state }),
-        (job, None) => {
-            put_back(core, job);
-            Err(AllocError)
-        }
-    }
-}
-
-/// The core's next job, evaluated; none where all is clean.
-pub fn next_work(
-    alloc: Global,
-    core: &mut Core,
-    lib: &mut StepLib,
-) -> Result<Option<Work>, AllocError>
-    ensures frame { core.new.frame ≡ core.old.frame }
-    ensures entries { core.new.entries ≡ core.old.entries }
-    ensures job { IfOk result (λ found. IfSome found (λ work. IsJobOf core.new.frame core.new.entries work.job)) }
-    ensures result { IfOk result (λ found. IfSome found (λ work. IsResultOf core.new.frame core.new.entries work.job work.state)) }
-{
-    match core.take()? {
-        Some(job) => Ok(Some(work_of(alloc, core, lib, job)?)),
-        None => Ok(None),
-    }
-}
-
-/// A job of this variable, evaluated; none where it isn't derived.
-pub fn work_at(
-    alloc: Global,
-    core: &mut Core,
-    lib: &mut StepLib,
-    var: u8,
-) -> Result<Option<Work>, AllocError>
-    ensures frame { core.new.frame ≡ core.old.frame }
-    ensures entries { core.new.entries ≡ core.old.entries }
-    ensures job { IfOk result (λ found. IfSome found (λ work. IsJobOf core.new.frame core.new.entries work.job)) }
-    ensures result { IfOk result (λ found. IfSome found (λ work. IsResultOf core.new.frame core.new.entries work.job work.state)) }
-{
-    if !is_derived(core, var) {
-        return Ok(None);
-    }
-    let job = core.take_var(var)?;
-    Ok(Some(work_of(alloc, core, lib, job)?))
-}
-
-/// Hands a result in.
-pub fn hand_in(core: &mut Core, by: u64, work: Work) -> Result<Released, AllocError>
-    requires job { IsJobOf core.old.frame core.old.entries work.job }
-    requires result { IsResultOf core.old.frame core.old.entries work.job work.state }
-    ensures frame { core.new.frame ≡ core.old.frame }
-    ensures ok { OnOk result (core.new.entries ≡ core.old.entries ++ entry by (model.Bind work.job.var work.job.n) ∷ []) }
-    ensures err { OnErr result (core.new.entries ≡ core.old.entries) }
-{
-    let Work { job, state } = work;
-    match core.finish(by, job, state) {
-        Ok(released) => Ok(released),
-        Err((job, error)) => {
-            put_back(core, job);
-            Err(error)
-        }
+        Ok(States::new(alloc))
     }
 }

@@ -1,43 +1,29 @@
-//! Tests of replica cores: their calls one by one, and long lists of calls against plain evaluation.
+//! Tests of replica cores and of what they stand on: histories, jobs, and the bytes of messages.
 #![tactic(auto)]
 
 #[cfg(test)]
-mod by_base;
+mod bytes;
 #[cfg(test)]
 mod call;
 #[cfg(test)]
-mod checks;
-#[cfg(test)]
 mod cores;
 #[cfg(test)]
-mod deliveries;
+mod desk;
 #[cfg(test)]
-mod dice;
+mod history;
 #[cfg(test)]
-mod functions;
+mod library;
 #[cfg(test)]
-mod jobs;
+mod random;
 #[cfg(test)]
-mod laws;
-#[cfg(test)]
-mod limits;
-#[cfg(test)]
-mod reads;
-#[cfg(test)]
-mod runs;
-#[cfg(test)]
-mod script;
-#[cfg(test)]
-mod spelled;
-#[cfg(test)]
-mod steps;
+mod stories;
 #[cfg(test)]
 mod table;
 #[cfg(test)]
+mod told;
+#[cfg(test)]
 mod traits;
 #[cfg(test)]
-mod updates;
-#[cfg(test)]
-mod written;
+mod work;
 #[cfg(test)]
 mod wrong;

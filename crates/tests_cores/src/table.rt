@@ -1,379 +1,368 @@
-//! A core with all that a list of calls needs beside it. Each call is told in a line, and checked.
+//! A desk with all that lists of calls need beside it. Each call is told, and checked.
 
-ghost use Rattle.std.specs.Prelude.{◌≡◌, IfOk, IfSome};
-ghost use Rattle.lasp_core.specs.Core.{IsOpen};
-ghost use Rattle.lasp_core.specs.Entries.{read_of};
-ghost use Rattle.lasp_core.specs.Listed.{GoesOn};
-ghost use Rattle.lasp_core.specs.Jobs.{IsJobOf, IsResultOf};
-ghost use Rattle.tests_cores.specs.Follows.{IsWork, IsAsked, Follows};
-
-use crate::call::{Doing, Until, What};
-use crate::checks::{Before, Counts, check_entered, check_followed, check_waiting};
-use crate::cores::{
-    Work, core_of, hand_in, is_derived, next_work, open, put_back, put_back_next, shared_message,
-    take_next, update, work_at,
+use crate::call::{Call, Doing, Until, Verb, What, read_call};
+use crate::cores::{core_of, declare, evaluated, is_derived, update};
+use crate::desk::{Desk, Done};
+use crate::library::library;
+use crate::told::{
+    is_same, tell_counts, tell_entries, tell_message, tell_reads, tell_released, tell_settled,
+    tell_states, told_core,
 };
-use crate::spelled::{spell, spell_released};
+use crate::traits::owed;
 use crate::wrong::Wrong;
-use lasp_core::{
-    Core, DeliverRefused, ReadNo, Released, UpdateRefused, jobs_stay, reads_stay_open,
-};
+use lasp_core::{Core, Released, begins};
 use lasp_fns::{Library, StepLib};
-use lasp_state::{State, Threshold};
-use lasp_value::{Value, Values};
+use lasp_gossip::Network;
+use lasp_graph::States;
+use lasp_node::message_of;
 use lasp_wire::Message;
 use std::alloc::{AllocError, Global};
-use std::sync::Arc;
+use std::fmt::Debug;
+
+/// What may be declared behind a graph.
+const DECLARATIONS: [&str; 5] = [
+    r#"["b","orset"]"#,
+    r#"["u","union","b","a"]"#,
+    r#"["d","orset"]"#,
+    r#"["n","union","u","d"]"#,
+    r#"["r","fold","n",["modulo",7],"itself"]"#,
+];
+
+/// How often what came.
+#[derive(Clone, Copy, Debug)]
+pub struct Tally {
+    /// Updates and deliveries that were refused.
+    pub refused: u32,
+    /// Entries after which the core was compared with plain evaluation.
+    pub compared: u32,
+    /// Those after which it was settled.
+    pub settled: u32,
+}
 
 /// Replica 0 of two, whose calls are tested, and replica 1, whose messages it gets.
 #[derive(Drop)]
 pub struct Table<'a> {
-    pub alloc: Global,
-    pub lib: &'a Library,
-    pub core: Core,
-    pub other: Core,
-    pub sent: Vec<Arc<Message>>,
-    pub reads: Vec<ReadNo>,
-    /// What the calls came to, a line each.
-    pub out: String,
-    /// How many calls were refused.
-    pub refused: u32,
-    /// How often the core was compared with plain evaluation.
-    pub compared: u32,
-    /// How often it was settled then.
-    pub settled: u32,
+    alloc: Global,
+    lib: &'a Library,
+    by_rows: StepLib<'a>,
+    by_base: StepLib<'a>,
+    pub desk: Desk,
+    other: Core,
+    network: Network,
+    told: String,
+    pub tally: Tally,
 }
 
 impl<'a> Table<'a> {
     /// Two cores of one graph.
     pub fn new(alloc: Global, lib: &'a Library, graph: &str) -> Result<Table<'a>, Wrong> {
+        let core = core_of(alloc, graph, lib, 0)?;
+        let other = core_of(alloc, graph, lib, 1)?;
         Ok(Table {
             alloc,
             lib,
-            core: core_of(alloc, graph, lib, 0, 2)?,
-            other: core_of(alloc, graph, lib, 1, 2)?,
-            sent: Vec::new(alloc),
-            reads: Vec::new(alloc),
-            out: String::new(alloc),
-            refused: 0,
-            compared: 0,
-            settled: 0,
+            by_rows: StepLib::new(lib),
+            by_base: StepLib::new(lib),
+            desk: Desk::new(alloc, core),
+            other,
+            network: Network::new(alloc, 268_435_456),
+            told: String::new(alloc),
+            tally: Tally {
+                refused: 0,
+                compared: 0,
+                settled: 0,
+            },
         })
     }
 
-    /// A refused call changed nothing.
-    fn refuse(&mut self, before: &Before) -> Result<(), Wrong>
-        ensures { self.new.core ≡ self.old.core }
-    {
-        self.refused = self.refused.saturating_add(1);
-        before.check_unchanged(self.alloc, &self.core)
-    }
-
-    /// Tells which reads a call released that added an entry, and compares the core with plain evaluation.
-    fn tell_entered(&mut self, before: Counts, released: &Released) -> Result<(), Wrong>
-        ensures { self.new.core ≡ self.old.core }
-    {
-        spell_released(&mut self.out, released)?;
-        check_entered(&self.core, before, released)?;
-        self.compare()
-    }
-
-    /// Tells what an update came to.
-    fn tell_updated(
-        &mut self,
-        before: &Before,
-        done: Result<Released, UpdateRefused>,
-    ) -> Result<(), Wrong>
-        ensures { self.new.core ≡ self.old.core }
-    {
-        match done {
-            Ok(released) => self.tell_entered(before.counts, &released),
-            Err(UpdateRefused::Memory) => Err(Wrong::Refused),
-            Err(why) => {
-                write!(self.out, "{why:?}\n")?;
-                self.refuse(before)
-            }
+    /// Makes a call. One that adds no entry leaves the core as it is, but for a read that it opens or closes; after one that adds entries the core is compared with plain evaluation.
+    pub fn play(&mut self, call: Call) -> Result<(), Wrong> {
+        let is_about_reads = matches!(call.verb, Verb::Open(_) | Verb::Close);
+        let length = self.desk.core().journal_len();
+        let before = told_core(self.alloc, self.desk.core(), is_about_reads)?;
+        self.told.clear();
+        self.act(call)?;
+        if self.desk.core().journal_len() != length {
+            return self.compare();
+        }
+        let after = told_core(self.alloc, self.desk.core(), is_about_reads)?;
+        if after.as_str() == before.as_str() {
+            Ok(())
+        } else {
+            Err(Wrong::Changed)
         }
     }
 
-    /// Tells what a delivery came to.
-    fn tell_delivered(
-        &mut self,
-        before: &Before,
-        done: Result<Released, DeliverRefused>,
-    ) -> Result<(), Wrong>
-        ensures { self.new.core ≡ self.old.core }
-    {
-        match done {
-            Ok(released) => self.tell_entered(before.counts, &released),
-            Err(DeliverRefused::Memory) => Err(Wrong::Refused),
-            Err(why) => {
-                write!(self.out, "{why:?}\n")?;
-                self.refuse(before)
+    /// Makes a call, and tells what it comes to.
+    fn act(&mut self, call: Call) -> Result<(), Wrong> {
+        let place = usize::from(call.first);
+        match call.verb {
+            Verb::Update(doing) => self.update(call, doing),
+            Verb::Fill(doing) => self.fill(call, doing),
+            Verb::Declare => self.declare(call),
+            Verb::Send => self.send(),
+            Verb::Stray => self.send_stray(),
+            Verb::Deliver => self.deliver(u32::from(call.first)),
+            Verb::Next => self.take(None),
+            Verb::Take => self.take(Some(call.first)),
+            Verb::End => self.end(place),
+            Verb::Back => {
+                self.desk.back(place);
+                Ok(())
             }
+            Verb::Work => self.work(),
+            Verb::Open(until) => self.open(call, until),
+            Verb::Ask => self.ask(place),
+            Verb::Close => {
+                self.desk.close(place);
+                Ok(())
+            }
+            Verb::Tell(what) => self.tell(what),
         }
     }
 
-    pub fn update(&mut self, var: u8, doing: Doing, n: i8) -> Result<(), Wrong>
-        ensures frame { self.new.core.frame ≡ self.old.core.frame }
-        ensures entries { GoesOn self.old.core.entries self.new.core.entries }
-    {
-        let before = Before::of(self.alloc, &self.core)?;
-        let done = update(self.alloc, &mut self.core, var, doing, n);
-        self.tell_updated(&before, done)
+    /// Tells which reads a call released, or why it was refused.
+    fn tell_done<E: Debug + Drop>(&mut self, done: Result<Released, E>) -> Result<(), Wrong> {
+        match done {
+            Ok(released) => tell_released(&mut self.told, &released)?,
+            Err(why) => {
+                self.tally.refused = self.tally.refused.saturating_add(1);
+                write!(self.told, " {why:?}")?;
+            }
+        }
+        Ok(())
     }
 
-    pub fn deliver(&mut self, number: u32) -> Result<(), Wrong>
-        ensures frame { self.new.core.frame ≡ self.old.core.frame }
-        ensures entries { GoesOn self.old.core.entries self.new.core.entries }
-    {
-        let Some(message) = self.sent.get(number as usize) else {
+    /// An update, of which nothing is told where it is the other core's.
+    fn update(&mut self, call: Call, doing: Doing) -> Result<(), Wrong> {
+        if call.is_there {
+            drop(update(self.alloc, &mut self.other, call.first, doing, call.second));
             return Ok(());
+        }
+        let done = self.desk.update(self.alloc, call.first, doing, call.second);
+        self.tell_done(done)
+    }
+
+    /// Updates by each number from 0 on, or so often by 1.
+    fn fill(&mut self, call: Call, doing: Doing) -> Result<(), Wrong> {
+        for n in 0..call.second {
+            let number = if matches!(doing, Doing::Count) { 1 } else { n };
+            if call.is_there {
+                drop(update(self.alloc, &mut self.other, call.first, doing, number));
+            } else {
+                drop(self.desk.update(self.alloc, call.first, doing, number));
+            }
+        }
+        Ok(())
+    }
+
+    /// Declares a variable of the list.
+    fn declare(&mut self, call: Call) -> Result<(), Wrong> {
+        let Some(text) = DECLARATIONS.get(usize::from(call.first)) else {
+            return Err(Wrong::Line);
         };
-        let before = Before::of(self.alloc, &self.core)?;
-        let done = self.core.deliver(0, number, message);
-        self.tell_delivered(&before, done)
-    }
-
-    /// Updates the other core, or lets it be where that is refused.
-    pub fn update_other(&mut self, var: u8, doing: Doing, n: i8)
-        ensures { self.new.core ≡ self.old.core }
-    {
-        drop(update(self.alloc, &mut self.other, var, doing, n));
-    }
-
-    pub fn send(&mut self) -> Result<(), Wrong>
-        ensures { self.new.core ≡ self.old.core }
-    {
-        let message = shared_message(self.alloc, &self.other)?;
-        self.sent.push(message)?;
-        Ok(())
-    }
-
-    /// Tells of which variable the next job is.
-    fn tell_taken(&mut self, var: Option<u8>) -> Result<(), AllocError>
-        ensures { self.new.core ≡ self.old.core }
-    {
-        match var {
-            Some(var) => write!(self.out, "took {var}\n"),
-            None => self.out.push_str("none\n"),
+        if call.is_there {
+            declare(self.alloc, &mut self.other, self.lib, text)
+        } else {
+            self.desk.declare(self.alloc, self.lib, text)
         }
     }
 
-    /// Tells the variable of the next job, which stays out.
-    pub fn take(&mut self) -> Result<(), Wrong>
-        ensures frame { self.new.core.frame ≡ self.old.core.frame }
-        ensures entries { self.new.core.entries ≡ self.old.core.entries }
-    {
-        let var = take_next(&mut self.core)?;
-        Ok(self.tell_taken(var)?)
-    }
-
-    /// Tells the variable of the next job, which is given back.
-    pub fn give_back(&mut self) -> Result<(), Wrong>
-        ensures frame { self.new.core.frame ≡ self.old.core.frame }
-        ensures entries { self.new.core.entries ≡ self.old.core.entries }
-    {
-        let var = put_back_next(&mut self.core)?;
-        Ok(self.tell_taken(var)?)
-    }
-
-    /// Takes a job of a variable and gives it back.
-    pub fn give_back_at(&mut self, var: u8) -> Result<(), Wrong>
-        ensures frame { self.new.core.frame ≡ self.old.core.frame }
-        ensures entries { self.new.core.entries ≡ self.old.core.entries }
-    {
-        if is_derived(&self.core, var) {
-            let job = self.core.take_var(var)?;
-            put_back(&mut self.core, job);
+    /// Sends a message, and tells its number and the bytes of all.
+    fn post(&mut self, message: Message) -> Result<(), Wrong> {
+        if self.network.len() > 1_000_000 {
+            return Err(Wrong::Refused);
+        }
+        match self.network.send(message) {
+            Ok(number) => write!(self.told, " {number}, {} bytes", self.network.size())?,
+            Err(_) => return Err(Wrong::Refused),
         }
         Ok(())
     }
 
-    /// Hands a result in, and tells which reads that released.
-    fn enter(&mut self, work: Work) -> Result<(), Wrong>
-        requires job { IsJobOf self.old.core.frame self.old.core.entries work.job }
-        requires result { IsResultOf self.old.core.frame self.old.core.entries work.job work.state }
-        ensures frame { self.new.core.frame ≡ self.old.core.frame }
-        ensures entries { GoesOn self.old.core.entries self.new.core.entries }
-    {
-        let before = Counts::of(&self.core);
-        let released = hand_in(&mut self.core, 2, work)?;
-        self.tell_entered(before, &released)
+    /// Sends a message of the other core.
+    fn send(&mut self) -> Result<(), Wrong> {
+        let message = message_of(self.alloc, &self.other)?;
+        self.post(message)
+    }
+
+    /// Sends a message of another graph.
+    fn send_stray(&mut self) -> Result<(), Wrong> {
+        let stranger = core_of(self.alloc, r#"[["z","orset"]]"#, self.lib, 1)?;
+        let message = message_of(self.alloc, &stranger)?;
+        self.post(message)
+    }
+
+    /// Delivers a message, where it was sent.
+    fn deliver(&mut self, number: u32) -> Result<(), Wrong> {
+        if u64::from(number) >= self.network.len() {
+            return Ok(());
+        }
+        let message = self.network.receive(number)?;
+        if !begins(self.desk.core().graph(), &message) {
+            self.told.push_str(" of another graph:")?;
+        }
+        let done = self.desk.deliver(number, &message);
+        self.tell_done(done)
+    }
+
+    /// Tells of which variable a job is that is taken, how many rows changed for it, and how many it gained.
+    fn take(&mut self, var: Option<u8>) -> Result<(), Wrong> {
+        match self
+            .desk
+            .take(self.alloc, &mut self.by_rows, &mut self.by_base, var)?
+        {
+            Some(Done { var, rows, gained }) => {
+                write!(self.told, " {var}, {gained} gained by {rows}")?;
+            }
+            None => self.told.push_str(" none")?,
+        }
+        Ok(())
+    }
+
+    /// Hands in the result of a job that is kept.
+    fn end(&mut self, place: usize) -> Result<(), Wrong> {
+        match self.desk.end(place)? {
+            Some(released) => tell_released(&mut self.told, &released)?,
+            None => self.told.push_str(" none")?,
+        }
+        Ok(())
     }
 
     /// Does the next job.
-    pub fn do_next(&mut self) -> Result<(), Wrong>
-        ensures frame { self.new.core.frame ≡ self.old.core.frame }
-        ensures entries { GoesOn self.old.core.entries self.new.core.entries }
-    {
-        match next_work(self.alloc, &mut self.core, &mut StepLib::new(self.lib))? {
-            Some(work) => self.enter(work),
-            None => Ok(()),
+    fn work(&mut self) -> Result<(), Wrong> {
+        match self
+            .desk
+            .work(self.alloc, &mut self.by_rows, &mut self.by_base)?
+        {
+            Some(released) => tell_released(&mut self.told, &released)?,
+            None => self.told.push_str(" none")?,
         }
+        Ok(())
     }
 
-    /// Does a job of a variable.
-    pub fn do_at(&mut self, var: u8) -> Result<(), Wrong>
-        ensures frame { self.new.core.frame ≡ self.old.core.frame }
-        ensures entries { GoesOn self.old.core.entries self.new.core.entries }
-    {
-        match work_at(self.alloc, &mut self.core, &mut StepLib::new(self.lib), var)? {
-            Some(work) => self.enter(work),
-            None => Ok(()),
+    /// Opens a read, and tells its number.
+    fn open(&mut self, call: Call, until: Until) -> Result<(), Wrong> {
+        match self.desk.open(self.alloc, call.first, until, call.second)? {
+            Some(number) => write!(self.told, " {number}")?,
+            None => self.told.push_str(" unsuited")?,
         }
-    }
-
-    /// A job of a variable with its result, to be handed in later; none where the variable isn't derived.
-    pub fn hold_at(&mut self, var: u8) -> Result<Option<Work>, Wrong>
-        ensures follows { Follows self.old.core self.new.core }
-        ensures work { IfOk result (λ found. IfSome found (λ work. IsWork self.new.core work.job work.state)) }
-    {
-        let before = Before::of(self.alloc, &self.core)?;
-        jobs_stay();
-        reads_stay_open();
-        let found = work_at(self.alloc, &mut self.core, &mut StepLib::new(self.lib), var)?;
-        match before.check_unchanged(self.alloc, &self.core) {
-            Ok(()) => Ok(found),
-            Err(wrong) => {
-                self.put_back(found);
-                Err(wrong)
-            }
-        }
-    }
-
-    /// Gives a job back, where there is one.
-    fn put_back(&mut self, found: Option<Work>)
-        ensures frame { self.new.core.frame ≡ self.old.core.frame }
-        ensures entries { self.new.core.entries ≡ self.old.core.entries }
-    {
-        if let Some(Work { job, state: _ }) = found {
-            put_back(&mut self.core, job);
-        }
-    }
-
-    /// Hands in the result of a job that was held.
-    pub fn finish(&mut self, work: Work) -> Result<(), Wrong>
-        requires { IsWork self.old.core work.job work.state }
-        ensures { Follows self.old.core self.new.core }
-    {
-        jobs_stay();
-        reads_stay_open();
-        self.enter(work)
-    }
-
-    /// What a read waits for.
-    fn threshold(&self, var: u8, until: Until) -> Result<Threshold, AllocError> {
-        match until {
-            Until::Count(least) => Ok(Threshold::Count(least)),
-            Until::Added(n) => Ok(Threshold::Added(one(self.alloc, n)?)),
-            Until::Removed(n) => Ok(Threshold::Removed(one(self.alloc, n)?)),
-            Until::More if u64::from(var) < self.core.graph().len() => {
-                Ok(Threshold::Above(Arc::try_clone(self.core.state(var))?))
-            }
-            Until::More => Ok(Threshold::Count(0)),
-        }
-    }
-
-    /// Opens a read, where the variable may be asked so.
-    fn open(&mut self, var: u8, until: Until) -> Result<Option<ReadNo>, Wrong>
-        ensures frame { self.new.core.frame ≡ self.old.core.frame }
-        ensures entries { self.new.core.entries ≡ self.old.core.entries }
-        ensures open { IfOk result (λ found. IfSome found (λ r. IsOpen self.new.core.frame self.new.core.entries (read_of r))) }
-    {
-        let threshold = self.threshold(var, until)?;
-        Ok(open(&mut self.core, var, threshold)?)
-    }
-
-    /// Opens a read that is to be asked.
-    pub fn ask_for(&mut self, var: u8, until: Until) -> Result<Option<ReadNo>, Wrong>
-        ensures follows { Follows self.old.core self.new.core }
-        ensures asked { IfOk result (λ found. IfSome found (λ r. IsAsked self.new.core (read_of r))) }
-    {
-        let before = Before::of(self.alloc, &self.core)?;
-        jobs_stay();
-        reads_stay_open();
-        let read = self.open(var, until)?;
-        before.check_kept(self.alloc, &self.core)?;
-        Ok(read)
-    }
-
-    /// Tells the answer of the read with a number, which is there where the read doesn't wait.
-    fn tell_answer(&mut self, number: u64, answer: Option<&State>) -> Result<(), Wrong>
-        ensures { self.new.core ≡ self.old.core }
-    {
-        check_waiting(&self.core, number, answer.is_some())?;
-        if let Some(state) = answer {
-            state.print_into(&mut self.out)?;
-        }
-        self.out.push('\n')?;
         Ok(())
     }
 
     /// Tells what a read is answered.
-    pub fn ask(&mut self, read: &ReadNo) -> Result<(), Wrong>
-        requires { IsAsked self.old.core (read_of read.now) }
-        ensures { self.new.core ≡ self.old.core }
-    {
-        match self.core.poll_read(read)? {
-            Some(state) => self.tell_answer(read.number(), Some(&state)),
-            None => self.tell_answer(read.number(), None),
-        }
-    }
-
-    /// Opens a read and keeps it.
-    pub fn keep_read(&mut self, var: u8, until: Until) -> Result<(), Wrong>
-        ensures frame { self.new.core.frame ≡ self.old.core.frame }
-        ensures entries { self.new.core.entries ≡ self.old.core.entries }
-    {
-        match self.open(var, until)? {
-            Some(read) => self.reads.push(read)?,
-            None => self.out.push_str("not asked\n")?,
+    fn ask(&mut self, place: usize) -> Result<(), Wrong> {
+        match self.desk.ask(place)? {
+            Some(state) => {
+                self.told.push(' ')?;
+                state.print_into(&mut self.told)?;
+            }
+            None => self.told.push_str(" waits")?,
         }
         Ok(())
     }
 
-    /// Closes a read that was asked.
-    pub fn shut(&mut self, read: &ReadNo) -> Result<(), Wrong>
-        ensures frame { self.new.core.frame ≡ self.old.core.frame }
-        ensures entries { self.new.core.entries ≡ self.old.core.entries }
-    {
-        let before = Before::of(self.alloc, &self.core)?;
-        self.core.close_read(read);
-        before.check_kept(self.alloc, &self.core)
-    }
-
-    /// Closes a read that was kept. Whoever closes it again changes nothing.
-    pub fn close(&mut self, place: usize)
-        ensures frame { self.new.core.frame ≡ self.old.core.frame }
-        ensures entries { self.new.core.entries ≡ self.old.core.entries }
-    {
-        if let Some(read) = self.reads.get(place) {
-            self.core.close_read(read);
+    /// Tells something of the core, or what the other one would send.
+    fn tell(&mut self, what: What) -> Result<(), Wrong> {
+        let core = self.desk.core();
+        match what {
+            What::Entries => tell_entries(&mut self.told, core)?,
+            What::States => tell_states(&mut self.told, core.states())?,
+            What::Settled => tell_settled(&mut self.told, core)?,
+            What::Reads => tell_reads(&mut self.told, core)?,
+            What::Counts => tell_counts(&mut self.told, core.counts().as_slice())?,
+            What::Message => {
+                let message = message_of(self.alloc, &self.other)?;
+                tell_message(&mut self.told, &message)?;
+            }
+            What::Cost => write!(
+                self.told,
+                " {} by rows, {} by base, {} owed",
+                self.by_rows.ticks(),
+                self.by_base.ticks(),
+                owed(core)
+            )?,
         }
-    }
-
-    pub fn tell(&mut self, what: What) -> Result<(), Wrong>
-        ensures { self.new.core ≡ self.old.core }
-    {
-        spell(self.alloc, &mut self.out, &self.core, self.lib, what)
+        Ok(())
     }
 
     /// Compares the core with plain evaluation, as far as it has followed its sources.
-    pub fn compare(&mut self) -> Result<(), Wrong>
-        ensures { self.new.core ≡ self.old.core }
-    {
-        self.compared = self.compared.saturating_add(1);
-        if check_followed(self.alloc, &self.core, self.lib)? {
-            self.settled = self.settled.saturating_add(1);
+    fn compare(&mut self) -> Result<(), Wrong> {
+        let core = self.desk.core();
+        self.tally.compared = self.tally.compared.saturating_add(1);
+        if core.check_settled().is_ok() {
+            self.tally.settled = self.tally.settled.saturating_add(1);
         }
-        Ok(())
+        let states = evaluated(self.alloc, core, self.lib)?;
+        check_followed(self.alloc, core, &states)
+    }
+
+    /// Makes the calls of a text, and answers it with what they came to.
+    fn play_all(&mut self, text: &str) -> Result<String, Wrong> {
+        let mut out = String::new(self.alloc);
+        for line in text.lines() {
+            let Some(call) = read_call(line) else {
+                return Err(Wrong::Line);
+            };
+            self.play(call)?;
+            write_line(&mut out, line, self.told.as_str())?;
+        }
+        Ok(out)
     }
 }
 
-/// The list of one number.
-fn one(alloc: Global, n: i8) -> Result<Values, AllocError> {
-    let mut values = Values::new(alloc);
-    values.push(Value::Int(i64::from(n)))?;
-    Ok(values)
+/// A line up to its arrow, and then what was told, if anything was.
+fn write_line(out: &mut String, line: &str, told: &str) -> Result<(), AllocError> {
+    let call = match line.split_once(" ->") {
+        Some((call, _)) => call,
+        None => line,
+    };
+    out.push_str(call)?;
+    if !told.is_empty() {
+        out.push_str(" ->")?;
+    }
+    out.push_str(told)?;
+    out.push('\n')
+}
+
+/// Whether a variable has followed the sources: it is one, or it is clean and its inputs are such.
+fn has_followed(core: &Core, var: u8, before: &[bool]) -> bool {
+    let graph = core.graph();
+    if u64::from(var) >= graph.len() {
+        return false;
+    }
+    match graph.at(u64::from(var)).kind.inputs() {
+        Some((x, y)) => {
+            before.get(usize::from(x)) == Some(&true)
+                && before.get(usize::from(y)) == Some(&true)
+                && is_derived(core, var)
+                && core.is_clean(var)
+        }
+        None => true,
+    }
+}
+
+/// The variables that have followed the sources are what plain evaluation gives.
+fn check_followed(alloc: Global, core: &Core, wanted: &States) -> Result<(), Wrong> {
+    let states = core.states();
+    let mut followed = Vec::new(alloc);
+    for var in 0..64u8 {
+        let x = u64::from(var);
+        if x >= states.len() || x >= wanted.len() {
+            break;
+        }
+        let has_followed = has_followed(core, var, &followed);
+        if has_followed && !is_same(alloc, states.at(x), wanted.at(x))? {
+            return Err(Wrong::Evaluated);
+        }
+        followed.push(has_followed)?;
+    }
+    Ok(())
+}
+
+/// A text of calls of the core of a graph, with what they came to.
+pub fn told(alloc: Global, graph: &str, text: &str) -> Result<String, Wrong> {
+    let lib = library(alloc)?;
+    let mut table = Table::new(alloc, &lib, graph)?;
+    table.play_all(text)
 }

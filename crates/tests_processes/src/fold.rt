@@ -6,31 +6,15 @@ ghost use Rattle.lasp_fns.specs.Library.{lifts_of};
 ghost use Rattle.lasp_fns.specs.Steps.{library_of};
 ghost use Rattle.lasp_fold.specs.Fold.{HasWidth, IsWithinLimits};
 
-use crate::made::{itself, library_of_lift, no_calls};
-use lasp_fns::{Library, StepLib};
+use crate::made::{Rows, no_calls, rows};
+use lasp_fns::{Library, MapOp, StepLib};
 use lasp_fold::*;
-use lasp_orset::{Entry, OrSet};
-use lasp_value::{Token, Value};
+use lasp_orset::OrSet;
 use std::alloc::{AllocError, Global};
 use std::test::Fail;
 
 /// The most rows that a set variable may have.
 const MOST_ROWS: u64 = 65_536;
-
-/// The rows of numbers, each with the number of its token and whether it is dead.
-fn numbers(alloc: Global, table: &[(i64, u64, bool)]) -> Result<OrSet, AllocError>
-    ensures { IfOk result (λ s. IsWithinLimits s) }
-{
-    let mut set = OrSet::new(alloc);
-    for (n, k, dead) in table {
-        let row = Entry::new(alloc, Value::Int(*n), Token::Base(0, *k), *dead)?;
-        set.add(row)?;
-    }
-    if set.rows() > MOST_ROWS {
-        return Err(AllocError);
-    }
-    Ok(set)
-}
 
 /// A set with the rows of a change.
 fn grown(before: &OrSet, change: &OrSet) -> Result<OrSet, AllocError>
@@ -77,12 +61,7 @@ fn number_after<G: FoldGroup>(
 }
 
 /// Rows with a change; the sum, the xor and the rest by 4 after it; and how many calls all ways make that count them.
-type Change<'a> = (
-    &'a [(i64, u64, bool)],
-    &'a [(i64, u64, bool)],
-    (i128, i128, i128),
-    u64,
-);
+type Change<'a> = (Rows<'a>, Rows<'a>, (i128, i128, i128), u64);
 
 static CHANGES: [Change; 5] = [
     (&[], &[(-1, 1, false), (5, 2, false)], (4, -6, 0), 12),
@@ -112,79 +91,52 @@ static CHANGES: [Change; 5] = [
     ),
 ];
 
-/// Counts the calls of a library that has a lift.
-fn steps_of(library: &Library) -> StepLib<'_>
-    requires { 0 < length (lifts_of library.now) }
-    ensures same { library_of result ≡ library.now }
-    ensures place { 0 < length (lifts_of (library_of result)) }
-{
-    StepLib::new(library)
-}
-
-fn is_number(found: Option<i128>, number: i128) -> bool {
-    match found {
-        Some(found) => found == number,
-        None => false,
-    }
-}
-
 /// How many calls are counted until a fold comes to this number after a change.
 fn calls_to<G: FoldGroup>(
     g: &G,
     library: &Library,
-    before: &OrSet,
-    change: &OrSet,
-    after: &OrSet,
+    sets: (&OrSet, &OrSet, &OrSet),
     number: i128,
 ) -> Option<u64>
     requires place { 0 < length (lifts_of library.now) }
-    requires change { IsChange before.now change.now after.now }
-    requires before { IsWithinLimits before.now }
-    requires after { IsWithinLimits after.now }
+    requires change { IsChange sets.0.now sets.1.now sets.2.now }
+    requires before { IsWithinLimits sets.0.now }
+    requires after { IsWithinLimits sets.2.now }
 {
-    let mut steps = steps_of(library);
-    let found = number_after(g, library, &mut steps, before, change, after);
-    if is_number(found, number) {
+    let mut steps = StepLib::new(library);
+    let found = number_after(g, library, &mut steps, sets.0, sets.1, sets.2)?;
+    if found == number {
         Some(steps.ticks())
     } else {
         None
     }
 }
 
-/// Whether a sum, a xor and a rest by 4 come to these numbers after a change, by so many calls in all.
-fn come_to(
+/// How many calls are counted until a sum, a xor and a rest by 4 come to these numbers after a change.
+fn calls_to_all(
     library: &Library,
-    before: &OrSet,
-    change: &OrSet,
-    after: &OrSet,
-    numbers: (i128, i128, i128),
-    calls: u64,
-) -> bool
+    sets: (&OrSet, &OrSet, &OrSet),
+    numbers: &(i128, i128, i128),
+) -> Option<u64>
     requires place { 0 < length (lifts_of library.now) }
-    requires change { IsChange before.now change.now after.now }
-    requires before { IsWithinLimits before.now }
-    requires after { IsWithinLimits after.now }
+    requires change { IsChange sets.0.now sets.1.now sets.2.now }
+    requires before { IsWithinLimits sets.0.now }
+    requires after { IsWithinLimits sets.2.now }
 {
-    let sum = calls_to(&Sum, library, before, change, after, numbers.0);
-    let xor = calls_to(&Xor, library, before, change, after, numbers.1);
-    let rest = calls_to(&Modulo::new(4), library, before, change, after, numbers.2);
-    match (sum, xor, rest) {
-        (Some(sum), Some(xor), Some(rest)) => {
-            sum.saturating_add(xor).saturating_add(rest) == calls
-        }
-        (_, _, _) => false,
-    }
+    let sum = calls_to(&Sum, library, sets, numbers.0)?;
+    let xor = calls_to(&Xor, library, sets, numbers.1)?;
+    let rest = calls_to(&Modulo::new(4), library, sets, numbers.2)?;
+    Some(sum.saturating_add(xor).saturating_add(rest))
 }
 
 /// Whether the folds of a library's lift follow a change of rows so.
 fn follow(alloc: Global, library: &Library, row: &Change) -> Result<bool, AllocError>
     requires place { 0 < length (lifts_of library.now) }
 {
-    let (rows, more, expected, calls) = row;
-    let before = numbers(alloc, rows)?;
-    let change = numbers(alloc, more)?;
+    let before = rows(alloc, row.0)?;
+    let change = rows(alloc, row.1)?;
     let after = grown(&before, &change)?;
-    Ok(come_to(library, &before, &change, &after, *expected, *calls))
+    Ok(calls_to_all(library, (&before, &change, &after), &row.2) == Some(row.3))
 }
 
 /// The first change that they follow otherwise.
@@ -192,15 +144,13 @@ fn first_other(
     alloc: Global,
     library: &Library,
     changes: &[Change],
-) -> Result<Option<u64>, AllocError>
+) -> Result<Option<(i128, i128, i128)>, AllocError>
     requires place { 0 < length (lifts_of library.now) }
 {
-    let mut at = 0u64;
     for row in changes {
         if !follow(alloc, library, row)? {
-            return Ok(Some(at));
+            return Ok(Some(row.2));
         }
-        at = at.saturating_add(1);
     }
     Ok(None)
 }
@@ -208,7 +158,10 @@ fn first_other(
 #[test]
 fn a_fold_follows_additions_and_removals(rt: HostRuntime) -> Result<(), Fail> {
     let alloc = rt.alloc();
-    let library = library_of_lift(alloc, "itself", itself(alloc, &no_calls(alloc)?)?)?;
-    assert_eq!(rt; first_other(alloc, &library, &CHANGES)?, None);
+    let other = {
+        let library = crate::made::library_of(alloc, MapOp::Abs, &no_calls(alloc)?)?;
+        first_other(alloc, &library, &CHANGES)
+    };
+    assert_eq!(rt; other?, None);
     Ok(())
 }

@@ -1,11 +1,19 @@
-//! Tests of stored functions, of set operations and of folds.
+//! Tests of stored functions, of set operations and folds, of states and of graphs.
 #![tactic(auto)]
 
 #[cfg(test)]
-mod fns;
+mod called;
 #[cfg(test)]
 mod fold;
 #[cfg(test)]
+mod graph;
+#[cfg(test)]
 mod made;
 #[cfg(test)]
+mod operations;
+#[cfg(test)]
 mod setops;
+#[cfg(test)]
+mod state;
+#[cfg(test)]
+mod stored;

@@ -1,6 +1,6 @@
-//! Stored functions that count their calls, and libraries of one function.
+//! What all tests share: values of texts, sets of rows, and stored functions that count their calls.
 
-ghost use Rattle.std.specs.Prelude.{◌≡◌, ◌<◌, [], IfOk, OnOk, length};
+ghost use Rattle.std.specs.Prelude.{◌≡◌, ◌<◌, [], IfOk, IsTrue, length};
 ghost use Rattle.model_values.specs.Size.{IsSized};
 ghost use Rattle.model_functions.specs.Predicate.{passes};
 ghost use Rattle.model_functions.specs.Lift as lift;
@@ -8,22 +8,86 @@ ghost use Rattle.model_functions.specs.Lift.{lifted};
 ghost use Rattle.lasp_value.specs.Value.{val_of};
 ghost use Rattle.lasp_fns.specs.Answers.{Answers};
 ghost use Rattle.lasp_fns.specs.Library.{maps_of, predicates_of, lifts_of};
+ghost use Rattle.lasp_fold.specs.Fold.{IsWithinLimits};
+ghost use Rattle.lasp_setops.specs.Width.{IsSetOfWidth};
 
 use lasp_fns::{
-    Library, LibraryRefused, LiftOp, MapOp, MapOps, PredOp, PredOps, StoredLift, StoredMap,
-    StoredPred, apply_lift, apply_map, apply_pred,
+    Library, LiftOp, MapOp, MapOps, PredOp, PredOps, StoredLift, StoredMap, StoredPred, apply_lift,
+    apply_map, apply_pred,
 };
-use lasp_value::Value;
+use lasp_orset::{Entry, OrSet};
+use lasp_value::{Token, Value, print_into, value_of_json};
+use serde_json::Value as Json;
 use std::alloc::{AllocError, Global};
 use std::sync::Arc;
 use std::sync::atomic::{AtomicU64, Ordering};
+use std::test::Fail;
+
+/// The value that a text of JSON stands for.
+pub fn value_of(alloc: Global, json: &str) -> Result<Value, Fail>
+    ensures { IfOk result (λ v. IsSized (val_of v)) }
+{
+    let tree = Json::from_str(alloc, json)?;
+    match value_of_json(alloc, &tree) {
+        Ok(value) => {
+            value.recall_ints();
+            Ok(value)
+        }
+        Err(_) => Err("a text stands for no value".into()),
+    }
+}
+
+/// Rows of numbers, each with the number of its token and whether it is dead.
+pub type Rows<'a> = &'a [(i64, u64, bool)];
+
+/// The most rows that a set variable may have.
+const MOST_ROWS: u64 = 65_536;
+
+pub fn rows(alloc: Global, table: Rows) -> Result<OrSet, AllocError>
+    ensures width { IfOk result (λ s. IsSetOfWidth 16 s) }
+    ensures limits { IfOk result (λ s. IsWithinLimits s) }
+{
+    let mut set = OrSet::new(alloc);
+    for (n, k, dead) in table {
+        let row = Entry::new(alloc, Value::Int(*n), Token::Base(0, *k), *dead)?;
+        set.add(row)?;
+    }
+    if set.rows() > MOST_ROWS {
+        return Err(AllocError);
+    }
+    Ok(set)
+}
+
+fn spell_token(out: &mut String, token: &Token) -> Result<(), AllocError> {
+    match token {
+        Token::Base(replica, k) => write!(out, "{replica}.{k}"),
+        Token::Both(first, second) => {
+            spell_token(out, first)?;
+            out.push('+')?;
+            spell_token(out, second)
+        }
+    }
+}
+
+/// Whether the rows of a set are spelled so: each as its value, its token after `@`, and `x` where it is dead.
+pub fn spells(alloc: Global, set: &OrSet, expected: &str) -> Result<bool, AllocError> {
+    let mut out = String::new(alloc);
+    let mut rows = set.iter();
+    while let Some(row) = rows.next() {
+        print_into(&mut out, row.value())?;
+        out.push('@')?;
+        spell_token(&mut out, row.token())?;
+        out.push_str(if row.is_dead() { "x " } else { " " })?;
+    }
+    Ok(out.as_str() == expected)
+}
 
 pub fn no_calls(alloc: Global) -> Result<Arc<AtomicU64>, AllocError> {
     Ok(Arc::new(alloc, AtomicU64::new(0))?)
 }
 
 /// A map function of one operation.
-pub fn map_of(alloc: Global, op: MapOp, calls: &Arc<AtomicU64>) -> Result<StoredMap, AllocError> {
+fn map_of(alloc: Global, op: MapOp, calls: &Arc<AtomicU64>) -> Result<StoredMap, AllocError> {
     let mut ops = MapOps::new(alloc);
     ops.push(op)?;
     let mine = ops.try_clone()?;
@@ -39,7 +103,7 @@ pub fn map_of(alloc: Global, op: MapOp, calls: &Arc<AtomicU64>) -> Result<Stored
 }
 
 /// The test that even numbers pass.
-pub fn even(alloc: Global, calls: &Arc<AtomicU64>) -> Result<StoredPred, AllocError> {
+fn even(alloc: Global, calls: &Arc<AtomicU64>) -> Result<StoredPred, AllocError> {
     let mut conditions = PredOps::new(alloc);
     conditions.push(PredOp::Even)?;
     let mine = conditions.try_clone()?;
@@ -55,7 +119,7 @@ pub fn even(alloc: Global, calls: &Arc<AtomicU64>) -> Result<StoredPred, AllocEr
 }
 
 /// The lift that leaves numbers as they are.
-pub fn itself(alloc: Global, calls: &Arc<AtomicU64>) -> Result<StoredLift, AllocError> {
+fn itself(alloc: Global, calls: &Arc<AtomicU64>) -> Result<StoredLift, AllocError> {
     let counter = Arc::try_clone(calls)?;
     let l = move |v: &Value| -> i64
         requires { IsSized (val_of v.now) }
@@ -67,51 +131,30 @@ pub fn itself(alloc: Global, calls: &Arc<AtomicU64>) -> Result<StoredLift, Alloc
     Ok(StoredLift::new(LiftOp::Itself, Box::new(alloc, l)?))
 }
 
-pub fn library_of_map(alloc: Global, name: &str, f: StoredMap) -> Result<Library, LibraryRefused>
-    ensures some { IfOk result (λ l. 0 < length (maps_of l)) }
-    ensures room { IfOk result (λ l. length (maps_of l) < 4294967295) }
-    ensures tests { IfOk result (λ l. predicates_of l ≡ []) }
+/// Puts two maps into a library of no functions, and tells whether both are there.
+fn add_maps(library: &mut Library, plain: StoredMap, counted: StoredMap) -> bool
+    requires none { maps_of library.old ≡ [] }
+    ensures both { IsTrue result → 1 < length (maps_of library.new) }
+    ensures predicates { predicates_of library.new ≡ predicates_of library.old }
+    ensures lifts { lifts_of library.new ≡ lifts_of library.old }
 {
+    library.add_map("plain", plain).is_ok() && library.add_map("counted", counted).is_ok()
+}
+
+/// The library of all tests: two maps of the same operation, `plain` and `counted`, a test `even` and a lift `itself`. The calls of all but the first are counted together.
+pub fn library_of(alloc: Global, op: MapOp, calls: &Arc<AtomicU64>) -> Result<Library, AllocError>
+    ensures { IfOk result (λ l. (1 < length (maps_of l)) × (0 < length (predicates_of l)) × (0 < length (lifts_of l))) }
+{
+    let plain = map_of(alloc, op, &no_calls(alloc)?)?;
+    let counted = map_of(alloc, op, calls)?;
+    let test = even(alloc, calls)?;
+    let lift = itself(alloc, calls)?;
     let mut library = Library::new(alloc);
-    library.add_map(name, f)?;
-    Ok(library)
-}
-
-/// Puts a second map into a library.
-fn add_second(library: &mut Library, f: StoredMap) -> Result<(), LibraryRefused>
-    requires some { 0 < length (maps_of library.old) }
-    requires room { length (maps_of library.old) < 4294967295 }
-    ensures first { OnOk result (0 < length (maps_of library.new)) }
-    ensures second { OnOk result (1 < length (maps_of library.new)) }
-{
-    library.add_map("second", f)
-}
-
-pub fn library_of_two(
-    alloc: Global,
-    first: StoredMap,
-    second: StoredMap,
-) -> Result<Library, LibraryRefused>
-    ensures first { IfOk result (λ l. 0 < length (maps_of l)) }
-    ensures second { IfOk result (λ l. 1 < length (maps_of l)) }
-{
-    let mut library = library_of_map(alloc, "first", first)?;
-    add_second(&mut library, second)?;
-    Ok(library)
-}
-
-pub fn library_of_test(alloc: Global, name: &str, p: StoredPred) -> Result<Library, LibraryRefused>
-    ensures { IfOk result (λ l. 0 < length (predicates_of l)) }
-{
-    let mut library = Library::new(alloc);
-    library.add_pred(name, p)?;
-    Ok(library)
-}
-
-pub fn library_of_lift(alloc: Global, name: &str, l: StoredLift) -> Result<Library, LibraryRefused>
-    ensures { IfOk result (λ l. 0 < length (lifts_of l)) }
-{
-    let mut library = Library::new(alloc);
-    library.add_lift(name, l)?;
-    Ok(library)
+    if add_maps(&mut library, plain, counted)
+        && library.add_pred("even", test).is_ok()
+        && library.add_lift("itself", lift).is_ok()
+    {
+        return Ok(library);
+    }
+    Err(AllocError)
 }

@@ -1,11 +1,5 @@
-//! Tests of whole runs, and of the plain sets and journals.
+//! Tests of what a run leaves behind, which the program drops.
 #![tactic(auto)]
 
 #[cfg(test)]
-mod journals;
-#[cfg(test)]
-mod run;
-#[cfg(test)]
-mod sets;
-#[cfg(test)]
-mod wrong;
+mod nodes;

@@ -74,7 +74,9 @@ fn is_answer(got: &Result<Vec<u8>, Fetch>, want: Result<&[u8], Fetch>) -> bool {
 }
 
 /// The limit and where the reader fails; the answer's bytes or error, the bytes taken and the faults.
-static READS: [(u64, usize, Result<&[u8], Fetch>, usize, u64); 10] = [
+type Reading<'a> = (u64, usize, Result<&'a [u8], Fetch>, usize, u64);
+
+static READS: [Reading; 10] = [
     (6, NEVER, Ok(b"abcde"), 5, 0),
     (5, NEVER, Ok(b"abcde"), 5, 0),
     (4, NEVER, Err(Fetch::TooLong), 5, 0),
@@ -87,45 +89,33 @@ static READS: [(u64, usize, Result<&[u8], Fetch>, usize, u64); 10] = [
     (2, 3, Err(Fetch::TooLong), 3, 0),
 ];
 
-/// Whether a read of five bytes goes so.
-fn reads(
-    alloc: Global,
-    limit: u64,
-    fails_at: usize,
-    want: Result<&[u8], Fetch>,
-    taken: usize,
-    counted: u64,
-) -> bool {
-    let mut reader = Drip {
-        bytes: b"abcde",
-        given: 0,
-        fails_at,
-    };
-    let mut faults = 0;
-    let answer = read_up_to(alloc, &mut reader, limit, &mut faults);
-    is_answer(&answer, want) && reader.given == taken && faults == counted
-}
-
-/// How many reads go as their rows say, up to the first that does not.
-fn reads_as_told(alloc: Global, rows: &[(u64, usize, Result<&[u8], Fetch>, usize, u64)]) -> usize {
-    let mut at = 0usize;
+/// The first read of five bytes that goes otherwise.
+fn first_read(alloc: Global, rows: &[Reading]) -> Option<u64> {
     for (limit, fails_at, want, taken, counted) in rows {
-        if !reads(alloc, *limit, *fails_at, *want, *taken, *counted) {
-            return at;
+        let mut faults = 0;
+        let mut reader = Drip {
+            bytes: b"abcde",
+            given: 0,
+            fails_at: *fails_at,
+        };
+        let answer = read_up_to(alloc, &mut reader, *limit, &mut faults);
+        if !is_answer(&answer, *want) || reader.given != *taken || faults != *counted {
+            return Some(*limit);
         }
-        at = at.saturating_add(1);
     }
-    at
+    None
 }
 
 #[test]
 fn a_file_is_read_byte_by_byte_up_to_the_limit(rt: HostRuntime) -> Result<(), Fail> {
-    assert_eq!(rt; reads_as_told(rt.alloc(), &READS), READS.len());
+    assert_eq!(rt; first_read(rt.alloc(), &READS), None);
     Ok(())
 }
 
 /// Where the writer fails and where it takes nothing; the answer, the bytes taken and the faults.
-static WRITES: [(usize, usize, Result<(), Failed>, &[u8], u64); 5] = [
+type Writing<'a> = (usize, usize, Result<(), Failed>, &'a [u8], u64);
+
+static WRITES: [Writing; 5] = [
     (NEVER, NEVER, Ok(()), b"abcde", 0),
     (0, NEVER, Err(Failed), b"", 1),
     (4, NEVER, Err(Failed), b"abcd", 1),
@@ -133,65 +123,44 @@ static WRITES: [(usize, usize, Result<(), Failed>, &[u8], u64); 5] = [
     (NEVER, 2, Err(Failed), b"ab", 1),
 ];
 
-fn writer(alloc: Global, fails_at: usize, stops_at: usize) -> Sip {
-    Sip {
-        taken: Vec::new(alloc),
-        fails_at,
-        stops_at,
-    }
-}
-
-/// Whether a write of five bytes goes so.
-fn writes(mut writer: Sip, want: Result<(), Failed>, taken: &[u8], counted: u64) -> bool {
-    let mut faults = 0;
-    let answer = write_whole(&mut writer, b"abcde", &mut faults);
-    answer == want && writer.taken.as_slice() == taken && faults == counted
-}
-
-/// How many writes do.
-fn writes_as_told(alloc: Global, rows: &[(usize, usize, Result<(), Failed>, &[u8], u64)]) -> usize {
-    let mut at = 0usize;
+/// The first write of five bytes that goes otherwise.
+fn first_written<'a>(alloc: Global, rows: &'a [Writing<'a>]) -> Option<&'a [u8]> {
     for (fails_at, stops_at, want, taken, counted) in rows {
-        if !writes(writer(alloc, *fails_at, *stops_at), *want, taken, *counted) {
-            return at;
+        let mut faults = 0;
+        let mut writer = Sip {
+            taken: Vec::new(alloc),
+            fails_at: *fails_at,
+            stops_at: *stops_at,
+        };
+        let answer = write_whole(&mut writer, b"abcde", &mut faults);
+        if answer != *want || writer.taken.as_slice() != *taken || faults != *counted {
+            return Some(taken);
         }
-        at = at.saturating_add(1);
     }
-    at
+    None
 }
 
 #[test]
 fn output_is_written_byte_by_byte_until_a_fault(rt: HostRuntime) -> Result<(), Fail> {
-    assert_eq!(rt; writes_as_told(rt.alloc(), &WRITES), WRITES.len());
-    Ok(())
-}
-
-#[test]
-fn a_count_of_faults_stands_still_at_its_last_value(rt: HostRuntime) -> Result<(), Fail> {
-    let mut faults = u64::MAX;
-    let mut reader = Drip {
-        bytes: b"a",
-        given: 0,
-        fails_at: 0,
-    };
-    assert!(rt; read_up_to(rt.alloc(), &mut reader, 4, &mut faults).is_err());
-    assert!(rt; faults == u64::MAX);
+    assert_eq!(rt; first_written(rt.alloc(), &WRITES), None);
     Ok(())
 }
 
 /// What is fetched up to a limit, and what is answered.
 type Fetching<'a> = (&'a str, u64, Result<&'a [u8], Fetch>);
 
-/// How many fetches, one after the other, are answered so, up to the first that is not.
-fn fetches_as_told<F: Files>(files: &mut F, alloc: Global, rows: &[Fetching]) -> usize {
-    let mut at = 0usize;
+/// The first of some fetches, one after the other, that is answered otherwise.
+fn first_fetched<'a, F: Files>(
+    files: &mut F,
+    alloc: Global,
+    rows: &[Fetching<'a>],
+) -> Option<&'a str> {
     for (name, limit, want) in rows {
         if !is_answer(&files.fetch(alloc, name, *limit), *want) {
-            return at;
+            return Some(name);
         }
-        at = at.saturating_add(1);
     }
-    at
+    None
 }
 
 /// Fetches one after the other of files in memory, of which the second and the last but one are set to fail.
@@ -205,31 +174,16 @@ static FETCHES: [Fetching; 7] = [
     ("g", 9, Ok(b"graph")),
 ];
 
-/// Files, of which the later of one name stands in the place of the earlier.
-static FILES: [(&str, &[u8]); 3] = [("g", b"old"), ("g", b"graph"), ("s", b"")];
-
-fn files_in_memory(
-    alloc: Global,
-    told: &[(&str, &[u8])],
-    failing: &[u64],
-) -> Result<MemFiles, AllocError> {
-    let mut files = MemFiles::new(alloc);
-    for (name, bytes) in told {
-        files.put_file(alloc, name, bytes)?;
-    }
-    for call in failing {
-        files.fail_at(*call)?;
-    }
-    Ok(files)
-}
-
 #[test]
 fn reads_in_memory_fail_where_they_are_set_to(rt: HostRuntime) -> Result<(), Fail> {
-    let told = {
-        let mut files = files_in_memory(rt.alloc(), &FILES, &[1, 5])?;
-        fetches_as_told(&mut files, rt.alloc(), &FETCHES)
-    };
-    assert_eq!(rt; told, FETCHES.len());
+    let alloc = rt.alloc();
+    let mut files = MemFiles::new(alloc);
+    files.put_file(alloc, "g", b"old")?;
+    files.put_file(alloc, "g", b"graph")?;
+    files.put_file(alloc, "s", b"")?;
+    files.fail_at(1)?;
+    files.fail_at(5)?;
+    assert_eq!(rt; first_fetched(&mut files, alloc, &FETCHES), None);
     Ok(())
 }
 
@@ -253,45 +207,25 @@ static PUTS: [Putting; 7] = [
     (4, 1, 2, Ok(()), Err(Failed), b"abcd"),
 ];
 
-fn sink_in_memory(alloc: Global, room: u64, call: u64, after: u64) -> Result<MemSink, AllocError> {
-    let mut sink = MemSink::new(alloc, room)?;
-    sink.fail_at(call, 7)?;
-    sink.fail_at(call, after)?;
-    Ok(sink)
-}
-
-/// Whether two writes of three bytes go so.
-fn puts(
-    mut sink: MemSink,
-    first: Result<(), Failed>,
-    second: Result<(), Failed>,
-    want: &[u8],
-) -> bool {
-    sink.put(b"abc") == first && sink.put(b"def") == second && sink.bytes() == want
-}
-
-/// How many rows of two writes go so, up to the first that does not.
-fn puts_as_told(alloc: Global, rows: &[Putting]) -> Result<usize, AllocError> {
-    let mut at = 0usize;
+/// The first row of two writes of three bytes that go otherwise, of which a call that is set twice is set to the later number of bytes.
+fn first_put<'a>(alloc: Global, rows: &'a [Putting<'a>]) -> Result<Option<&'a [u8]>, AllocError> {
     for (room, call, after, first, second, want) in rows {
-        if !puts(
-            sink_in_memory(alloc, *room, *call, *after)?,
-            *first,
-            *second,
-            want,
-        ) {
-            return Ok(at);
+        let mut sink = MemSink::new(alloc, *room)?;
+        sink.fail_at(*call, 7)?;
+        sink.fail_at(*call, *after)?;
+        let answers = (sink.put(b"abc"), sink.put(b"def"));
+        if answers != (*first, *second) || sink.bytes() != *want {
+            return Ok(Some(want));
         }
-        at = at.saturating_add(1);
     }
-    Ok(at)
+    Ok(None)
 }
 
 #[test]
 fn writes_in_memory_fail_where_they_are_set_to_or_the_room_ends(
     rt: HostRuntime,
 ) -> Result<(), Fail> {
-    assert_eq!(rt; puts_as_told(rt.alloc(), &PUTS)?, PUTS.len());
+    assert_eq!(rt; first_put(rt.alloc(), &PUTS)?, None);
     Ok(())
 }
 
@@ -304,59 +238,32 @@ static SURE_FETCHES: [Fetching; 3] = [
 
 #[test]
 fn sure_files_and_sinks_never_fail(rt: HostRuntime) -> Result<(), Fail> {
-    let told = {
-        let mut files = SureFiles::new(rt.alloc());
-        files.put_file(rt.alloc(), "g", b"graph")?;
-        fetches_as_told(&mut files, rt.alloc(), &SURE_FETCHES)
-    };
-    assert_eq!(rt; told, SURE_FETCHES.len());
+    let mut files = SureFiles::new(rt.alloc());
+    files.put_file(rt.alloc(), "g", b"graph")?;
+    assert_eq!(rt; first_fetched(&mut files, rt.alloc(), &SURE_FETCHES), None);
     assert!(rt; SureSink.put(b"abc").is_ok());
     Ok(())
 }
 
-/// Fetches of a real file of this name with these bytes, up to its length and to one byte less.
-fn fetched<R: rt::Files>(
-    handle: &R,
-    alloc: Global,
-    name: &str,
-    bytes: &[u8],
-) -> Result<usize, io::Error> {
-    fs::write(handle, name, bytes)?;
-    let most = bytes.len() as u64;
-    let there = [
-        (name, most, Ok(bytes)),
-        (name, most.saturating_sub(1), Err(Fetch::TooLong)),
-    ];
-    Ok(fetches_as_told(&mut DirFiles::new(handle), alloc, &there))
-}
-
-/// The same of the name once the file is removed.
-fn fetched_after<R: rt::Files>(handle: &R, alloc: Global, name: &str) -> Result<usize, io::Error> {
-    fs::remove_file(handle, name)?;
-    let gone = [(name, 20000, Err(Fetch::Failed))];
-    Ok(fetches_as_told(&mut DirFiles::new(handle), alloc, &gone))
-}
-
-/// The fetches of a real file while it is there and once it is gone.
-fn fetched_both<R: rt::Files>(
-    handle: &R,
-    alloc: Global,
-    name: &str,
-) -> Result<(usize, usize), Fail> {
+/// Whether a real file of this name is fetched up to its length, not up to a byte less, and not once it is gone.
+fn is_fetched<R: rt::Files>(handle: &R, alloc: Global, name: &str) -> Result<bool, Fail> {
     let long = vec![in alloc; b'x'; 20000]?;
-    let there = fetched(handle, alloc, name, long.as_slice())?;
-    Ok((there, fetched_after(handle, alloc, name)?))
+    let bytes = long.as_slice();
+    let there = [(name, 20000, Ok(bytes)), (name, 19999, Err(Fetch::TooLong))];
+    fs::write(handle, name, bytes)?;
+    let other = first_fetched(&mut DirFiles::new(handle), alloc, &there);
+    fs::remove_file(handle, name)?;
+    let gone = DirFiles::new(handle).fetch(alloc, name, 20000);
+    Ok(other == None && is_answer(&gone, Err(Fetch::Failed)))
 }
 
 #[test]
 fn real_files_are_read_up_to_the_limit(rt: HostRuntime) -> Result<(), Fail> {
     let alloc = rt.alloc();
-    let told = {
-        let file = format!(in alloc; "lasp_edge_{}.txt", process::id(rt.process()))?;
-        let path = env::temp_dir(&rt)?.join(alloc, file.as_str())?;
-        fetched_both(&rt, alloc, path.to_str().ok_or("the path is no text")?)?
-    };
-    assert!(rt; told == (2, 1));
+    let file = format!(in alloc; "lasp_edge_{}.txt", process::id(rt.process()))?;
+    let path = env::temp_dir(&rt)?.join(alloc, file.as_str())?;
+    let is_read = is_fetched(&rt, alloc, path.to_str().ok_or("the path is no text")?)?;
+    assert!(rt; is_read);
     Ok(())
 }
 
@@ -364,21 +271,24 @@ fn real_files_are_read_up_to_the_limit(rt: HostRuntime) -> Result<(), Fail> {
 fn real_output_is_written_whole(rt: HostRuntime) -> Result<(), Fail> {
     let mut out = StdSink::new(io::writer(&rt));
     assert!(rt; out.put(b"written\n") == Ok(()));
-    let mut broken = StdSink::new(writer(rt.alloc(), 1, NEVER));
+    let mut broken = StdSink::new(Sip {
+        taken: Vec::new(rt.alloc()),
+        fails_at: 1,
+        stops_at: NEVER,
+    });
     assert!(rt; broken.put(b"ab") == Err(Failed));
     Ok(())
 }
 
-fn is_said(alloc: Global, error: Fetch, want: &str) -> Result<bool, AllocError> {
-    Ok(format!(in alloc; "{error}")?.as_str() == want)
-}
+const ERRORS: &str = "the file can't be read
+the file is too long
+out of memory
+the output can't be written";
 
 #[test]
 fn errors_say_what_went_wrong(rt: HostRuntime) -> Result<(), Fail> {
-    let alloc = rt.alloc();
-    assert!(rt; is_said(alloc, Fetch::Failed, "the file can't be read")?);
-    assert!(rt; is_said(alloc, Fetch::TooLong, "the file is too long")?);
-    assert!(rt; is_said(alloc, Fetch::Memory, "out of memory")?);
-    assert!(rt; format!(in alloc; "{}", Failed)?.as_str() == "the output can't be written");
+    let [failed, long, memory] = [Fetch::Failed, Fetch::TooLong, Fetch::Memory];
+    let said = format!(in rt.alloc(); "{failed}\n{long}\n{memory}\n{}", Failed)?;
+    assert!(rt; said.as_str() == ERRORS);
     Ok(())
 }

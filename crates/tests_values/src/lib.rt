@@ -8,10 +8,6 @@ mod edge;
 #[cfg(test)]
 mod histlock;
 #[cfg(test)]
-mod json;
-#[cfg(test)]
-mod lattice;
-#[cfg(test)]
 mod orset;
 #[cfg(test)]
 mod value;

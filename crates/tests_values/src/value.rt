@@ -1,127 +1,164 @@
-//! What no contract says: how values look in print, against text written by hand, and which names are accepted.
-
-ghost use Rattle.std.specs.Prelude.{IfOk};
-ghost use Rattle.model_values.specs.Size.{IsOfWidth};
-ghost use Rattle.lasp_value.specs.Value.{val_of};
+//! Which texts of JSON stand for values, how values are printed and where they stand, and what a name is: against what was written by hand.
 
 use lasp_value::*;
+use serde_json::Value as Json;
 use std::alloc::{AllocError, Global};
 use std::test::Fail;
 
-/// A number or a text as plain data.
-#[derive(Clone, Copy)]
-enum Leaf<'a> {
-    Number(i64),
-    Word(&'a str),
-}
-
-/// A value as plain data.
-#[derive(Clone, Copy)]
-enum Plain<'a> {
-    One(Leaf<'a>),
-    Two(Leaf<'a>, Leaf<'a>),
-    /// A pair of the pair of the first two and the last.
-    Three(Leaf<'a>, Leaf<'a>, Leaf<'a>),
-}
-
-/// The most bytes of a text here.
-const MOST_BYTES: usize = 256;
-
-fn text(alloc: Global, s: &str) -> Result<Value, AllocError>
-    ensures { IfOk result (λ v. IsOfWidth 1 (val_of v)) }
-{
-    if s.len() > MOST_BYTES {
-        return Err(AllocError);
+/// How the value of a text is printed, or why there is none.
+fn spelled(alloc: Global, json: &str) -> Result<String, Fail> {
+    let mut out = String::new(alloc);
+    let tree = Json::from_str(alloc, json)?;
+    match value_of_json(alloc, &tree) {
+        Ok(value) => print_into(&mut out, &value)?,
+        Err(ValueRefused::Memory) => return Err(Fail::from(AllocError)),
+        Err(refused) => write!(out, "{refused:?}")?,
     }
-    Ok(Value::Text(Text::of(alloc, s)?))
+    Ok(out)
 }
 
-fn leaf_of(alloc: Global, leaf: &Leaf) -> Result<Value, AllocError>
-    ensures { IfOk result (λ v. IsOfWidth 1 (val_of v)) }
-{
-    match leaf {
-        Leaf::Number(n) => Ok(Value::Int(*n)),
-        Leaf::Word(s) => text(alloc, s),
+/// The first text that is spelled otherwise.
+fn first_other<'a>(alloc: Global, rows: &'a [(&'a str, &'a str)]) -> Result<Option<&'a str>, Fail> {
+    for (json, expected) in rows {
+        if spelled(alloc, json)?.as_str() != *expected {
+            return Ok(Some(json));
+        }
     }
+    Ok(None)
 }
 
-fn pair(alloc: Global, first: &Leaf, second: &Leaf) -> Result<Value, AllocError>
-    ensures { IfOk result (λ v. IsOfWidth 2 (val_of v)) }
-{
-    let first = Box::new(alloc, leaf_of(alloc, first)?)?;
-    Ok(Value::Pair(first, Box::new(alloc, leaf_of(alloc, second)?)?))
-}
+const EIGHT: &str = "[[[1,2],[3,4]],[[5,6],[7,\"x\"]]]";
 
-fn nested(alloc: Global, inner: Value, last: &Leaf) -> Result<Value, AllocError>
-    requires { IsOfWidth 2 (val_of inner) }
-    ensures { IfOk result (λ v. IsOfWidth 3 (val_of v)) }
-{
-    let inner = Box::new(alloc, inner)?;
-    Ok(Value::Pair(inner, Box::new(alloc, leaf_of(alloc, last)?)?))
-}
+const NINE: &str = "[[[1,2],[3,4]],[[5,6],[7,[8,9]]]]";
 
-fn value_of(alloc: Global, plain: &Plain) -> Result<Value, AllocError>
-    ensures { IfOk result (λ v. IsOfWidth 3 (val_of v)) }
-{
-    match plain {
-        Plain::One(leaf) => leaf_of(alloc, leaf),
-        Plain::Two(first, second) => pair(alloc, first, second),
-        Plain::Three(first, second, last) => nested(alloc, pair(alloc, first, second)?, last),
-    }
-}
+/// Four texts of 64 bytes, and what makes one byte more of them.
+const LARGEST: &str =
+    r#"[["abcdefghijklmnopqrstuvwxyz0123456789abcdefghijklmnopqrstuvwxyz01","abcdefghijklmnopqrstuvwxyz0123456789abcdefghijklmnopqrstuvwxyz01"],["abcdefghijklmnopqrstuvwxyz0123456789abcdefghijklmnopqrstuvwxyz01","abcdefghijklmnopqrstuvwxyz0123456789abcdefghijklmnopqrstuvwxyz01"]]"#;
 
-fn is_printed(alloc: Global, value: &Value, expected: &str) -> Result<bool, AllocError> {
-    Ok(print_value(alloc, value)?.as_str() == expected)
-}
+const TOO_LARGE: &str =
+    r#"[["abcdefghijklmnopqrstuvwxyz0123456789abcdefghijklmnopqrstuvwxyz01","abcdefghijklmnopqrstuvwxyz0123456789abcdefghijklmnopqrstuvwxyz01"],["abcdefghijklmnopqrstuvwxyz0123456789abcdefghijklmnopqrstuvwxyz01","abcdefghijklmnopqrstuvwxyz0123456789abcdefghijklmnopqrstuvwxyz012"]]"#;
 
-/// Values, and how each is printed.
-static VALUES: [(Plain, &str); 10] = [
-    (Plain::One(Leaf::Word("")), "\"\""),
-    (Plain::One(Leaf::Word("a\"b\\c/")), "\"a\\\"b\\\\c/\""),
+/// Texts of values with how each value is printed, and texts of none with the reason, which is that of the first part that is no value.
+static TEXTS: [(&str, &str); 38] = [
+    ("0", "0"),
+    (" -9223372036854775808 ", "-9223372036854775808"),
+    ("9223372036854775807", "9223372036854775807"),
+    (r#""""#, r#""""#),
+    (r#""\u0041\/é€""#, r#""A/é€""#),
+    (r#""a\"b\\c/""#, r#""a\"b\\c/""#),
+    (r#""\u0008\u0009\u000A\u000C\u000D""#, r#""\b\t\n\f\r""#),
     (
-        Plain::One(Leaf::Word("\u{8}\t\n\u{c}\r")),
-        "\"\\b\\t\\n\\f\\r\"",
+        r#""\u0000\u0001\u0002\u0003\u0004\u0005\u0006\u0007""#,
+        r#""\u0000\u0001\u0002\u0003\u0004\u0005\u0006\u0007""#,
     ),
     (
-        Plain::One(Leaf::Word("\u{0}\u{1}\u{2}\u{3}\u{4}\u{5}\u{6}\u{7}")),
-        "\"\\u0000\\u0001\\u0002\\u0003\\u0004\\u0005\\u0006\\u0007\"",
+        r#""\u000B\u000E\u000F\u0010\u0011\u0012\u0013\u0014""#,
+        r#""\u000b\u000e\u000f\u0010\u0011\u0012\u0013\u0014""#,
     ),
     (
-        Plain::One(Leaf::Word("\u{b}\u{e}\u{f}\u{10}\u{11}\u{12}\u{13}\u{14}")),
-        "\"\\u000b\\u000e\\u000f\\u0010\\u0011\\u0012\\u0013\\u0014\"",
+        r#""\u0015\u0016\u0017\u0018\u0019\u001A""#,
+        r#""\u0015\u0016\u0017\u0018\u0019\u001a""#,
     ),
     (
-        Plain::One(Leaf::Word("\u{15}\u{16}\u{17}\u{18}\u{19}\u{1a}")),
-        "\"\\u0015\\u0016\\u0017\\u0018\\u0019\\u001a\"",
+        r#""\u001B\u001C\u001D\u001E\u001F\u0020\u0021\u007F\u0080""#,
+        "\"\\u001b\\u001c\\u001d\\u001e\\u001f !\u{7f}\u{80}\"",
     ),
-    (
-        Plain::One(Leaf::Word("\u{1b}\u{1c}\u{1d}\u{1e}\u{1f} !\u{7f}\u{80}é€")),
-        "\"\\u001b\\u001c\\u001d\\u001e\\u001f !\u{7f}\u{80}é€\"",
-    ),
-    (Plain::One(Leaf::Number(0)), "0"),
-    (Plain::One(Leaf::Number(i64::MIN)), "-9223372036854775808"),
-    (Plain::Two(Leaf::Number(-3), Leaf::Word("x")), "[-3,\"x\"]"),
+    (r#"[-3, "x"]"#, r#"[-3,"x"]"#),
+    (r#"[[1,2],["a",[3,4]]]"#, r#"[[1,2],["a",[3,4]]]"#),
+    (EIGHT, EIGHT),
+    (LARGEST, LARGEST),
+    (TOO_LARGE, "TooBig"),
+    (NINE, "TooBig"),
+    ("null", "NotAValue"),
+    ("true", "NotAValue"),
+    ("{}", "NotAValue"),
+    ("[]", "NotAValue"),
+    ("[1]", "NotAValue"),
+    ("[1,2,3]", "NotAValue"),
+    ("[1,[2]]", "NotAValue"),
+    ("1.5", "NumberRefused"),
+    ("1.0", "NumberRefused"),
+    ("1e3", "NumberRefused"),
+    ("-0", "NumberRefused"),
+    ("9223372036854775808", "NumberRefused"),
+    ("-9223372036854775809", "NumberRefused"),
+    ("[1.5,null]", "NumberRefused"),
+    ("[null,1.5]", "NotAValue"),
+    ("[[1,1.5],[]]", "NumberRefused"),
+    ("[1.5,1,1]", "NotAValue"),
+    ("[[[1,2],[3,4]],[[5,6],[7,[8,null]]]]", "NotAValue"),
+    ("[[[[1,2],[3,4]],[[5,6],[7,[8,9]]]],1.5]", "NumberRefused"),
+    (r#"["a",1.5]"#, "NumberRefused"),
+    (r#"[{},"a"]"#, "NotAValue"),
 ];
 
-fn prints(alloc: Global, plain: &Plain, expected: &str) -> Result<bool, AllocError> {
-    is_printed(alloc, &value_of(alloc, plain)?, expected)
+#[test]
+fn a_number_a_text_and_an_array_of_two_are_values(rt: HostRuntime) -> Result<(), Fail> {
+    assert_eq!(rt; first_other(rt.alloc(), &TEXTS)?, None);
+    Ok(())
 }
 
-/// How many rows tell how their value is printed, up to the first that does not.
-fn printed_as_told(alloc: Global, rows: &[(Plain, &str)]) -> Result<usize, AllocError> {
-    let mut at = 0usize;
-    for (plain, expected) in rows {
-        if !prints(alloc, plain, expected)? {
-            return Ok(at);
-        }
-        at = at.saturating_add(1);
+fn read(alloc: Global, json: &str) -> Result<Value, Fail> {
+    let tree = Json::from_str(alloc, json)?;
+    match value_of_json(alloc, &tree) {
+        Ok(value) => Ok(value),
+        Err(_) => Err("a text stands for no value".into()),
     }
-    Ok(at)
+}
+
+/// Whether a value stands before another, which is equal to its clone.
+fn stands_before(alloc: Global, first: &str, second: &str) -> Result<bool, Fail> {
+    let value = read(alloc, second)?;
+    Ok(read(alloc, first)? < value && value == value.try_clone(alloc)?)
+}
+
+/// The first text whose value stands not behind the one before.
+fn first_behind<'a>(alloc: Global, texts: &'a [&'a str]) -> Result<Option<&'a str>, Fail> {
+    let mut last = "-9223372036854775808";
+    for text in texts {
+        if !stands_before(alloc, last, text)? {
+            return Ok(Some(text));
+        }
+        last = text;
+    }
+    Ok(None)
+}
+
+static ASCENDING: [&str; 9] = [
+    "-1",
+    "7",
+    r#""""#,
+    r#""a""#,
+    r#""é""#,
+    "[-1,5]",
+    r#"[-1,"b"]"#,
+    r#"["a",0]"#,
+    "[[0,0],0]",
+];
+
+#[test]
+fn numbers_stand_before_texts_and_texts_before_pairs(rt: HostRuntime) -> Result<(), Fail> {
+    assert_eq!(rt; first_behind(rt.alloc(), &ASCENDING)?, None);
+    Ok(())
 }
 
 #[test]
-fn a_value_prints_as_compact_json(rt: HostRuntime) -> Result<(), Fail> {
-    assert_eq!(rt; printed_as_told(rt.alloc(), &VALUES)?, VALUES.len());
+fn a_list_keeps_values_as_large_as_their_parts_together(rt: HostRuntime) -> Result<(), Fail> {
+    let mut values = Values::new(rt.alloc());
+    values.push(Value::Int(7))?;
+    values.push(Value::Text(Text::of(rt.alloc(), "né")?))?;
+    assert!(rt; values.len() == 2 && *values.at(0) == Value::Int(7));
+    assert!(rt; values.at(1).leaves() == 1 && values.at(1).text_bytes() == 3);
+    assert!(rt; print_value(rt.alloc(), values.at(1))?.as_str() == "\"né\"");
+    Ok(())
+}
+
+#[test]
+fn a_pair_of_tokens_stands_behind_each_base_token(rt: HostRuntime) -> Result<(), Fail> {
+    let first = Box::new(rt.alloc(), Token::Base(0, 1))?;
+    let pair = Token::Both(first, Box::new(rt.alloc(), Token::Base(0, 2))?);
+    assert!(rt; pair.width() == 2 && pair == pair.try_clone(rt.alloc())?);
+    assert!(rt; Token::Base(7, 100_000) < pair && Token::Base(0, 9) < Token::Base(1, 1));
     Ok(())
 }
 
@@ -139,109 +176,23 @@ static NAMES: [(&str, bool); 10] = [
     ("aé", false),
 ];
 
-fn are_told_apart(alloc: Global, cases: &[(&str, bool)]) -> Result<bool, AllocError> {
-    for (s, is_name) in cases {
-        if Name::of(alloc, s)?.is_some() != *is_name {
-            return Ok(false);
+/// The first text that is taken for a name where it is none, or the other way round.
+fn first_misnamed<'a>(
+    alloc: Global,
+    texts: &'a [(&'a str, bool)],
+) -> Result<Option<&'a str>, Fail> {
+    for (text, is_name) in texts {
+        if Name::of(alloc, text)?.is_some() != *is_name {
+            return Ok(Some(text));
         }
     }
-    Ok(true)
+    Ok(None)
 }
 
 #[test]
 fn a_name_is_a_small_letter_and_then_letters_digits_and_underscores(
     rt: HostRuntime,
 ) -> Result<(), Fail> {
-    assert!(rt; are_told_apart(rt.alloc(), &NAMES)?);
-    Ok(())
-}
-
-/// Values of which the second is above the first.
-static RISING: [(Plain, Plain); 3] = [
-    (Plain::One(Leaf::Number(7)), Plain::One(Leaf::Word(""))),
-    (Plain::One(Leaf::Word("a")), Plain::One(Leaf::Word("b"))),
-    (Plain::One(Leaf::Word("b")), PAIR),
-];
-
-const PAIR: Plain = Plain::Two(Leaf::Number(-1), Leaf::Number(5));
-
-fn is_below(alloc: Global, first: &Plain, second: &Plain) -> Result<bool, AllocError> {
-    Ok(value_of(alloc, first)? < value_of(alloc, second)?)
-}
-
-fn are_rising(alloc: Global, rows: &[(Plain, Plain)]) -> Result<bool, AllocError> {
-    for (first, second) in rows {
-        if !is_below(alloc, first, second)? {
-            return Ok(false);
-        }
-    }
-    Ok(true)
-}
-
-fn is_its_clone(alloc: Global, plain: &Plain) -> Result<bool, AllocError> {
-    let value = value_of(alloc, plain)?;
-    Ok(value == value.try_clone(alloc)?)
-}
-
-#[test]
-fn numbers_stand_before_texts_and_texts_before_pairs(rt: HostRuntime) -> Result<(), Fail> {
-    assert!(rt; are_rising(rt.alloc(), &RISING)?);
-    assert!(rt; is_its_clone(rt.alloc(), &PAIR)?);
-    Ok(())
-}
-
-/// Whether a value is of so many numbers and texts, with so many bytes.
-fn measures(alloc: Global, plain: &Plain, leaves: u64, bytes: u64) -> Result<bool, AllocError> {
-    let value = value_of(alloc, plain)?;
-    Ok(value.leaves() == leaves && value.text_bytes() == bytes)
-}
-
-const NESTED: Plain = Plain::Three(Leaf::Number(-7), Leaf::Word("né"), Leaf::Number(0));
-
-#[test]
-fn a_value_is_as_large_as_its_parts_together(rt: HostRuntime) -> Result<(), Fail> {
-    assert!(rt; measures(rt.alloc(), &Plain::One(Leaf::Word("né")), 1, 3)?);
-    assert!(rt; measures(rt.alloc(), &NESTED, 3, 3)?);
-    Ok(())
-}
-
-const CLONED: Plain = Plain::Two(Leaf::Word("a"), Leaf::Number(i64::MAX));
-
-#[test]
-fn a_clone_of_a_value_prints_the_same(rt: HostRuntime) -> Result<(), Fail> {
-    let clone = value_of(rt.alloc(), &CLONED)?.try_clone(rt.alloc())?;
-    assert!(rt; is_printed(rt.alloc(), &clone, "[\"a\",9223372036854775807]")?);
-    Ok(())
-}
-
-#[test]
-fn a_token_is_as_wide_as_its_base_tokens_are_many(rt: HostRuntime) -> Result<(), Fail> {
-    let alloc = rt.alloc();
-    let base = Token::Base(3, 7);
-    assert!(rt; base.width() == 1);
-    let two = Token::Both(Box::new(alloc, base)?, Box::new(alloc, Token::Base(0, 1))?);
-    let three = Token::Both(Box::new(alloc, Token::Base(1, 1))?, Box::new(alloc, two)?);
-    assert!(rt; three.width() == 3);
-    Ok(())
-}
-
-#[test]
-fn a_pair_of_tokens_stands_behind_each_base_token(rt: HostRuntime) -> Result<(), Fail> {
-    let pair = Token::Both(
-        Box::new(rt.alloc(), Token::Base(0, 1))?,
-        Box::new(rt.alloc(), Token::Base(0, 2))?,
-    );
-    assert!(rt; Token::Base(7, 100_000) < pair);
-    assert!(rt; Token::Base(0, 9) < Token::Base(1, 1));
-    assert!(rt; pair == pair.try_clone(rt.alloc())?);
-    Ok(())
-}
-
-#[test]
-fn a_list_of_values_keeps_their_order(rt: HostRuntime) -> Result<(), Fail> {
-    let mut values = Values::new(rt.alloc());
-    values.push(Value::Int(7))?;
-    values.push(Value::Int(3))?;
-    assert!(rt; values.len() == 2 && *values.at(1) == Value::Int(3));
+    assert_eq!(rt; first_misnamed(rt.alloc(), &NAMES)?, None);
     Ok(())
 }

@@ -7,81 +7,46 @@ use lasp_histlock::{Held, HistLock, Pass};
 use std::alloc::{AllocError, Global};
 use std::test::Fail;
 
-/// A lock of a new list of notes, and its first pass.
-fn opened(alloc: Global) -> Result<(HistLock<Notes>, Pass<Notes>), AllocError>
-    ensures lock { IfOk result (λ made. made.1.lock ≡ made.0) }
-    ensures first { IfOk result (λ made. (made.1.number ≡ 0) × (made.1.made ≡ 1) × (made.1.turn ≡ false)) }
-{
-    HistLock::new(alloc, Notes::about(alloc, 7))
-}
-
-/// The same with a second pass.
-fn opened_twice(alloc: Global) -> Result<(HistLock<Notes>, Pass<Notes>, Pass<Notes>), AllocError>
+/// A lock of a new list of notes, and its first two passes.
+fn opened(alloc: Global) -> Result<(HistLock<Notes>, Pass<Notes>, Pass<Notes>), AllocError>
     ensures locks { IfOk result (λ made. (made.1.lock ≡ made.0) × (made.2.lock ≡ made.0)) }
     ensures first { IfOk result (λ made. (made.1.number ≡ 0) × (made.1.turn ≡ false)) }
     ensures second { IfOk result (λ made. made.2.turn ≡ false) }
 {
-    let (lock, mut first) = opened(alloc)?;
+    let (lock, mut first) = HistLock::new(alloc, Notes::about(alloc, 7))?;
     let second = lock.split(&mut first)?;
     Ok((lock, first, second))
 }
 
-fn has_one_note(notes: &Notes) -> bool {
+/// Whether a lock closes on one note of the second pass.
+fn closes_on_one_note(lock: HistLock<Notes>, first: Pass<Notes>) -> bool
+    requires { (first.lock ≡ lock) × (first.number ≡ 0) }
+{
+    let Some(notes) = lock.close(first) else {
+        return false;
+    };
     match notes.entries.as_slice() {
-        [note] => notes.topic == 7 && note.by == 0 && note.text == 5,
+        [note] => notes.topic == 7 && note.by == 1 && note.text == 5,
         _ => false,
     }
 }
 
-/// Whether a lock closes on the one note.
-fn closes_on_one_note(lock: HistLock<Notes>, first: Pass<Notes>) -> bool
-    requires { (first.lock ≡ lock) × (first.number ≡ 0) }
-{
-    match lock.close(first) {
-        Some(value) => has_one_note(&value),
-        None => false,
-    }
-}
-
 #[test]
-fn a_given_entry_is_counted(rt: HostRuntime) -> Result<(), Fail> {
+fn a_second_pass_misses_while_the_first_has_the_turn_and_writes_after(
+    rt: HostRuntime,
+) -> Result<(), Fail> {
     let told = {
-        let (lock, mut first) = opened(rt.alloc())?;
-        let before = lock.length(&mut first);
-        let is_written = write(&rt, &lock, &mut first, 5).is_ok();
-        first.known();
-        let after = lock.length(&mut first);
-        (before, is_written, after, closes_on_one_note(lock, first))
-    };
-    assert!(rt; told == (0, true, 1, true));
-    Ok(())
-}
-
-#[test]
-fn a_second_pass_misses_while_the_first_has_the_turn(rt: HostRuntime) -> Result<(), Fail> {
-    let told = {
-        let (lock, mut first, mut second) = opened_twice(rt.alloc())?;
+        let (lock, mut first, mut second) = opened(rt.alloc())?;
         let held = lock.take(&rt, &mut first);
         let missed = misses(&lock, &mut second);
-        let length = lock.length(&mut second);
         lock.give(&mut first, held);
-        (missed, length, misses(&lock, &mut second))
-    };
-    assert!(rt; told == (true, 0, false));
-    Ok(())
-}
-
-#[test]
-fn a_lock_whose_passes_came_back_closes(rt: HostRuntime) -> Result<(), Fail> {
-    let told = {
-        let (lock, mut first, mut second) = opened_twice(rt.alloc())?;
-        let numbers = (second.number(), first.made());
-        let is_written = write(&rt, &lock, &mut first, 5).is_ok();
-        let length = lock.length(&mut second);
+        let is_written = !misses(&lock, &mut second) && write(&rt, &lock, &mut second, 5).is_ok();
+        let counts = (second.number(), first.made(), lock.length(&mut first));
+        first.known();
         lock.rejoin(&mut first, second);
-        (numbers, is_written, length, closes_on_one_note(lock, first))
+        (missed, is_written, counts, closes_on_one_note(lock, first))
     };
-    assert!(rt; told == ((1, 2), true, 1, true));
+    assert!(rt; told == (true, true, (1, 2, 1), true));
     Ok(())
 }
 
@@ -93,18 +58,9 @@ fn stays_open(lock: HistLock<Notes>, first: Pass<Notes>, value: Notes) -> bool
 }
 
 #[test]
-fn a_lock_whose_value_is_out_does_not_close(rt: HostRuntime) -> Result<(), Fail> {
-    let (lock, mut first) = opened(rt.alloc())?;
-    let Held { value, taken: _ } = lock.take(&rt, &mut first);
-    let is_open = stays_open(lock, first, value);
-    assert!(rt; is_open);
-    Ok(())
-}
-
-#[test]
 fn a_lock_does_not_close_while_another_pass_has_the_turn(rt: HostRuntime) -> Result<(), Fail> {
     let is_open = {
-        let (lock, first, mut second) = opened_twice(rt.alloc())?;
+        let (lock, first, mut second) = opened(rt.alloc())?;
         let Held { value, taken: _ } = lock.take(&rt, &mut second);
         stays_open(lock, first, value)
     };
@@ -115,7 +71,7 @@ fn a_lock_does_not_close_while_another_pass_has_the_turn(rt: HostRuntime) -> Res
 #[test]
 fn a_lock_closes_beside_a_pass_without_a_turn(rt: HostRuntime) -> Result<(), Fail> {
     let told = {
-        let (lock, first, second) = opened_twice(rt.alloc())?;
+        let (lock, first, second) = opened(rt.alloc())?;
         (lock.close(first).is_some(), second.number())
     };
     assert!(rt; told == (true, 1));
@@ -125,7 +81,7 @@ fn a_lock_closes_beside_a_pass_without_a_turn(rt: HostRuntime) -> Result<(), Fai
 #[test]
 fn a_pass_that_comes_back_in_its_turn_shuts_the_lock_for_good(rt: HostRuntime) -> Result<(), Fail> {
     let told = {
-        let (lock, mut first, mut second) = opened_twice(rt.alloc())?;
+        let (lock, mut first, mut second) = opened(rt.alloc())?;
         let Held { value, taken: _ } = lock.take(&rt, &mut second);
         lock.rejoin(&mut first, second);
         let missed = misses(&lock, &mut first);

@@ -1,5 +1,5 @@
 //! What one caller does with the lock.
-ghost use Rattle.std.specs.Prelude.{◌≡◌, ◌+◌, false, true, All, IfOk, IfSome};
+ghost use Rattle.std.specs.Prelude.{◌≡◌, false, All, IfOk, IfSome};
 
 use super::notes::{Note, Notes};
 use lasp_histlock::{Held, HistLock, Pass};
@@ -25,11 +25,10 @@ pub fn write<R: Wait>(
     done
 }
 
-// Tries to take the value while another pass has it: the pass's misses rise by one.
+// Whether the pass doesn't get the value, which it gives back where it does.
 pub fn misses(lock: &HistLock<Notes>, p: &mut Pass<Notes>) -> bool
     requires { (p.old.lock ≡ lock.now) × (p.old.turn ≡ false) }
-    ensures missed { result ≡ true → p.new ≡ record p.old { misses = p.old.misses + 1 } }
-    ensures pass { (p.new.lock ≡ p.old.lock) × (p.new.number ≡ p.old.number) × (p.new.turn ≡ false) }
+    ensures { (p.new.lock ≡ p.old.lock) × (p.new.number ≡ p.old.number) × (p.new.turn ≡ false) }
 {
     match lock.try_take(p) {
         Some(held) => {
@@ -38,23 +37,6 @@ pub fn misses(lock: &HistLock<Notes>, p: &mut Pass<Notes>) -> bool
         }
         None => true,
     }
-}
-
-pub fn write_all<R: Wait>(
-    rt: &R,
-    lock: &HistLock<Notes>,
-    mut p: Pass<Notes>,
-    count: u32,
-) -> (Result<(), AllocError>, Pass<Notes>)
-    requires { (p.lock ≡ lock.now) × (p.turn ≡ false) }
-    ensures { (result.1.lock ≡ p.lock) × (result.1.number ≡ p.number) × (result.1.made ≡ p.made) × (result.1.turn ≡ false) }
-{
-    for text in 0..count {
-        if let Err(error) = write(rt, lock, &mut p, text) {
-            return (Err(error), p);
-        }
-    }
-    (Ok(()), p)
 }
 
 // Lets a new pass write and takes it back.

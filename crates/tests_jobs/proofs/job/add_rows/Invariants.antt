@@ -1,5 +1,0 @@
-use Rattle.lasp_setops.specs.Width.{IsSetOfWidth}
-use Rattle.tests_jobs.proofs.job.add_rows.Given as goal
-
-abbrev pub invariant-loop-n : goal.invariant-loop-n
-invariant-loop-n l = IsSetOfWidth 16 l.set

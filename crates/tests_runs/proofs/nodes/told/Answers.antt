@@ -1,0 +1,16 @@
+use Rattle.std.proofs.Common.{sym, subst}
+use Rattle.std.specs.Prelude.{List}
+use Rattle.model_graph.specs.Graph.{Decl}
+use Rattle.model_readings.specs.Lawful.{FitsAll}
+use Rattle.lasp_graph.specs.Library.{library_of}
+use Rattle.lasp_run.specs.Run.{IsRunnable}
+use Rattle.tests_runs.proofs.nodes.told.Goals as goal
+
+pub end-requires : goal.end-requires
+end-requires g c =
+    subst (λ (ds : List Decl). IsRunnable (library_of c.args.lib.now) ds c.in_ok-script.script) c.deref.ensures (record {
+      lawful = c.in_ok-script.ensures.lawful;
+      limits = c.in_ok-script.ensures.limits;
+      graph = c.in_ok-script.ensures.graph;
+      fits = c.in_ok-script.ensures.fits (subst (FitsAll (library_of c.args.lib.now)) (sym c.deref.ensures) c.requires);
+    })

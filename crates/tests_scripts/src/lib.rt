@@ -1,5 +1,0 @@
-//! Tests of the reading of scripts.
-#![tactic(auto)]
-
-#[cfg(test)]
-mod script;
