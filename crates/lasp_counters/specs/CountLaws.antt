@@ -2,7 +2,9 @@
 use Rattle.std.proofs.Common.{◌≡◌, ℕ, zero, suc, ◌*◌, ◌≤◌, ◌<◌, max, List, [], ◌∷◌, length, refl, sym, ap, ◌∙◌, arith, sum, take, drop, ◌++◌, subst}
 use Rattle.std.proofs.lemmas.List.{take_at}
 use Rattle.std.proofs.lemmas.List.Sums.{sum_by-cons}
-use Rattle.lasp_counters.specs.Counts.{count_max, count_at, AreCounts, zeros, larger, AreAtMost, HaveSameNodes}
+use Rattle.model_states.specs.Counts.{count_max, count_at, zeros}
+use Rattle.model_states.proofs.CountLaws.{count_at-zeros, length-zeros}
+use Rattle.lasp_counters.specs.Counts.{AreCounts, larger, AreAtMost, HaveSameNodes}
 
 pub count_at-larger : (s t : List ℕ) (node : ℕ) → HaveSameNodes s t → count_at (larger s t) node ≡ max (count_at s node) (count_at t node)
 count_at-larger [] [] node e = omega arith
@@ -21,15 +23,6 @@ same_from_counts [] [] e same = refl
 same_from_counts [] (d ∷ t) e same = absurd (omega (arith, e))
 same_from_counts (c ∷ s) [] e same = absurd (omega (arith, e))
 same_from_counts (c ∷ s) (d ∷ t) e same = λ i. same 0 i ∷ same_from_counts s t (omega (arith, e)) (λ node. same (suc node)) i
-
-pub count_at-zeros : (nodes node : ℕ) → count_at (zeros nodes) node ≡ 0
-count_at-zeros zero node = refl
-count_at-zeros (suc nodes) zero = refl
-count_at-zeros (suc nodes) (suc node) = count_at-zeros nodes node
-
-pub length-zeros : (nodes : ℕ) → length (zeros nodes) ≡ nodes
-length-zeros zero = refl
-length-zeros (suc nodes) = ap suc (length-zeros nodes)
 
 pub counts-zeros : (nodes : ℕ) → nodes < 256 → AreCounts (zeros nodes)
 counts-zeros nodes h = record { few = omega (arith, h, length-zeros nodes); small = λ node. omega (arith, count_at-zeros nodes node) }

@@ -1,5 +1,4 @@
 pub mod Counts
 pub mod CountLaws
 pub mod Members
-pub mod Register
 pub mod RegisterLaws

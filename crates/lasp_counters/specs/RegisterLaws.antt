@@ -5,7 +5,8 @@ use Rattle.std.specs.Ordering.{int_cmp, MatchOrdering}
 use Rattle.std.specs.Cmp.{int_ranked}
 use Rattle.std.specs.declared.cmp.Ordering.{Ordering}
 use Rattle.std.specs.declared.cmp.Ordering.TheVariants.{Less, Equal, Greater}
-use Rattle.lasp_counters.specs.Register.{later, IsNotLater}
+use Rattle.model_states.specs.Register.{later, IsNotLater}
+use Rattle.model_states.proofs.RegisterLaws.{not_later-antisymmetric}
 
 pub not_later-reflexive : (s : Option ℤ) → IsNotLater s s
 not_later-reflexive None = tt
@@ -16,12 +17,6 @@ not_later-transitive None t u a b = tt
 not_later-transitive (Some m) None u a b = absurd a
 not_later-transitive (Some m) (Some n) None a b = absurd b
 not_later-transitive (Some m) (Some n) (Some k) a b = omega (arith, ints, a, b)
-
-pub not_later-antisymmetric : (s t : Option ℤ) → IsNotLater s t → IsNotLater t s → s ≡ t
-not_later-antisymmetric None None a b = refl
-not_later-antisymmetric None (Some n) a b = absurd b
-not_later-antisymmetric (Some m) None a b = absurd a
-not_later-antisymmetric (Some m) (Some n) a b = ap Some (omega (arith, ints, a, b))
 
 pub later-idempotent : (s : Option ℤ) → later s s ≡ s
 later-idempotent None = refl

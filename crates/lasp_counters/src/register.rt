@@ -1,7 +1,8 @@
 //! The register that keeps the greatest number.
 
 ghost use Rattle.std.specs.Prelude.{◌≡◌, ◌≢◌, ◌↔◌, IsTrue, IfOk, IsOk, OnOk};
-ghost use Rattle.lasp_counters.specs.Register.{later, IsNotLater};
+ghost use Rattle.model_states.specs.Register.{later, IsNotLater};
+ghost use Rattle.model_states.proofs.RegisterLaws as order;
 ghost use Rattle.lasp_counters.specs.RegisterLaws as laws;
 
 use lasp_lattice::Lattice;
@@ -89,7 +90,7 @@ impl Lattice for MaxReg {
 
     ghost transitive = { λ s t u _ _ _ _ _. laws.not_later-transitive s.value t.value u.value };
 
-    ghost antisymmetric = { λ s t _ _ _ a b i. record { value = laws.not_later-antisymmetric s.value t.value a b i } };
+    ghost antisymmetric = { λ s t _ _ _ a b i. record { value = order.not_later-antisymmetric s.value t.value a b i } };
 
     ghost idempotent = { λ s _ i. record { value = laws.later-idempotent s.value i } };
 

@@ -1,5 +1,3 @@
-pub mod Faults
-pub mod Told
 pub mod Shelf
 pub mod MemFiles
 pub mod MemSink

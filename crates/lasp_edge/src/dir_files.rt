@@ -1,7 +1,7 @@
 //! Real files.
 ghost use Rattle.std.specs.Prelude.{◌≡◌, ℕ, ◌<◌, ◌≤◌, List, if◌then◌else◌, length, IfOk};
-ghost use Rattle.lasp_edge.specs.Faults.{Rose, counted};
-ghost use Rattle.lasp_edge.specs.Told.{Sees, untold};
+ghost use Rattle.model_values.specs.Faults.{Rose, counted};
+ghost use Rattle.model_values.specs.Told.{Sees, untold};
 ghost use Rattle.lasp_edge.specs.Loops.{is_failed};
 
 use crate::count::count_fault;
@@ -39,7 +39,7 @@ impl<'a, R: rt::Files> DirFiles<'a, R> {
 }
 
 impl<'a, R: rt::Files> Files for DirFiles<'a, R> {
-    ghost use Rattle.lasp_edge.specs.Told.{untold};
+    ghost use Rattle.model_values.specs.Told.{untold};
 
     ghost content = { λ _ _. untold };
 

@@ -1,7 +1,7 @@
 //! Where bytes are written to.
 ghost use Rattle.std.specs.Prelude.{◌≡◌, ℕ, ◌≤◌, List, Option, OnOk, OnErr};
-ghost use Rattle.lasp_edge.specs.Faults.{Rose};
-ghost use Rattle.lasp_edge.specs.Told.{Appends, AppendsPrefix};
+ghost use Rattle.model_values.specs.Faults.{Rose};
+ghost use Rattle.model_values.specs.Told.{Appends, AppendsPrefix};
 
 use crate::error::Failed;
 

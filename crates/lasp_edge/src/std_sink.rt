@@ -2,8 +2,8 @@
 ghost use Rattle.std.specs.Prelude.{◌≡◌, ◌≤◌, if◌then◌else◌, OnOk, OnErr, is_err};
 ghost use Rattle.std.specs.Io.KnownBytes as known;
 ghost use Rattle.lasp_edge.specs.Loops.{GrowsByPrefix};
-ghost use Rattle.lasp_edge.specs.Faults.{Rose, counted};
-ghost use Rattle.lasp_edge.specs.Told.{Appends, AppendsPrefix, untold};
+ghost use Rattle.model_values.specs.Faults.{Rose, counted};
+ghost use Rattle.model_values.specs.Told.{Appends, AppendsPrefix, untold};
 
 use crate::error::Failed;
 use crate::sink::Sink;
@@ -38,7 +38,7 @@ impl<W: Write> StdSink<W> {
 }
 
 impl<W: Write> Sink for StdSink<W> {
-    ghost use Rattle.lasp_edge.specs.Told.{untold};
+    ghost use Rattle.model_values.specs.Told.{untold};
 
     ghost written = { λ _. untold };
 

@@ -1,7 +1,7 @@
 //! Output that is thrown away.
 ghost use Rattle.std.specs.Prelude.{◌≡◌, ◌≤◌, OnOk, OnErr, Ok};
-ghost use Rattle.lasp_edge.specs.Faults.{Rose};
-ghost use Rattle.lasp_edge.specs.Told.{Appends, AppendsPrefix, untold};
+ghost use Rattle.model_values.specs.Faults.{Rose};
+ghost use Rattle.model_values.specs.Told.{Appends, AppendsPrefix, untold};
 
 use crate::error::Failed;
 use crate::sink::Sink;
@@ -11,7 +11,7 @@ use crate::sink::Sink;
 pub struct SureSink;
 
 impl Sink for SureSink {
-    ghost use Rattle.lasp_edge.specs.Told.{untold};
+    ghost use Rattle.model_values.specs.Told.{untold};
 
     ghost written = { λ _. untold };
 

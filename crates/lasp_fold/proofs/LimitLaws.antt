@@ -1,14 +1,12 @@
 -- Sets of numbers, and sets with a change, are within the limits.
-use Rattle.std.proofs.Common.{◌≡◌, ◌∙◌, refl, sym, ap, subst, ◌<◌, ◌≤◌, max, nat_lt, ℤ, Bool, true, false, if◌then◌else◌, List, ℕ, arith}
+use Rattle.std.proofs.Common.{◌≡◌, ◌∙◌, refl, sym, ap, subst, nat_lt, ℤ, Bool, true, false, if◌then◌else◌, List, arith}
 use Rattle.std.proofs.lemmas.Bool.Decides.{nat_tests}
 use Rattle.std.specs.Ordering.{eq_by_cmp}
-use Rattle.model_values.specs.Value.{Val, int}
-use Rattle.model_values.specs.Token.{Tok}
+use Rattle.model_values.specs.Value.{int}
 use Rattle.model_values.specs.Row.{Key, Row, key_cmp, key_exact}
 use Rattle.model_values.specs.Size.{IsOfWidth}
-use Rattle.model_sets.specs.Rows.{mark, level, row_mark, HasRow, put, join, IsAscending}
+use Rattle.model_sets.specs.Rows.{mark, level, row_mark, put, join}
 use Rattle.model_sets.proofs.RowLaws.{is-Equal, mark-put, mark-join}
-use Rattle.model_graph.specs.Increment.{IsChange}
 use Rattle.lasp_fold.specs.Fold.{HasWidth}
 
 -- one row more of a number

@@ -7,7 +7,7 @@ use Rattle.model_values.specs.Size.{IsSized}
 use Rattle.model_sets.specs.Rows.{level}
 use Rattle.model_sets.specs.Values.{held, IsHeld}
 use Rattle.model_sets.proofs.ValueLaws.{held-small}
-use Rattle.lasp_orset.specs.Shown.{is_last, values_after}
+use Rattle.model_sets.specs.Loops.{is_last, values_after}
 use Rattle.lasp_orset.proofs.SetLaws.{own_mark}
 use Rattle.lasp_fns.specs.Steps.{one_more}
 use Rattle.lasp_fold.specs.Fold.{AreSized}

@@ -1,5 +1,5 @@
 -- One step of a fold: what comes of a member is a member, and little larger.
-use Rattle.std.proofs.Common.{◌≡◌, ℕ, ◌+◌, ◌*◌, ◌^◌, ◌≤◌, ℤ, Bool, if◌then◌else◌, IsTrue, FitsSigned, List, [], ◌∷◌, fold, length, sym, ap, subst, ◌∙◌, arith}
+use Rattle.std.proofs.Common.{◌≡◌, ℕ, ◌+◌, ◌*◌, ◌^◌, ◌≤◌, ℤ, Bool, if◌then◌else◌, IsTrue, FitsSigned, List, ◌∷◌, fold, length, sym, ap, subst, ◌∙◌, arith}
 use mir.Syntax.{w64}
 use Rattle.model_values.specs.Value.{Val}
 use Rattle.model_functions.specs.Lift.{LiftOp, lifted}
@@ -43,12 +43,6 @@ along-next member size step total next whole left rest t h at is member_it small
   small = let long = ap length at in omega (arith, long, small, h.small);
   rest = ap (λ (n : ℤ). fold step n rest) is ∙ ap (λ (ts : List (Val × Bool)). fold step total ts) (sym at) ∙ h.rest;
 }
-
-pub along-done : (member : ℤ → Bool) (size : ℤ → ℕ) (step : ℤ → Val × Bool → ℤ) (total whole : ℤ) (left : List (Val × Bool)) → IsAlong member size step total left whole → left ≡ [] → total ≡ whole
-along-done member size step total whole left h none = ap (λ (ts : List (Val × Bool)). fold step total ts) (sym none) ∙ h.rest
-
-pub along-room : (member : ℤ → Bool) (size : ℤ → ℕ) (step : ℤ → Val × Bool → ℤ) (total whole : ℤ) (left : List (Val × Bool)) → IsAlong member size step total left whole → size total ≤ 2 ^ 99
-along-room member size step total whole left h = omega (arith, h.small)
 
 pub step-is : (combined : ℤ → ℤ → ℤ) (undone taken : ℤ → ℤ) (op : LiftOp) (total n r : ℤ) (v : Val) (came : Bool) → n ≡ lifted op v
     → r ≡ (if came then combined total (taken n) else combined total (undone (taken n))) → r ≡ turned combined undone (taken_lift taken op) total (v, came)

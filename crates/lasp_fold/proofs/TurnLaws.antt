@@ -14,7 +14,7 @@ use Rattle.model_sets.specs.Folds.{corrected}
 use Rattle.model_sets.proofs.ValueLaws.{held-small, held-of_values, same_from_held}
 use Rattle.model_sets.proofs.AlgebraLaws.{held-filter, ascending-filter}
 use Rattle.model_sets.proofs.UpdateLaws.{same-held, row-value}
-use Rattle.lasp_orset.specs.Shown.{is_last, values_after}
+use Rattle.model_sets.specs.Loops.{is_last, values_after}
 use Rattle.lasp_orset.proofs.ShownLaws.{shown-all}
 use Rattle.lasp_fold.specs.Turns.{values_left, turns, turned}
 

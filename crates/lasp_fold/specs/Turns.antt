@@ -3,7 +3,7 @@ use Rattle.std.specs.Prelude.{◌≡◌, ℕ, ◌+◌, ◌*◌, ◌^◌, ◌≤�
 use Rattle.model_values.specs.Value.{Val}
 use Rattle.model_values.specs.Row.{Row}
 use Rattle.model_sets.specs.Values.{held}
-use Rattle.lasp_orset.specs.Shown.{is_last}
+use Rattle.model_sets.specs.Loops.{is_last}
 
 -- the values of rows, live or dead, each once, but for the one looked at last
 abbrev pub values_left : Option Val → List Row → List Val

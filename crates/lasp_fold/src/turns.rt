@@ -5,7 +5,7 @@ ghost use Rattle.std.specs.Option.{option_map};
 ghost use Rattle.model_values.specs.Size.{IsSized};
 ghost use Rattle.model_sets.specs.Values.{visible};
 ghost use Rattle.lasp_value.specs.Value.{val_of};
-ghost use Rattle.lasp_orset.specs.Shown.{is_last};
+ghost use Rattle.model_sets.specs.Loops.{is_last};
 ghost use Rattle.lasp_fold.specs.Fold.{AreSized};
 ghost use Rattle.lasp_fold.specs.Turns.{values_left, turns};
 

@@ -4,7 +4,7 @@ ghost use Rattle.std.specs.Prelude.{◌≡◌, ◌||◌};
 ghost use Rattle.std.specs.Option.{option_map};
 ghost use Rattle.model_sets.specs.Folds.{fold_set};
 ghost use Rattle.lasp_value.specs.Value.{val_of};
-ghost use Rattle.lasp_orset.specs.Shown.{is_last};
+ghost use Rattle.model_sets.specs.Loops.{is_last};
 ghost use Rattle.lasp_fns.specs.Stored.{lift_of};
 ghost use Rattle.lasp_fold.specs.Fold.{IsWithinLimits, taken_lift};
 

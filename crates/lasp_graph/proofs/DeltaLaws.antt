@@ -8,14 +8,11 @@ use Rattle.model_sets.specs.Equations.{changed, map_set, filter_set, product_set
 use Rattle.model_sets.proofs.RowLaws.{ascending-join, ascending-of_rows, join-left, join-right, join-nothing, of_rows-ascending}
 use Rattle.model_sets.proofs.EquationLaws.{ascending-changed, join-changed, map-grown, filter-grown, union-grown, product-grown, intersect-grown, filter-ascending}
 use Rattle.model_states.specs.Content.{Content, of_set, at_row, IsContentAtMost, size_of}
-use Rattle.model_states.specs.Threshold.{set}
 use Rattle.model_graph.specs.Graph.{Kind, OrSet, GSet, Counter, MaxReg, Union, Product, Intersection, Map, Filter, Fold}
-use Rattle.lasp_state.specs.declared.state.State.{State}
-use Rattle.lasp_state.specs.declared.state.State.TheVariants.{Set, Grow, Count, Max, Fold}
-use Rattle.lasp_state.specs.State.{content_of, shape_of}
+use Rattle.lasp_state.specs.declared.state.State.TheVariants.{Fold}
 use Rattle.lasp_orset.proofs.CountLaws.{at_most-length}
 use Rattle.lasp_graph.specs.Evaluated.{process}
-use Rattle.lasp_graph.specs.Delta.{IsStateOf, IsStateBefore, IsSetBefore, gained}
+use Rattle.lasp_graph.specs.Delta.{IsSetBefore, gained}
 use Rattle.model_graph.specs.Increment.{IsChange}
 use Rattle.lasp_setops.specs.Grown.{IsGrown}
 use Rattle.lasp_setops.specs.Width.{IsSetOfWidth}
@@ -28,14 +25,6 @@ width-change before change after h w = record {
   tokens = λ v t has. w.tokens v t (omega (arith, has, change-below before change after h v t));
 }
 
--- a set's state has rows alone
-pub set-content : (s : State) → shape_of s ≡ set → content_of s ≡ of_set (content_of s).rows
-set-content (Set rows) e = refl
-set-content (Grow values) e = absurd cc
-set-content (Count counts) e = absurd cc
-set-content (Max m) e = absurd cc
-set-content (Fold rows n) e = absurd cc
-
 pub changed-change : (s t : Content) (x y c : List Row) → s ≡ of_set x → t ≡ of_set y → c ≡ changed x y → IsAscending x → IsAscending y → IsContentAtMost s t → IsChange s.rows c t.rows
 changed-change s t x y c is_s is_t is_c up_x up_y more =
     subst (λ (u : Content). IsChange u.rows c t.rows) (sym is_s) (subst (λ (u : Content). IsChange x c u.rows) (sym is_t) (subst (λ (d : List Row). IsChange x d y) (sym is_c) record {
@@ -43,17 +32,6 @@ changed-change s t x y c is_s is_t is_c up_x up_y more =
       ascends = ascending-changed x y up_y;
       joined = join-changed x y up_y (λ v w. subst (λ (u : Content). mark u.rows v w ≤ mark y v w) is_s (subst (λ (u : Content). mark s.rows v w ≤ mark u.rows v w) is_t (more (at_row v w))));
     }))
-
--- before the changes, from the states of the inputs then
-pub state-before : (k : Kind) (base_x base_y old : State) (x_change x y_change y : List Row) → shape_of base_x ≡ set → shape_of base_y ≡ set → IsStateOf k (content_of base_x) (content_of base_y) old
-    → IsChange (content_of base_x).rows x_change x → IsChange (content_of base_y).rows y_change y → IsStateBefore k x_change x y_change y old
-state-before k base_x base_y old x_change x y_change y set_x set_y is h i = record {
-  first = (content_of base_x).rows;
-  second = (content_of base_y).rows;
-  first_grown = h;
-  second_grown = i;
-  state = subst (λ (u : Content). IsStateOf k u (of_set (content_of base_y).rows) old) (set-content base_x set_x) (subst (λ (u : Content). IsStateOf k (content_of base_x) u old) (set-content base_y set_y) is);
-}
 
 -- ---- what a process gains
 

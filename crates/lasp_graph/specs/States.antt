@@ -1,9 +1,11 @@
 -- Lists of states as plain data, and as trees of numbers.
-use Rattle.std.specs.Prelude.{◌≡◌, ℕ, ℤ, pos, List, map, slice_index_or, refl}
+use Rattle.std.specs.Prelude.{◌≡◌, ℕ, ◌<◌, ℤ, pos, IsTrue, List, length, map, slice_index_or, refl}
 use Rattle.std.specs.Coded.{Coded, code_by, coded×, coded_ℤ, coded_list}
 use Rattle.model_states.specs.Coded.{coded_shape, coded_content}
 use Rattle.model_states.specs.Content.{Content, least, join_contents}
 use Rattle.model_states.specs.Threshold.{Shape, set}
+use Rattle.model_graph.specs.Graph.{Decl, is_source, kind_at}
+use Rattle.model_graph.specs.Lawful as lawful
 use Rattle.lasp_state.specs.declared.state.State.{State}
 use Rattle.lasp_state.specs.State.{content_of, shape_of, number_of, number_after, AreNested}
 
@@ -24,6 +26,10 @@ contents_of states = map (λ h. h.content) states
 -- the state at a place; a set with no rows where there is none
 abbrev pub held_at : List Held → ℕ → Held
 held_at states x = slice_index_or states x (record { shape = set; content = least; number = pos 0 })
+
+-- the state of each source is of its kind's shape, among so many nodes
+abbrev pub AreSourcesOfKind : ℕ → List Decl → List Held → Type 0
+AreSourcesOfKind nodes g states = (x : ℕ) → x < length g → IsTrue (is_source (kind_at g x)) → (held_at states x).shape ≡ lawful.shape_of nodes (kind_at g x)
 
 -- a state with another one joined in: of two folds the greater, with its number
 abbrev pub grown : Held → Held → Held

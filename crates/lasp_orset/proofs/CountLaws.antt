@@ -21,26 +21,6 @@ length-join-right s t up_s up_t = ap length (join-commutative s t) ∙ length-jo
 
 -- ---- rows of which no row here has the key
 
-lacks-key : (m : ℕ) → (m == 0) ≡ not (nat_le 1 m)
-lacks-key m = grind (arith, nat_tests)
-
-new-kept : (s : List Row) (r : Row) (t : List Row) (seen : Bool) → seen ≡ is_covered s (r.0, false)
-    → new_rows s (r ∷ t) ≡ length (cond (not seen) (r ∷ filter (λ q. mark s q.0.0 q.0.1 == 0) t) (filter (λ q. mark s q.0.0 q.0.1 == 0) t))
-new-kept s r t seen is =
-    ap (λ b. length (cond b (r ∷ filter (λ q. mark s q.0.0 q.0.1 == 0) t) (filter (λ q. mark s q.0.0 q.0.1 == 0) t))) (lacks-key (mark s r.0.0 r.0.1) ∙ ap not (sym is))
-
-pub new-more : (s rows rest : List Row) (r : Row) (seen : Bool) (n total : ℕ) → rows ≡ r ∷ rest → seen ≡ is_covered s (r.0, false) → seen ≡ false
-    → n + new_rows s rows ≡ total → (n + 1) + new_rows s rest ≡ total
-new-more s rows rest r seen n total next is not_it so_far =
-    let step = ap (new_rows s) next ∙ new-kept s r rest false (sym not_it ∙ is) in
-    omega (arith, so_far, step)
-
-pub new-same : (s rows rest : List Row) (r : Row) (seen : Bool) (n total : ℕ) → rows ≡ r ∷ rest → seen ≡ is_covered s (r.0, false) → seen ≡ true
-    → n + new_rows s rows ≡ total → n + new_rows s rest ≡ total
-new-same s rows rest r seen n total next is yes_it so_far =
-    let step = ap (new_rows s) next ∙ new-kept s r rest true (sym yes_it ∙ is) in
-    omega (arith, so_far, step)
-
 new-few : (s t : List Row) → new_rows s t ≤ length t
 new-few s [] = omega arith
 new-few s (r ∷ t) =
@@ -58,9 +38,6 @@ joined-sum s t n m up_s up_t all new = omega (arith, all, new, length-join s t u
 pub joined-sum-right : (s t : List Row) (n m : ℕ) → IsAscending s → IsAscending t → n ≡ length t → m ≡ new_rows t s → n + m ≡ length (join s t)
 joined-sum-right s t n m up_s up_t all new = omega (arith, all, new, length-join-right s t up_s up_t)
 
-pub new-end : (s rows : List Row) (n total : ℕ) → rows ≡ [] → n + new_rows s rows ≡ total → n ≡ total
-new-end s rows n total done so_far = let none = ap (new_rows s) done in omega (arith, so_far, none)
-
 -- ---- rows that became more
 
 is_more : (m l : ℕ) → nat_lt m l ≡ not (nat_le l m)
@@ -72,9 +49,6 @@ changed-kept s r t seen dead of is =
 
 pub changed-here : (s rows rest : List Row) (r : Row) (seen dead : Bool) → rows ≡ r ∷ rest → dead ≡ r.1 → seen ≡ is_covered s (r.0, dead) → seen ≡ false → changed s rows ≡ r ∷ changed s rest
 changed-here s rows rest r seen dead next of is not_it = ap (changed s) next ∙ changed-kept s r rest seen dead of is ∙ ap (λ b. cond (not b) (r ∷ changed s rest) (changed s rest)) not_it
-
-pub changed-not : (s rows rest : List Row) (r : Row) (seen dead : Bool) → rows ≡ r ∷ rest → dead ≡ r.1 → seen ≡ is_covered s (r.0, dead) → seen ≡ true → changed s rows ≡ changed s rest
-changed-not s rows rest r seen dead next of is yes_it = ap (changed s) next ∙ changed-kept s r rest seen dead of is ∙ ap (λ b. cond (not b) (r ∷ changed s rest) (changed s rest)) yes_it
 
 -- The row that goes on what changed so far goes on in order.
 pub changed-ascends : (s t so_far rest : List Row) (r : Row) → IsAscending t → so_far ++ (r ∷ rest) ≡ changed s t → IsAscending (so_far ++ r ∷ [])

@@ -10,7 +10,8 @@ use Rattle.model_values.specs.Text.{shown, shown_after, shown_values}
 use Rattle.model_sets.specs.Rows.{IsAscending}
 use Rattle.model_sets.specs.Values.{add, of_values, visible}
 use Rattle.model_sets.proofs.RowLaws.{and-left, and-right, is-Less}
-use Rattle.lasp_orset.specs.Shown.{values_after, text_after}
+use Rattle.model_sets.specs.Loops.{values_after}
+use Rattle.lasp_orset.specs.Shown.{text_after}
 use Rattle.lasp_orset.proofs.SpanLaws.{value-rises}
 
 -- Behind a row, its value and those still to be shown are the visible values with it.

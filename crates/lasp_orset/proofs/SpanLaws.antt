@@ -236,12 +236,6 @@ remove-more v old new rows rest whole r e same up next is yes_it dead more so_fa
     ∙ ap (λ b. join old (map buried (cond b (r ∷ filter (is_of v) rest) (filter (is_of v) rest)))) (sym yes_it ∙ is)
     ∙ ap (λ (l : List Row). join old (remove_delta v l)) (sym next) ∙ so_far
 
-pub remove-other : (v : Val) (old rows rest whole : List Row) (r : Row) (same : Bool) → rows ≡ r ∷ rest → same ≡ is_of v r → same ≡ false
-    → join old (remove_delta v rows) ≡ whole → join old (remove_delta v rest) ≡ whole
-remove-other v old rows rest whole r same next is not_it so_far =
-    ap (λ b. join old (map buried (cond b (r ∷ filter (is_of v) rest) (filter (is_of v) rest)))) (sym not_it ∙ is)
-    ∙ ap (λ (l : List Row). join old (remove_delta v l)) (sym next) ∙ so_far
-
 pub remove-end : (v : Val) (old rows whole : List Row) → IsAscending old → rows ≡ [] → join old (remove_delta v rows) ≡ whole → old ≡ whole
 remove-end v old rows whole up done so_far = sym (join-nothing old up) ∙ ap (λ (l : List Row). join old (remove_delta v l)) (sym done) ∙ so_far
 

@@ -1,19 +1,9 @@
--- A pass over ascending rows that shows each visible value once, told by the value shown last and the rows that are left.
-use Rattle.std.specs.Prelude.{ℕ, Bool, false, ◌||◌, if◌then◌else◌, List, [], ◌∷◌, ◌++◌, Option, Some, None, is_some}
-use Rattle.std.specs.Ordering.{eq_by_cmp}
-use Rattle.model_values.specs.Value.{Val, val_cmp}
+-- The text of a pass over ascending rows that shows each visible value once, told by the value shown last and the rows that are left.
+use Rattle.std.specs.Prelude.{ℕ, Bool, ◌||◌, if◌then◌else◌, List, [], ◌∷◌, ◌++◌, Option, Some, is_some}
+use Rattle.model_values.specs.Value.{Val}
 use Rattle.model_values.specs.Row.{Row}
 use Rattle.model_values.specs.Text.{shown}
-
--- whether a value was shown last
-abbrev pub is_last : Option Val → Val → Bool
-is_last None v = false
-is_last (Some u) v = eq_by_cmp val_cmp u v
-
--- the values that are still to be shown
-abbrev pub values_after : Option Val → List Row → List Val
-values_after last [] = []
-values_after last (r ∷ s) = if r.1 || is_last last r.0.0 then values_after last s else r.0.0 ∷ values_after (Some r.0.0) s
+use Rattle.model_sets.specs.Loops.{is_last}
 
 -- a value's text, behind a comma where it isn't the first
 abbrev pub shown_next : Bool → Val → List ℕ

@@ -7,7 +7,8 @@ ghost use Rattle.model_sets.specs.Rows.{IsAscending, is_of};
 ghost use Rattle.model_sets.specs.Values.{IsHeld, visible};
 ghost use Rattle.lasp_value.specs.Value.{val_of};
 ghost use Rattle.lasp_orset.specs.Reads.{is_row_of, HasRowOf};
-ghost use Rattle.lasp_orset.specs.Shown.{is_last, shown_next};
+ghost use Rattle.model_sets.specs.Loops.{is_last};
+ghost use Rattle.lasp_orset.specs.Shown.{shown_next};
 
 use super::entry::Entry;
 use super::rows::Rows;

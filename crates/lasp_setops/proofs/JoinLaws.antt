@@ -10,9 +10,6 @@ use Rattle.lasp_orset.proofs.PieceLaws.{ascending-left}
 use Rattle.lasp_setops.specs.declared.refused.SetRefused.{SetRefused}
 use Rattle.lasp_setops.specs.Joined.{IsJoinedUpTo, meetings}
 
-pub joined-start : (s t : List Row) → IsAscending s → IsJoinedUpTo s t (join s t)
-joined-start s t up = record { ascends = up; all = λ i. join s t }
-
 -- one more row joined in
 pub joined-row : (s : List Row) (r : Row) (t w : List Row) → IsJoinedUpTo s (r ∷ t) w → IsJoinedUpTo (put r s) t w
 joined-row s r t w h = record {
@@ -111,9 +108,6 @@ pushed-kept p s t rest x r q new is h = (λ i. (new ∙ ap (λ (z : Row). s ++ z
 behind-nothing : (s : List Row) → s ++ [] ≡ s
 behind-nothing [] = refl
 behind-nothing (r ∷ s) = ap (λ (t : List Row). r ∷ t) (behind-nothing s)
-
-pub last-kept : (p : Val → Bool) (s rows x : List Row) → rows ≡ [] → s ++ filter_set p rows ≡ filter_set p x → s ≡ filter_set p x
-last-kept p s rows x none h = sym (behind-nothing s) ∙ ap (λ (t : List Row). s ++ filter_set p t) (sym none) ∙ h
 
 -- ---- what is joined into a fresh set, and the length along two steps
 

@@ -5,14 +5,13 @@ use Rattle.model_values.specs.Value.{Val}
 use Rattle.model_sets.specs.Values.{IsWithin}
 use Rattle.model_sets.specs.Rows.{IsAtMost}
 use Rattle.model_states.specs.Counts as counts
-use Rattle.model_states.specs.Counts.{AreCountsAtMost}
 use Rattle.model_states.specs.Register as register
 use Rattle.model_states.specs.Content.{Content, of_set, of_grow, of_counts, of_top, join_contents, Key, at_row, at_value, at_count, at_top, content_mark, IsContentAtMost}
 use Rattle.model_states.proofs.RegisterLaws.{not_later-reaches, reaches-not_later}
 use Rattle.model_states.specs.Threshold.{Shape, counter}
 use Rattle.lasp_counters.specs.declared.register.MaxReg.{MaxReg}
 use Rattle.lasp_counters.specs.Counts.{larger, AreAtMost, HaveSameNodes}
-use Rattle.lasp_counters.specs.Register.{later, IsNotLater}
+use Rattle.model_states.specs.Register.{later, IsNotLater}
 
 -- ---- the order
 

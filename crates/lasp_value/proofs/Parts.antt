@@ -4,11 +4,13 @@ use Rattle.serde_json.specs.declared.value.Value.{Value, Array}
 use Rattle.serde_json.specs.View.{view, items_view}
 use Rattle.serde_json.proofs.Views.{view-Array}
 use Rattle.model_values.specs.Value.{Val, pair}
+use Rattle.model_values.specs.declared.value_why.ValueWhy.{ValueWhy}
+use Rattle.model_values.specs.declared.value_why.ValueWhy.TheVariants as why
 use Rattle.lasp_value.specs.declared.refused.ValueRefused.{ValueRefused}
-use Rattle.lasp_value.specs.declared.refused.ValueRefused.TheVariants as why
 use Rattle.lasp_value.specs.declared.value.Value.{Value as Laid}
 use Rattle.lasp_value.specs.Value.{val_of}
-use Rattle.lasp_value.specs.Json.{paired, written_value, written_pair, Gives}
+use Rattle.model_values.specs.Json.{paired, written_value, written_pair}
+use Rattle.lasp_value.specs.Json.{Gives}
 
 -- the parts of an array, as a slice
 pub record AreParts (j : Value) (s : List Value) : Type 0 where
@@ -57,7 +59,7 @@ written-two j s a b p h k e f =
     ∙ ap (λ v. paired (written_value (view a)) (written_value (view v))) (sym f)
 
 -- a pair of what was answered
-pub paired-both : (x y : Result Laid ValueRefused) (u w a b : Laid) (r q : Result Val ValueRefused) → Gives x r → Gives y q → x ≡ Ok u → y ≡ Ok w → a ≡ u → b ≡ w
+pub paired-both : (x y : Result Laid ValueRefused) (u w a b : Laid) (r q : Result Val ValueWhy) → Gives x r → Gives y q → x ≡ Ok u → y ≡ Ok w → a ≡ u → b ≡ w
     → paired r q ≡ Ok (pair (val_of a) (val_of b))
 paired-both x y u w a b r q g h e f k l =
     let first : r ≡ Ok (val_of a) = subst (λ z. Gives z r) e g ∙ ap (λ z. Ok (val_of z)) (sym k) in

@@ -2,8 +2,8 @@
 use Rattle.std.specs.Prelude.{ℕ, min, ◌-◌, ◌^◌, Bool, nat_le, ◌&&◌, Result, Ok, Err}
 use Rattle.model_values.specs.Value.{Val}
 use Rattle.model_values.specs.Size.{leaves, text_bytes}
+use Rattle.model_values.specs.declared.value_why.ValueWhy.{ValueWhy}
 use Rattle.lasp_value.specs.declared.size.Size.{Size}
-use Rattle.lasp_value.specs.declared.refused.ValueRefused.{ValueRefused}
 
 abbrev pub counted : ℕ → ℕ
 counted n = min n (2 ^ 64 - 1)
@@ -17,6 +17,6 @@ abbrev pub size_of : Val → Size
 size_of v = record { leaves = counted (leaves v); text_bytes = counted (text_bytes v) }
 
 -- the counts of the value that is read, or why none is
-abbrev pub measured : Result Val ValueRefused → Result Size ValueRefused
+abbrev pub measured : Result Val ValueWhy → Result Size ValueWhy
 measured (Ok v) = Ok (size_of v)
 measured (Err e) = Err e

@@ -2,7 +2,8 @@
 
 ghost use Rattle.std.specs.Prelude.{◌≡◌};
 ghost use Rattle.serde_json.specs.View.{view};
-ghost use Rattle.lasp_value.specs.Json.{Gives, written_value, read_value};
+ghost use Rattle.model_values.specs.Json.{written_value, read_value};
+ghost use Rattle.lasp_value.specs.Json.{Gives};
 
 use super::refused::ValueRefused;
 use super::size::measure;
@@ -13,14 +14,14 @@ use std::alloc::Global;
 
 /// The value that a tree stands for: a number that fits 64 bits with a sign, a text, or an array of two such values.
 /// It has at most 8 numbers and texts, and 256 bytes of text in all; a larger one is refused before memory is taken for it.
-#[tactic(auto, unfolding(crate::specs::Json::read_value))]
+#[tactic(auto, unfolding(model_values::specs::Json::read_value))]
 pub fn value_of_json(alloc: Global, j: &Json) -> Result<Value, ValueRefused>
     ensures { Gives result (read_value (view j.now)) }
 {
     match measure(j) {
         Ok(size) if size.is_small() => build(alloc, j),
         Ok(_) => Err(ValueRefused::TooBig),
-        Err(e) => Err(e),
+        Err(why) => Err(ValueRefused::from(why)),
     }
 }
 

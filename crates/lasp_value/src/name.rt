@@ -2,7 +2,7 @@
 
 ghost use Rattle.std.specs.Prelude.{◌≡◌, ◌<◌, ◌↔◌, IfOk, IfSome, IsNone, IsTrue, length, slice_get, Some, false};
 ghost use Rattle.std.specs.List.{list_all};
-ghost use Rattle.lasp_value.specs.Name.{is_name, is_name_byte};
+ghost use Rattle.model_values.specs.Name.{is_name, is_name_byte};
 
 use std::alloc::{AllocError, Global};
 use std::marker::Model;
@@ -15,7 +15,7 @@ pub struct Name {
 
 impl Model for Name {
     ghost use Rattle.std.specs.Prelude.{List, ℕ, IsTrue, string_bytes};
-    ghost use Rattle.lasp_value.specs.Name.{is_name};
+    ghost use Rattle.model_values.specs.Name.{is_name};
 
     ghost Value = { List ℕ };
 

@@ -2,7 +2,9 @@
 
 ghost use Rattle.std.specs.Prelude.{◌≡◌};
 ghost use Rattle.lasp_value.specs.declared.refused.ValueRefused.TheVariants as value_refused;
+ghost use Rattle.lasp_value.specs.Json.{refusal_of};
 
+use model_values::ValueWhy;
 use std::alloc::{AllocError, AllocFailed};
 use thiserror::Error;
 
@@ -21,6 +23,18 @@ pub enum ValueRefused {
     /// No memory was left.
     #[error("out of memory")]
     Memory,
+}
+
+impl From<ValueWhy> for ValueRefused {
+    ghost from_gives = { λ why e. e ≡ refusal_of why };
+
+    fn from(why: ValueWhy) -> ValueRefused {
+        match why {
+            ValueWhy::NotAValue => ValueRefused::NotAValue,
+            ValueWhy::NumberRefused => ValueRefused::NumberRefused,
+            ValueWhy::TooBig => ValueRefused::TooBig,
+        }
+    }
 }
 
 impl From<AllocError> for ValueRefused {

@@ -2,10 +2,10 @@
 
 ghost use Rattle.std.specs.Prelude.{◌≡◌, ◌+◌};
 ghost use Rattle.serde_json.specs.View.{view};
-ghost use Rattle.lasp_value.specs.Json.{written_value};
+ghost use Rattle.model_values.specs.Json.{written_value};
 ghost use Rattle.lasp_value.specs.Size.{counted, is_small, measured};
 
-use super::refused::ValueRefused;
+use model_values::ValueWhy;
 use serde_json::Value as Json;
 
 /// The most numbers and texts that a value handed in may have.
@@ -41,7 +41,7 @@ impl Size {
 }
 
 /// The size of the value that a tree stands for, however large, or why it stands for none. It takes no memory.
-pub(crate) fn measure(j: &Json) -> Result<Size, ValueRefused>
+pub(crate) fn measure(j: &Json) -> Result<Size, ValueWhy>
     ensures { result ≡ measured (written_value (view j.now)) }
 {
     match j {
@@ -50,23 +50,23 @@ pub(crate) fn measure(j: &Json) -> Result<Size, ValueRefused>
                 leaves: 1,
                 text_bytes: 0,
             }),
-            None => Err(ValueRefused::NumberRefused),
+            None => Err(ValueWhy::NumberRefused),
         },
         Json::String(text) => Ok(Size {
             leaves: 1,
             text_bytes: text.len() as u64,
         }),
         Json::Array(items) => match items.as_slice() {
-            [] => Err(ValueRefused::NotAValue),
-            [_] => Err(ValueRefused::NotAValue),
-            [_, _, _, ..] => Err(ValueRefused::NotAValue),
+            [] => Err(ValueWhy::NotAValue),
+            [_] => Err(ValueWhy::NotAValue),
+            [_, _, _, ..] => Err(ValueWhy::NotAValue),
             [first, second] => {
                 let size = measure(first)?;
                 Ok(size.plus(measure(second)?))
             }
         },
-        Json::Null => Err(ValueRefused::NotAValue),
-        Json::Bool(_) => Err(ValueRefused::NotAValue),
-        Json::Object(_) => Err(ValueRefused::NotAValue),
+        Json::Null => Err(ValueWhy::NotAValue),
+        Json::Bool(_) => Err(ValueWhy::NotAValue),
+        Json::Object(_) => Err(ValueWhy::NotAValue),
     }
 }

@@ -1,5 +1,5 @@
 use Rattle.std.proofs.Common.{ℕ, ◌<◌, ◌≤◌}
-use Rattle.lasp_counters.specs.Counts.{count_at}
+use Rattle.model_states.specs.Counts.{count_at}
 use Rattle.lasp_counters.proofs.raise.are_at_most.Given as goal
 
 abbrev pub invariant-loop-i : goal.invariant-loop-i

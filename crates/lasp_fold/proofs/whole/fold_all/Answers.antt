@@ -6,7 +6,7 @@ use Rattle.std.specs.Option.{option_map}
 use Rattle.model_values.specs.Row.{Row}
 use Rattle.model_sets.specs.Values.{visible}
 use Rattle.model_sets.specs.Folds.{fold_of}
-use Rattle.lasp_orset.specs.Shown.{values_after}
+use Rattle.model_sets.specs.Loops.{values_after}
 use Rattle.lasp_orset.proofs.ShownLaws.{shown-all}
 use Rattle.lasp_value.specs.Value.{val_of}
 use Rattle.lasp_fns.specs.Stored.{lift_of}

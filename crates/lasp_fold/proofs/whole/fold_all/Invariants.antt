@@ -1,7 +1,7 @@
 use Rattle.std.proofs.Common.{map, length}
 use Rattle.std.specs.Option.{option_map}
 use Rattle.model_sets.specs.Folds.{fold_set}
-use Rattle.lasp_orset.specs.Shown.{values_after}
+use Rattle.model_sets.specs.Loops.{values_after}
 use Rattle.lasp_value.specs.Value.{val_of}
 use Rattle.lasp_fns.specs.Stored.{lift_of}
 use Rattle.lasp_fold.specs.Fold.{AreSized, taken_lift}

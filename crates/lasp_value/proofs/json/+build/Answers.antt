@@ -1,6 +1,6 @@
 use Rattle.std.proofs.Common.{◌∙◌}
 use Rattle.serde_json.specs.View.{view}
-use Rattle.lasp_value.specs.Json.{written_value}
+use Rattle.model_values.specs.Json.{written_value}
 use Rattle.lasp_value.proofs.Parts.{written-one, written-many, written-two, paired-both}
 use Rattle.lasp_value.proofs.json.+build.Goals as goal
 

@@ -1,7 +1,7 @@
 use Rattle.std.proofs.Common.{◌∙◌, sym, ap, Err}
 use Rattle.std.proofs.lemmas.Result.{err_from_is_err_and}
 use Rattle.serde_json.specs.View.{view}
-use Rattle.lasp_value.specs.Json.{written_value}
+use Rattle.model_values.specs.Json.{written_value}
 use Rattle.lasp_value.specs.Size.{measured}
 use Rattle.lasp_value.proofs.Parts.{written-none, written-one, written-many, written-two}
 use Rattle.lasp_value.proofs.Sizes.{measured-first, measured-second, measured-both}

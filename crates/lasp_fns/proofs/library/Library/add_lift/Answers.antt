@@ -1,5 +1,5 @@
 use Rattle.std.proofs.Common.{◌≡◌, ◌↔◌, sym, subst, Bool, Err, IsTrue}
-use Rattle.lasp_value.specs.Name.{is_name}
+use Rattle.model_values.specs.Name.{is_name}
 use Rattle.lasp_fns.specs.declared.refused.LibraryRefused.TheVariants.{NameTaken}
 use Rattle.lasp_fns.specs.Kept.{named_of}
 use Rattle.lasp_fns.specs.Stored.{lift_of}

@@ -1,7 +1,7 @@
 use Rattle.std.proofs.Common.{◌∙◌, ap, List, ◌++◌, None}
 use Rattle.model_values.specs.Value.{Val}
 use Rattle.model_values.specs.Row.{Row}
-use Rattle.lasp_orset.specs.Shown.{values_after}
+use Rattle.model_sets.specs.Loops.{values_after}
 use Rattle.lasp_orset.proofs.ShownLaws.{shown-all}
 use Rattle.lasp_orset.proofs.set.OrSet.visible.Goals as goal
 

@@ -2,7 +2,7 @@ use Rattle.std.proofs.Common.{◌≡◌, ◌++◌, length}
 use Rattle.std.specs.Option.{option_map}
 use Rattle.model_sets.specs.Values.{visible}
 use Rattle.lasp_value.specs.Value.{val_of}
-use Rattle.lasp_orset.specs.Shown.{values_after}
+use Rattle.model_sets.specs.Loops.{values_after}
 use Rattle.lasp_orset.proofs.set.OrSet.visible.Given as goal
 
 abbrev pub invariant-loop-row : goal.invariant-loop-row
