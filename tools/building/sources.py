@@ -1,9 +1,10 @@
 """The sources of the program: the files of its crate and of the crates below it, and when they changed last."""
 import hashlib
 import os
+import pathlib
 import re
 
-TOP = os.path.dirname(os.path.dirname(os.path.abspath(__file__)))
+TOP = str(pathlib.Path(__file__).absolute().parents[2])
 PROGRAM = "lasp_cli"
 PARTS = ("src", "specs", "proofs")
 

@@ -2,9 +2,8 @@
 import dataclasses
 import re
 
-import causes
-import json_parts
-from graph_variables import INPUTS
+from pictures.graph_variables import INPUTS
+from . import causes, json_parts
 
 PATTERNS = {"NUMBER": r"(?P<NUMBER>\d+)", "COMMAND": r"(?P<COMMAND>\d+)", "NODE": r"(?P<NODE>\d+)", "PLACE": r"(?P<PLACE>\d+)"}
 PATTERNS |= {"NAME": r"(?P<NAME>[a-z][a-z0-9_]*)", "CAUSE": r"(?P<CAUSE>\w+)", "FILE": r"(?P<FILE>.*)"}

@@ -1,9 +1,9 @@
 """The signs of a run: a dot for an update, lines for messages, and so on, each with its label and with the whole command for who points at it."""
 import math
 
-import run_places as places
-import svg
-from run_events import UPDATES, spelled
+from . import run_places as places
+from . import svg
+from .run_events import UPDATES, spelled
 
 AGAIN, LATE, BOTH = "7 4", "2 3", "7 3 2 3"
 POINTS = ("settle", "print", "await", "declare")

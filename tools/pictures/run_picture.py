@@ -1,8 +1,8 @@
 """The picture of a run: a line for each node, time to the right, and what happens at the nodes and between them."""
-import run_places as places
-import run_signs as signs
-import svg
-from run_events import run_of
+from . import run_places as places
+from . import run_signs as signs
+from . import svg
+from .run_events import run_of
 
 
 def of_message(message, place):

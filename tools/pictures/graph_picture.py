@@ -1,7 +1,7 @@
 """The picture of a graph: sources left, each process in the layer right of its last input, and a line from each input."""
-import layers_of_boxes as boxes
-import svg
-from graph_variables import edges, variables
+from . import layers_of_boxes as boxes
+from . import svg
+from .graph_variables import edges, variables
 
 HEIGHT, GAP, PIPE, MARGIN, TOP = 44, 16, 14, 24, 54
 

@@ -14,7 +14,7 @@ import fcntl
 import os
 import subprocess
 
-import sources
+from . import sources
 
 OUT = f"{sources.TOP}/crates/{sources.PROGRAM}/out"
 NAME = f"{OUT}/{sources.PROGRAM}"

@@ -1,8 +1,8 @@
 """Where things stand in the picture of a run: each command right of the one before it, and no label over another of its node."""
 import dataclasses
 
-import svg
-from run_events import UPDATES, spelled
+from . import svg
+from .run_events import UPDATES, spelled
 
 MARGIN, LEFT, TOP, BETWEEN = 20, 100, 76, 118
 # the least way from a command to the next, the room between labels, and how many columns a label has at most
