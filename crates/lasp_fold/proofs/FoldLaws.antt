@@ -19,7 +19,7 @@ use Rattle.model_sets.proofs.UpdateLaws.{changed-values}
 use Rattle.model_states.specs.Content.{row_limit}
 use Rattle.model_states.proofs.SizeLaws.{length-at_most}
 use Rattle.model_graph.specs.Increment.{IsChange}
-use Rattle.lasp_orset.specs.Pieces.{HaveSmallInts}
+use Rattle.model_sets.specs.Reads.{HaveSmallInts}
 use Rattle.lasp_fold.specs.Group.{IsSizedGroup}
 use Rattle.lasp_fold.specs.Fold.{IsWithinLimits, AreSized, taken_lift}
 use Rattle.lasp_fold.specs.Turns.{turns, turned}

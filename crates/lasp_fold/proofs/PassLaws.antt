@@ -8,7 +8,7 @@ use Rattle.model_sets.specs.Rows.{level}
 use Rattle.model_sets.specs.Values.{held, IsHeld}
 use Rattle.model_sets.proofs.ValueLaws.{held-small}
 use Rattle.model_sets.specs.Loops.{is_last, values_after}
-use Rattle.lasp_orset.proofs.SetLaws.{own_mark}
+use Rattle.model_sets.proofs.RowLaws.{own_mark}
 use Rattle.lasp_fns.specs.Steps.{one_more}
 use Rattle.lasp_fold.specs.Fold.{AreSized}
 use Rattle.lasp_fold.specs.Turns.{values_left, turns, turned, arrived, IsAlong}

@@ -1,5 +1,4 @@
 -- The laws of histories.
-pub mod RiseLaws
 pub mod GrowthLaws
 pub mod KeptLaws
 pub mod HistoryLaws

@@ -1,7 +1,8 @@
 -- One variable's history: which rows changed it, oldest first, and at which entries of a journal it grew.
 use Rattle.std.specs.Prelude.{◌≡◌, ℕ, ◌+◌, ◌≤◌, ◌<◌, max, if◌then◌else◌, nat_lt, IsTrue, List, [], ◌∷◌, ◌++◌, length, take}
 use Rattle.model_values.specs.Row.{Row}
-use Rattle.model_sets.specs.Rows.{level, mark, put, of_rows}
+use Rattle.model_sets.specs.Rows.{of_rows}
+use Rattle.model_sets.specs.Rises.{AreRises}
 use Rattle.model_graph.specs.Graph.{is_set, kind_at}
 use Rattle.model_journal.specs.Entry.{Entry, Frame}
 use Rattle.model_journal.specs.Journal.{graph, val}
@@ -34,11 +35,6 @@ version_before (g ∷ growths) n = if nat_lt g.entry n then version_before growt
 abbrev pub rows_before : List Growth → ℕ → ℕ
 rows_before [] n = 0
 rows_before (g ∷ growths) n = if nat_lt g.entry n then max g.rows (rows_before growths n) else rows_before growths n
-
--- each row raises what stands in the state and the rows before it
-abbrev pub AreRises : List Row → List Row → Type 0
-AreRises s [] = Unit {0}
-AreRises s (r ∷ log) = (mark s r.0.0 r.0.1 < level r.1) × AreRises (put r s) log
 
 -- each growth happened at one of the first n entries
 abbrev pub AreBelow : ℕ → List Growth → Type 0

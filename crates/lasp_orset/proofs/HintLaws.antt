@@ -6,10 +6,9 @@ use Rattle.std.specs.declared.cmp.Ordering.TheVariants.{Equal, Greater}
 use Rattle.std.specs.FinMap.Entries.{is_sorted, below_all}
 use Rattle.model_values.specs.Row.{Key, Row, key_cmp, key_exact}
 use Rattle.model_sets.specs.Rows.{IsAscending, level, mark}
-use Rattle.model_sets.proofs.RowLaws.{and-left, and-right, is-Equal, mark-below}
+use Rattle.model_sets.proofs.RowLaws.{own_mark, and-left, and-right, is-Equal, mark-below}
 use Rattle.lasp_orset.specs.Pieces.{joined, is_covered}
 use Rattle.lasp_orset.proofs.PlaceLaws.{first_cmp-at, head-below, row_mark-other, covered-by}
-use Rattle.lasp_orset.proofs.SetLaws.{own_mark}
 
 -- Of ascending rows one alone has a key.
 mark-at : (k : Key) (s : List Row) (i : ℕ) (d : Row) → IsAscending s → i < length s → key_cmp (get_or s i d).0 k ≡ Equal → mark s k.0 k.1 ≡ level (get_or s i d).1

@@ -3,7 +3,6 @@ pub mod PieceLaws
 pub mod SetLaws
 pub mod PushLaws
 pub mod CountLaws
-pub mod ReadLaws
 pub mod SpanLaws
 pub mod ShownLaws
 pub mod HintLaws

@@ -10,22 +10,12 @@ use Rattle.model_values.specs.Size.{HasSmallInts}
 use Rattle.model_values.specs.Token.{Tok}
 use Rattle.model_values.specs.Row.{Key, Row, key_cmp, key_total, key_exact}
 use Rattle.model_sets.specs.Rows.{IsAscending, put, join, IsAtMost, level, row_mark, mark}
-use Rattle.model_sets.proofs.RowLaws.{and-left, and-right, and-both, is-Equal, ascending-put, mark-put, mark-append, join-append, join-right, join-at_most-right}
-use Rattle.lasp_orset.specs.Pieces.{joined, AreFilled, HaveSmallInts, AreSound, is_covered}
+use Rattle.model_sets.proofs.RowLaws.{own_mark, and-left, and-right, and-both, is-Equal, ascending-put, join-append, join-right, join-at_most-right}
+use Rattle.model_sets.specs.Reads.{HaveSmallInts}
+use Rattle.model_sets.proofs.ReadLaws.{small-put, small-push}
+use Rattle.lasp_orset.specs.Pieces.{joined, AreFilled, AreSound, is_covered}
 
 -- ---- soundness
-
-small-more : (r : Row) (s t : List Row) → HasSmallInts r.0.0 → HaveSmallInts s → ((v : Val) (w : Tok) → mark t v w ≡ max (row_mark r v w) (mark s v w)) → HaveSmallInts t
-small-more r s t small ints more v w has = choose (eq_by_cmp key_cmp (v, w) r.0) refl where
-  choose : (b : Bool) → eq_by_cmp key_cmp (v, w) r.0 ≡ b → HasSmallInts v
-  choose true e = subst HasSmallInts (sym (ap (λ (k : Key). k.0) (key_exact (v, w) r.0 (is-Equal (key_cmp (v, w) r.0) e)))) small
-  choose false e = let none : row_mark r v w ≡ 0 = ap (λ (b : Bool). if b then level r.1 else 0) e in ints v w (omega (arith, none, has, more v w))
-
-pub small-put : (r : Row) (s : List Row) → HasSmallInts r.0.0 → HaveSmallInts s → HaveSmallInts (put r s)
-small-put r s small ints = small-more r s (put r s) small ints (mark-put r s)
-
-pub small-push : (r : Row) (s : List Row) → HasSmallInts r.0.0 → HaveSmallInts s → HaveSmallInts (s ++ r ∷ [])
-small-push r s small ints = small-more r s (s ++ r ∷ []) small ints (λ v w. omega (arith, mark-append s (r ∷ []) v w))
 
 pub sound-more : (css bss : List (List Row)) (n : ℕ) (r : Row) (added : Bool) → HasSmallInts r.0.0 → AreSound css n → n ≢ 2 ^ 32 → joined bss ≡ put r (joined css)
     → length (joined bss) ≡ (if added then length (joined css) + 1 else length (joined css)) → added ≡ true → AreFilled bss → AreSound bss (n + 1)
@@ -75,9 +65,6 @@ pub at_most-from_test : (s t : List Row) → IsTrue (list_all (is_covered t) s) 
 at_most-from_test [] t h v w = omega arith
 at_most-from_test (r ∷ s) t h v w =
     omega (arith, covered-mark r t v w (and-left (is_covered t r) (list_all (is_covered t) s) h), at_most-from_test s t (and-right (is_covered t r) (list_all (is_covered t) s) h) v w)
-
-pub own_mark : (r : Row) → row_mark r r.0.0 r.0.1 ≡ level r.1
-own_mark r = ap (λ o. if is_eq o then level r.1 else 0) (tied_itself key_total r.0)
 
 pub at_most-to_test : (s t : List Row) → IsAtMost s t → IsTrue (list_all (is_covered t) s)
 at_most-to_test [] t h = refl

@@ -4,9 +4,8 @@ use Rattle.std.specs.declared.cmp.Ordering.{Ordering}
 use Rattle.std.specs.declared.cmp.Ordering.TheVariants.{Greater}
 use Rattle.model_values.specs.Value.{Val, val_cmp}
 use Rattle.model_values.specs.Row.{Key, Row, key_cmp}
-use Rattle.model_values.specs.Token.{Tok}
-use Rattle.model_values.specs.Size.{HasSmallInts}
-use Rattle.model_sets.specs.Rows.{IsAscending, HasRow, level, mark}
+use Rattle.model_sets.specs.Rows.{IsAscending, level, mark}
+use Rattle.model_sets.specs.Reads.{HaveSmallInts}
 
 -- all rows, piece after piece
 abbrev pub joined : List (List Row) → List Row
@@ -39,10 +38,6 @@ pub record IsPlace (k : Key) (css : List (List Row)) (i : ℕ) : Type 0 where
   pub within : i < length css
   pub below : 0 < i → top_cmp k (drop i css) ≢ Greater
   pub above : top_cmp k (drop (suc i) css) ≡ Greater
-
--- each number in the values of the rows has at most 64 bits
-abbrev pub HaveSmallInts : List Row → Type 0
-HaveSmallInts s = (v : Val) (t : Tok) → HasRow s v t → HasSmallInts v
 
 -- what is kept: the number of rows, which ascend and have small numbers, in pieces of which none is empty
 pub record AreSound (css : List (List Row)) (count : ℕ) : Type 0 where

@@ -3,10 +3,10 @@
 ghost use Rattle.std.specs.Prelude.{◌≡◌, ◌≤◌, ◌^◌, ◌↔◌, ◌++◌, IfOk, OnOk, IsTrue, filter, length, string_bytes};
 ghost use Rattle.std.specs.Option.{option_map};
 ghost use Rattle.model_values.specs.Text.{shown_values};
+ghost use Rattle.model_sets.specs.Reads.{is_row_of, HasRowOf};
 ghost use Rattle.model_sets.specs.Rows.{IsAscending, is_of};
 ghost use Rattle.model_sets.specs.Values.{IsHeld, visible};
 ghost use Rattle.lasp_value.specs.Value.{val_of};
-ghost use Rattle.lasp_orset.specs.Reads.{is_row_of, HasRowOf};
 ghost use Rattle.model_sets.specs.Loops.{is_last};
 ghost use Rattle.lasp_orset.specs.Shown.{shown_next};
 

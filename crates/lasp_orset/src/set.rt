@@ -2,7 +2,8 @@
 
 ghost use Rattle.std.specs.Prelude.{◌≡◌, ◌≢◌, ◌≤◌, ◌^◌, ◌↔◌, ◌++◌, ◌∷◌, [], IfOk, OnOk, OnErr, IsTrue, length};
 ghost use Rattle.model_sets.specs.Rows.{IsAscending, put, join};
-ghost use Rattle.lasp_orset.specs.Pieces.{AreFilled, HaveSmallInts, joined};
+ghost use Rattle.model_sets.specs.Reads.{HaveSmallInts};
+ghost use Rattle.lasp_orset.specs.Pieces.{AreFilled, joined};
 
 use super::entry::Entry;
 use super::hint::{Hint, covers_near};

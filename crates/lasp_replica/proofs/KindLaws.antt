@@ -7,8 +7,8 @@ use Rattle.model_states.specs.Threshold.{set}
 use Rattle.model_graph.specs.Graph.{Kind, OrSet, GSet, Counter, MaxReg, Union, Product, Intersection, Map, Filter, Fold, is_source, is_set, IsInput}
 use Rattle.model_graph.specs.Evaluation.{least_of, content_at, equation}
 use Rattle.model_graph.specs.Lawful.{shape_of}
-use Rattle.lasp_history.specs.History.{AreRises}
-use Rattle.lasp_history.proofs.RiseLaws.{log-news, rises-news}
+use Rattle.model_sets.specs.Rises.{AreRises}
+use Rattle.model_sets.proofs.RiseLaws.{log-news, rises-news}
 use Rattle.lasp_graph.specs.Evaluated.{process, derived_shape, number_by}
 use Rattle.lasp_replica.specs.Parts.{first_input, second_input, news_of}
 

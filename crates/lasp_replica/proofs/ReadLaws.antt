@@ -23,7 +23,7 @@ use Rattle.model_journal.proofs.WordLaws.{applied-base}
 use Rattle.model_core.proofs.BaseLaws.{base-within, vals-take}
 use Rattle.model_core.proofs.ValidLaws.{val-width, val-small}
 use Rattle.lasp_history.specs.History.{version_before, rows_before}
-use Rattle.lasp_history.proofs.RiseLaws.{nothing-changed}
+use Rattle.model_sets.proofs.RiseLaws.{nothing-changed}
 use Rattle.lasp_history.proofs.HistoryLaws.{history-version, history-rows, history-changed, history-change}
 use Rattle.lasp_graph.specs.States.{held_at}
 use Rattle.lasp_graph.specs.Evaluated.{process}

@@ -13,7 +13,7 @@ use Rattle.model_states.specs.Threshold.{is_added, is_removed}
 use Rattle.model_states.proofs.ContentLaws.{order-test}
 use Rattle.model_states.proofs.DeltaLaws.{insert-value}
 use Rattle.model_states.proofs.ThresholdLaws.{added-words, removed-words}
-use Rattle.lasp_orset.specs.Reads.{HasRowOf}
+use Rattle.model_sets.specs.Reads.{HasRowOf}
 use Rattle.lasp_state.specs.Threshold.{is_in}
 
 -- two tests of one thing are equal

@@ -8,3 +8,5 @@ pub mod FoldLaws
 pub mod LoopLaws
 pub mod UpdateLaws
 pub mod TestLaws
+pub mod RiseLaws
+pub mod ReadLaws

@@ -5,6 +5,7 @@ use Rattle.std.specs.declared.cmp.Ordering.{Ordering}
 use Rattle.std.specs.declared.cmp.Ordering.TheVariants.{Less, Equal, Greater}
 use Rattle.std.specs.FinMap.Entries.{by_order, is_sorted, below_all, find, same_entries, is_sorted-put}
 use Rattle.std.specs.FinMap.Entries as entries
+use Rattle.std.specs.Cmp.{tied_itself}
 use Rattle.model_values.specs.Value.{Val}
 use Rattle.model_values.specs.Token.{Tok}
 use Rattle.model_values.specs.Row.{Key, Row, key_cmp, key_total, key_exact}
@@ -42,6 +43,10 @@ is-Equal Equal e = refl
 is-Equal Greater e = cc
 
 -- ---- marks
+
+-- What a row says of its own key.
+pub own_mark : (r : Row) → row_mark r r.0.0 r.0.1 ≡ level r.1
+own_mark r = ap (λ o. if is_eq o then level r.1 else 0) (tied_itself key_total r.0)
 
 level-or : (e a b : Bool) → (if e then level (a || b) else 0) ≡ max (if e then level a else 0) (if e then level b else 0)
 level-or false a b = refl

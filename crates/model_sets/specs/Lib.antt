@@ -6,3 +6,5 @@ pub mod Algebra
 pub mod Folds
 pub mod Loops
 pub mod Tests
+pub mod Rises
+pub mod Reads

@@ -6,6 +6,8 @@ mod folds;
 mod loops;
 mod plain;
 mod processes;
+mod reads;
+mod rises;
 mod states;
 mod updates;
 
@@ -19,5 +21,7 @@ pub use processes::{
     changed_rows_have_what_is_shown_anew, processes_are_monotone, processes_follow_increments,
     processes_have_these_rows, processes_send_joins_to_joins, what_changed_is_what_is_more,
 };
+pub use reads::passes_find_the_rows_of_a_value;
+pub use rises::logs_tell_what_changed;
 pub use states::{joins_go_by_parts, orders_can_be_tested, states_are_a_lattice};
 pub use updates::adds_survive_removes_that_did_not_observe_them;

@@ -1,7 +1,7 @@
 use Rattle.std.proofs.Common.{◌∙◌, ap, filter, true, false}
 use Rattle.model_sets.specs.Rows.{is_of}
 use Rattle.lasp_value.specs.Value.{val_of}
-use Rattle.lasp_orset.proofs.ReadLaws.{has_row-answer, row-found, row-none}
+use Rattle.model_sets.proofs.ReadLaws.{has_row-answer, row-found, row-none}
 use Rattle.lasp_orset.proofs.set.OrSet.has_row.Goals as goal
 
 pub returns-then-is_row_of : goal.returns-then-is_row_of

@@ -1,7 +1,7 @@
 use Rattle.std.proofs.Common.{◌≡◌, length}
 use Rattle.std.specs.List.{list_any}
 use Rattle.lasp_value.specs.Value.{val_of}
-use Rattle.lasp_orset.specs.Reads.{is_row_of}
+use Rattle.model_sets.specs.Reads.{is_row_of}
 use Rattle.lasp_orset.proofs.set.OrSet.has_row.Given as goal
 
 abbrev pub invariant-loop-row : goal.invariant-loop-row

@@ -1,15 +1,15 @@
--- What a pass over a value's rows tells of them.
-use Rattle.std.proofs.Common.{◌≡◌, ◌<◌, ◌≤◌, Bool, true, false, cond, not, ◌&&◌, ◌||◌, IsTrue, List, [], ◌∷◌, filter, refl, sym, ap, subst, ◌∙◌, arith, if◌then◌else◌}
+-- What a pass over rows tells of a value's rows, and that the numbers in rows stay small.
+use Rattle.std.proofs.Common.{◌≡◌, ◌↔◌, ◌<◌, ◌≤◌, max, Bool, true, false, cond, not, ◌&&◌, ◌||◌, IsTrue, List, [], ◌∷◌, ◌++◌, filter, refl, sym, ap, subst, ◌∙◌, arith, if◌then◌else◌}
 use Rattle.std.specs.Ordering.{is_eq, eq_by_cmp}
 use Rattle.std.specs.List.{list_any}
 use Rattle.std.specs.Cmp.{tied_itself}
 use Rattle.model_values.specs.Value.{Val, val_cmp, val_total, val_exact}
+use Rattle.model_values.specs.Size.{HasSmallInts}
 use Rattle.model_values.specs.Token.{Tok}
 use Rattle.model_values.specs.Row.{Key, Row, key_cmp, key_exact}
-use Rattle.model_sets.specs.Rows.{is_of, level, row_mark, mark}
-use Rattle.model_sets.proofs.RowLaws.{and-left, and-right, and-both, is-Equal, mark-small}
-use Rattle.lasp_orset.specs.Reads.{is_row_of, HasRowOf}
-use Rattle.lasp_orset.proofs.SetLaws.{own_mark}
+use Rattle.model_sets.specs.Rows.{is_of, level, row_mark, mark, put}
+use Rattle.model_sets.specs.Reads.{is_row_of, HasRowOf, HaveSmallInts}
+use Rattle.model_sets.proofs.RowLaws.{own_mark, and-left, and-right, and-both, is-Equal, mark-small, mark-append, mark-put}
 
 any-row-filter : (v : Val) (dead : Bool) (s : List Row) → list_any (is_row_of v dead) s ≡ list_any (is_row_of v dead) (filter (is_of v) s)
 any-row-filter v dead [] = refl
@@ -79,11 +79,19 @@ level-from_words : (v : Val) (dead : Bool) (s : List Row) → HasRowOf s v dead 
 level-from_words v true s h = (h.0, omega (arith, h.1))
 level-from_words v false s h = (h.0, omega (arith, h.1))
 
+-- The value has such a row where a pass over all rows finds one.
+pub row-words : (v : Val) (dead : Bool) (s : List Row) (b : Bool) → b ≡ list_any (is_row_of v dead) s → (IsTrue b → HasRowOf s v dead) × (HasRowOf s v dead → IsTrue b)
+row-words v dead s b all = (λ h. words-from_level v dead s (level-from_any v dead s (subst IsTrue all h)), λ h. let l = level-from_words v dead s h in subst IsTrue (sym all) (any-from_level v dead s l.0 l.1))
+
+pub any-words : (v : Val) (dead : Bool) (s : List Row) → IsTrue (list_any (is_row_of v dead) s) ↔ HasRowOf s v dead
+any-words v dead s = row-words v dead s (list_any (is_row_of v dead) s) refl
+
+pub ruleset reads = (any-words)
+
+-- The same of a pass over some rows among which are all those of the value.
 pub has_row-answer : (v : Val) (dead : Bool) (s near : List Row) (b : Bool) → filter (is_of v) near ≡ filter (is_of v) s → b ≡ list_any (is_row_of v dead) near
     → (IsTrue b → HasRowOf s v dead) × (HasRowOf s v dead → IsTrue b)
-has_row-answer v dead s near b kept is =
-    let all : b ≡ list_any (is_row_of v dead) s = is ∙ any-row-filter v dead near ∙ ap (list_any (is_row_of v dead)) kept ∙ sym (any-row-filter v dead s) in
-    (λ h. words-from_level v dead s (level-from_any v dead s (subst IsTrue all h)), λ h. let l = level-from_words v dead s h in subst IsTrue (sym all) (any-from_level v dead s l.0 l.1))
+has_row-answer v dead s near b kept is = row-words v dead s b (is ∙ any-row-filter v dead near ∙ ap (list_any (is_row_of v dead)) kept ∙ sym (any-row-filter v dead s))
 
 -- ---- a pass
 
@@ -94,3 +102,17 @@ row-found v dead rows rest near r same next is yes_it so_far =
 
 pub row-none : (v : Val) (dead : Bool) (rows near : List Row) → rows ≡ [] → list_any (is_row_of v dead) rows ≡ list_any (is_row_of v dead) near → false ≡ list_any (is_row_of v dead) near
 row-none v dead rows near done so_far = ap (list_any (is_row_of v dead)) (sym done) ∙ so_far
+
+-- ---- small numbers
+
+small-more : (r : Row) (s t : List Row) → HasSmallInts r.0.0 → HaveSmallInts s → ((v : Val) (w : Tok) → mark t v w ≡ max (row_mark r v w) (mark s v w)) → HaveSmallInts t
+small-more r s t small ints more v w has = choose (eq_by_cmp key_cmp (v, w) r.0) refl where
+  choose : (b : Bool) → eq_by_cmp key_cmp (v, w) r.0 ≡ b → HasSmallInts v
+  choose true e = subst HasSmallInts (sym (ap (λ (k : Key). k.0) (key_exact (v, w) r.0 (is-Equal (key_cmp (v, w) r.0) e)))) small
+  choose false e = let none : row_mark r v w ≡ 0 = ap (λ (b : Bool). if b then level r.1 else 0) e in ints v w (omega (arith, none, has, more v w))
+
+pub small-put : (r : Row) (s : List Row) → HasSmallInts r.0.0 → HaveSmallInts s → HaveSmallInts (put r s)
+small-put r s small ints = small-more r s (put r s) small ints (mark-put r s)
+
+pub small-push : (r : Row) (s : List Row) → HasSmallInts r.0.0 → HaveSmallInts s → HaveSmallInts (s ++ r ∷ [])
+small-push r s small ints = small-more r s (s ++ r ∷ []) small ints (λ v w. omega (arith, mark-append s (r ∷ []) v w))

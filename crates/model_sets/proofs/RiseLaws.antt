@@ -8,34 +8,33 @@ use Rattle.model_values.specs.Token.{Tok}
 use Rattle.model_values.specs.Row.{Key, Row, key_cmp, key_exact}
 use Rattle.model_sets.specs.Rows.{level, row_mark, mark, IsAscending, put, of_rows, join, IsAtMost}
 use Rattle.model_sets.specs.Equations.{changed}
-use Rattle.model_sets.proofs.RowLaws.{and-left, and-right, is-Equal, mark-append, mark-put, mark-of_rows, mark-join, mark-below, same_from_mark, ascending-of_rows, ascending-join}
+use Rattle.model_sets.specs.Rises.{AreRises, AreApart}
+use Rattle.model_sets.proofs.RowLaws.{own_mark, and-left, and-right, is-Equal, mark-append, mark-put, mark-of_rows, mark-join, mark-below, same_from_mark, ascending-of_rows, ascending-join}
 use Rattle.model_sets.proofs.EquationLaws.{changed-mark, ascending-changed}
-use Rattle.lasp_orset.proofs.SetLaws.{own_mark}
-use Rattle.lasp_history.specs.History.{AreRises}
 
 -- ---- one row
 
-level-some : (b : Bool) → 0 < level b
+pub level-some : (b : Bool) → 0 < level b
 level-some true = omega arith
 level-some false = omega arith
 
 -- what holds of a row's key holds where the row says something
-at-own : (P : Val → Tok → Type 0) (r : Row) (v : Val) (w : Tok) → 0 < row_mark r v w → P r.0.0 r.0.1 → P v w
+pub at-own : (P : Val → Tok → Type 0) (r : Row) (v : Val) (w : Tok) → 0 < row_mark r v w → P r.0.0 r.0.1 → P v w
 at-own P r v w h p = choose (eq_by_cmp key_cmp (v, w) r.0) refl h where
   choose : (b : Bool) → eq_by_cmp key_cmp (v, w) r.0 ≡ b → 0 < (if b then level r.1 else 0) → P v w
   choose true e h = subst (λ (k : Key). P k.0 k.1) (sym (key_exact (v, w) r.0 (is-Equal (key_cmp (v, w) r.0) e))) p
   choose false e h = absurd (omega (arith, h))
 
 -- a number is none or some
-none-or : (m n : ℕ) (P : Type 0) → (0 < m → P) → (m ≡ 0 → P) → P
+pub none-or : (m n : ℕ) (P : Type 0) → (0 < m → P) → (m ≡ 0 → P) → P
 none-or zero n P some none = none refl
 none-or (suc m) n P some none = some (omega arith)
 
-row-rise : (s : List Row) (r : Row) → mark s r.0.0 r.0.1 < level r.1 → (v : Val) (w : Tok) → 0 < row_mark r v w → mark s v w < row_mark r v w
+pub row-rise : (s : List Row) (r : Row) → mark s r.0.0 r.0.1 < level r.1 → (v : Val) (w : Tok) → 0 < row_mark r v w → mark s v w < row_mark r v w
 row-rise s r h v w some = at-own (λ u t. mark s u t < row_mark r u t) r v w some (omega (arith, h, own_mark r))
 
 -- where rows say something that a row doesn't key
-row-apart : (r : Row) (t : List Row) → mark t r.0.0 r.0.1 ≡ 0 → (v : Val) (w : Tok) → 0 < mark t v w → row_mark r v w ≡ 0
+pub row-apart : (r : Row) (t : List Row) → mark t r.0.0 r.0.1 ≡ 0 → (v : Val) (w : Tok) → 0 < mark t v w → row_mark r v w ≡ 0
 row-apart r t none v w some = none-or (row_mark r v w) 0 (row_mark r v w ≡ 0)
     (λ own. absurd (let gone : mark t v w ≡ 0 = at-own (λ u k. mark t u k ≡ 0) r v w own none in omega (arith, gone, some)))
     (λ e. e)
@@ -107,25 +106,40 @@ rest-changed log m up =
 
 -- ---- what is new
 
--- the changed rows rise, also from a state that says the same of them
-news-rise : (s t now : List Row) → IsAscending t → ((v : Val) (w : Tok) → 0 < mark t v w → mark now v w ≡ mark s v w) → AreRises now (changed s t)
-news-rise s [] now up same = tt
-news-rise s (r ∷ t) now up same = choose (nat_lt (mark s r.0.0 r.0.1) (level r.1)) refl
-    (λ next g. news-rise s t next (and-right (below_all key_cmp r.0 t) (is_sorted key_cmp t) up) g) where
-      apart : mark t r.0.0 r.0.1 ≡ 0
-      apart = mark-below r.0 t (and-left (below_all key_cmp r.0 t) (is_sorted key_cmp t) up)
+-- rows of keys that no other row has rise, from any state that has none of their keys
+pub apart-rises : (s t : List Row) → AreApart t → ((v : Val) (w : Tok) → 0 < mark t v w → mark s v w ≡ 0) → AreRises s t
+apart-rises s [] apart none = tt
+apart-rises s (r ∷ t) apart none = (
+  omega (arith, none r.0.0 r.0.1 (omega (arith, own_mark r, level-some r.1)), level-some r.1),
+  apart-rises (put r s) t apart.1 (λ v w some. omega (arith, mark-put r s v w, row-apart r t apart.0 v w some, none v w (omega (arith, some)))),
+)
 
-      choose : (b : Bool) → nat_lt (mark s r.0.0 r.0.1) (level r.1) ≡ b
-          → ((next : List Row) → ((v : Val) (w : Tok) → 0 < mark t v w → mark next v w ≡ mark s v w) → AreRises next (changed s t)) → AreRises now (cond b (r ∷ changed s t) (changed s t))
-      choose true e rest = (
-        let here : mark s r.0.0 r.0.1 < level r.1 = grind (arith, nat_tests, e) in
-            omega (arith, here, same r.0.0 r.0.1 (omega (arith, own_mark r, level-some r.1))),
-        rest (put r now) (λ v w some. omega (arith, mark-put r now v w, row-apart r t apart v w some, same v w (omega (arith, some)))),
-      )
-      choose false e rest = rest now (λ v w some. same v w (omega (arith, some)))
+pub ascending-apart : (s : List Row) → IsAscending s → AreApart s
+ascending-apart [] up = tt
+ascending-apart (r ∷ s) up = (mark-below r.0 s (and-left (below_all key_cmp r.0 s) (is_sorted key_cmp s) up), ascending-apart s (and-right (below_all key_cmp r.0 s) (is_sorted key_cmp s) up))
+
+pub ascending-rises : (t : List Row) → IsAscending t → AreRises [] t
+ascending-rises t up = apart-rises [] t (ascending-apart t up) (λ v w some. refl)
+
+-- of rows that rise those that are more than a state has rise, also from a state that says no more than both
+news-rise : (s before now log : List Row) → AreRises before log → ((v : Val) (w : Tok) → mark now v w ≤ max (mark s v w) (mark before v w)) → AreRises now (changed s log)
+news-rise s before now [] up low = tt
+news-rise s before now (r ∷ log) up low = choose (nat_lt (mark s r.0.0 r.0.1) (level r.1)) refl (λ next g. news-rise s (put r before) next log up.1 g) where
+  choose : (b : Bool) → nat_lt (mark s r.0.0 r.0.1) (level r.1) ≡ b
+      → ((next : List Row) → ((v : Val) (w : Tok) → mark next v w ≤ max (mark s v w) (mark (put r before) v w)) → AreRises next (changed s log)) → AreRises now (cond b (r ∷ changed s log) (changed s log))
+  choose true e rest = (
+    let here : mark s r.0.0 r.0.1 < level r.1 = grind (arith, nat_tests, e) in
+        omega (arith, here, up.0, low r.0.0 r.0.1),
+    rest (put r now) (λ v w. omega (arith, mark-put r now v w, mark-put r before v w, low v w)),
+  )
+  choose false e rest = rest now (λ v w. omega (arith, mark-put r before v w, low v w))
+
+-- what is new of a log that rises, rises
+pub news-rises : (s log : List Row) → AreRises [] log → AreRises s (changed s log)
+news-rises s log up = news-rise s [] s log up (λ v w. omega arith)
 
 pub changed-rises : (s t : List Row) → IsAscending t → AreRises s (changed s t)
-changed-rises s t up = news-rise s t s up (λ v w some. refl)
+changed-rises s t up = news-rises s t (ascending-rises t up)
 
 join-number : (m n : ℕ) → max m (if nat_lt m n then n else 0) ≡ max m n
 join-number m n = grind (arith, nat_tests)
@@ -167,3 +181,41 @@ nothing-changed s t = (
   λ e v w. nothing-number (mark s v w) (mark t v w) (ap (λ (z : List Row). mark z v w) (sym e) ∙ changed-mark s t v w),
   λ low. nothing-marked (changed s t) (λ v w. changed-mark s t v w ∙ still-number (mark s v w) (mark t v w) (low v w)),
 )
+
+-- ---- one log behind another
+
+pub changed-alike : (s s' t : List Row) → ((v : Val) (w : Tok) → mark s v w ≡ mark s' v w) → changed s t ≡ changed s' t
+changed-alike s s' [] same = refl
+changed-alike s s' (r ∷ t) same =
+    ap (λ (n : ℕ). cond (nat_lt n (level r.1)) (r ∷ changed s t) (changed s t)) (same r.0.0 r.0.1)
+    ∙ ap (λ (rest : List Row). cond (nat_lt (mark s' r.0.0 r.0.1) (level r.1)) (r ∷ rest) rest) (changed-alike s s' t same)
+
+-- the state of what is new is what is new of the states
+pub news-state : (s t : List Row) → of_rows (changed s t) ≡ changed (of_rows s) (of_rows t)
+news-state s t =
+    same_from_mark (of_rows (changed s t)) (changed (of_rows s) (of_rows t)) (ascending-of_rows (changed s t)) (ascending-changed (of_rows s) (of_rows t) (ascending-of_rows t))
+    (λ v w. mark-of_rows (changed s t) v w ∙ changed-mark s t v w
+    ∙ sym (changed-mark (of_rows s) (of_rows t) v w
+    ∙ ap (λ (m : ℕ). if nat_lt m (mark (of_rows t) v w) then mark (of_rows t) v w else 0) (mark-of_rows s v w)
+    ∙ ap (λ (n : ℕ). if nat_lt (mark s v w) n then n else 0) (mark-of_rows t v w)))
+
+-- rows that rise from what a log says go on with it
+pub rises-behind : (log more : List Row) → AreRises [] log → AreRises log more → AreRises [] (log ++ more)
+rises-behind log more up then_up = rises-append [] log log more (λ v w. omega arith) up then_up
+
+pub rises-joined : (log more : List Row) → AreRises [] log → AreRises [] more → AreRises [] (log ++ changed log more)
+rises-joined log more up next = rises-behind log (changed log more) up (news-rises log more next)
+
+pub log-joined : (log more : List Row) → of_rows (log ++ changed log more) ≡ join (of_rows log) (of_rows more)
+log-joined log more = same_from_mark (of_rows (log ++ changed log more)) (join (of_rows log) (of_rows more)) (ascending-of_rows (log ++ changed log more)) (ascending-join (of_rows log) (of_rows more))
+    (λ v w. omega (
+      arith,
+      mark-of_rows (log ++ changed log more) v w,
+      mark-append log (changed log more) v w,
+      changed-more log more v w,
+      mark-join (of_rows log) (of_rows more) v w,
+      mark-of_rows log v w,
+      mark-of_rows more v w,
+    ))
+
+pub ruleset rises = (rest-changed, ascending-rises, rises-joined, log-joined)
