@@ -1,0 +1,2 @@
+-- Laws of the chunks that a log is kept in.
+pub mod LogLaws

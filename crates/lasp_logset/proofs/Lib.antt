@@ -1,0 +1,3 @@
+-- Laws of a set that is kept as its log and a table.
+pub mod KeptLaws
+pub mod LiveLaws

@@ -1,0 +1,22 @@
+-- What is kept of a set beside its log.
+use Rattle.std.specs.Prelude.{◌≡◌, ℕ, ◌≤◌, List, [], length}
+use Rattle.model_values.specs.Value.{Val}
+use Rattle.model_values.specs.Token.{Tok}
+use Rattle.model_values.specs.Row.{Row}
+use Rattle.model_sets.specs.Rows.{mark, of_rows}
+use Rattle.model_sets.specs.Rises.{AreRises}
+use Rattle.model_sets.specs.Reads.{HaveSmallInts}
+
+-- a table of rows tells what the log tells
+pub record AreKept (rows log : List Row) : Type 0 where
+  pub marks : (v : Val) (w : Tok) → mark log v w ≡ mark rows v w
+  -- each row of the log tells more than those before it
+  pub rises : AreRises [] log
+  pub ints : HaveSmallInts log
+  pub few : length rows ≤ length log
+
+-- a log that was shared, and how many rows it tells of
+pub record IsPast (log : List Row) (rows : ℕ) : Type 0 where
+  pub rises : AreRises [] log
+  pub ints : HaveSmallInts log
+  pub counted : rows ≡ length (of_rows log)

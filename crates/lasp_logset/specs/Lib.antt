@@ -1,0 +1,4 @@
+pub mod Fed
+pub mod Kept
+pub mod Live
+pub mod Orders

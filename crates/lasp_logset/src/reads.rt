@@ -1,0 +1,103 @@
+//! What a set shows, and its rows in either order.
+
+ghost use Rattle.std.specs.Prelude.{◌≡◌, ◌↔◌, IfOk, IsTrue, length};
+ghost use Rattle.std.specs.Option.{option_map};
+ghost use Rattle.model_sets.specs.Rows.{of_rows, join};
+ghost use Rattle.model_sets.specs.Rises.{AreApart};
+ghost use Rattle.model_sets.specs.Reads.{is_row_of, HasRowOf};
+ghost use Rattle.model_sets.specs.Values.{IsHeld, visible};
+ghost use Rattle.model_sets.specs.Loops.{is_last};
+ghost use Rattle.lasp_value.specs.Value.{val_of};
+
+use super::live::scan_live;
+use super::rows::{Rows, TableRow};
+use super::set::LogSet;
+use super::table::count_new;
+use lasp_value::{Value, Values};
+use std::alloc::AllocError;
+
+impl LogSet {
+    /// A pass over the rows in the order in which their keys came.
+    pub fn iter(&self) -> Rows<'_>
+        ensures rows { of_rows result ≡ of_rows self.now }
+        ensures apart { AreApart result }
+    {
+        Rows::of(self.table().iter())
+    }
+
+    /// The rows, ascending by value and then by token. It takes memory for a pointer to each, and sorts these.
+    pub fn sorted(&self) -> Result<Vec<TableRow<'_>>, AllocError>
+        ensures { IfOk result (λ rows. rows.items ≡ of_rows self.now) }
+    {
+        let mut sorted = Vec::with_capacity(self.allocator(), self.table().len())?;
+        let mut rows = self.iter();
+        while let Some(row) = rows.next() {
+            sorted.push(row)?;
+        }
+        sorted.sort()?;
+        Ok(sorted)
+    }
+
+    /// Whether the value has a live row. It costs a pass over the rows.
+    pub fn has(&self, value: &Value) -> bool
+        ensures { IsTrue result ↔ IsHeld (visible (of_rows self.now)) (val_of value.now) }
+    {
+        let rows = self.table();
+        scan_live(rows, 0, value) < rows.len()
+    }
+
+    /// Whether the value has a row, and a dead one where `dead` is true. It costs a pass over the rows.
+    pub fn has_row(&self, value: &Value, dead: bool) -> bool
+        ensures { IsTrue result ↔ HasRowOf self.now (val_of value.now) dead }
+    {
+        let mut rows = self.iter();
+        while let Some(row) = rows.next() {
+            if is_row_of(&row, value, dead) {
+                return true;
+            }
+        }
+        false
+    }
+
+    /// The values with a live row, ascending, each once. It costs what `sorted` does.
+    pub fn visible(&self) -> Result<Values, AllocError>
+        ensures { IfOk result (λ values. values ≡ visible (of_rows self.now)) }
+    {
+        let alloc = self.allocator();
+        let mut values = Values::new(alloc);
+        let mut last: Option<&Value> = None;
+        let sorted = self.sorted()?;
+        for row in &sorted {
+            if row.is_dead() || is_shown(last, row.value()) {
+                continue;
+            }
+            values.push(row.value().try_clone(alloc)?)?;
+            last = Some(row.value());
+        }
+        Ok(values)
+    }
+
+    /// The number of rows that the join with another set has, dead ones counted. Each row of the other set costs a look-up. It takes no memory.
+    pub fn joined_rows(&self, other: &LogSet) -> u64
+        ensures { result ≡ length (join (of_rows self.now) (of_rows other.now)) }
+    {
+        self.rows() + count_new(self.table(), other.table())
+    }
+}
+
+/// Whether the row is of the value, and dead where `dead` is true.
+fn is_row_of(row: &TableRow, value: &Value, dead: bool) -> bool
+    ensures { result ≡ is_row_of (val_of value.now) dead row.now }
+{
+    row.is_of(value) && (row.is_dead() || !dead)
+}
+
+/// Whether the value is the last one that was shown.
+fn is_shown(last: Option<&Value>, value: &Value) -> bool
+    ensures { result ≡ is_last (option_map (λ v. val_of v.now) last.entry) (val_of value.now) }
+{
+    match last {
+        Some(shown) => *shown == *value,
+        None => false,
+    }
+}

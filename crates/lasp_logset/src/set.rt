@@ -1,0 +1,187 @@
+//! The set: the least one, the order, the join, and how rows come in.
+
+ghost use Rattle.std.specs.Prelude.{◌≡◌, ◌≢◌, ◌≤◌, ◌^◌, ◌↔◌, ◌++◌, ◌∷◌, [], IfOk, OnOk, OnErr, IsTrue, length, nat_lt};
+ghost use Rattle.model_sets.specs.Rows.{level, mark, of_rows, IsAtMost};
+ghost use Rattle.model_sets.specs.Equations.{changed};
+ghost use Rattle.model_sets.specs.Rises.{AreRises, AreApart};
+ghost use Rattle.model_sets.specs.Reads.{HaveSmallInts};
+ghost use Rattle.lasp_logset.specs.Kept.{AreKept};
+
+use super::coming::Coming;
+use super::entry::Entry;
+use super::name::Name;
+use super::past::Past;
+use super::table::{brings_nothing, news, put_in, put_news, raises};
+use indexmap::IndexMap;
+use lasp_log::Log;
+use std::alloc::{AllocError, Global};
+use std::marker::Model;
+
+/// An observed-remove set, seen as its log: each row tells more than the rows before it.
+#[derive(Drop)]
+pub struct LogSet {
+    rows: IndexMap<Name, bool>,
+    log: Log<Entry>,
+}
+
+impl Model for LogSet {
+    ghost use Rattle.std.specs.Prelude.{List};
+    ghost use Rattle.model_values.specs.Row.{Row, coded_rows};
+    ghost use Rattle.lasp_logset.specs.Kept.{AreKept};
+
+    ghost Value = { List Row };
+
+    ghost coded = { coded_rows };
+
+    ghost view = { λ a. a.log.items };
+
+    ghost invariant = { λ a. AreKept a.rows.entries a.log.items };
+}
+
+impl LogSet {
+    /// The least set, which has no rows; it takes no memory yet.
+    pub fn new(alloc: Global) -> LogSet
+        ensures { result ≡ [] }
+    {
+        LogSet {
+            rows: IndexMap::new(alloc),
+            log: Log::new(alloc),
+        }
+    }
+
+    /// The least set, by the same allocator. It takes no memory yet.
+    pub fn empty(&self) -> LogSet
+        ensures { result ≡ [] }
+    {
+        LogSet::new(self.allocator())
+    }
+
+    /// The allocator that the set was made with.
+    pub(crate) fn allocator(&self) -> Global {
+        self.log.allocator()
+    }
+
+    /// The rows by their keys.
+    pub(crate) fn table(&self) -> &IndexMap<Name, bool>
+        ensures kept { AreKept result.now.entries self.now }
+        ensures apart { AreApart result.now.entries }
+        ensures small { length result.now.entries ≤ 2 ^ 32 }
+    {
+        let _version = self.log.len();
+        let _count = self.rows.len();
+        &self.rows
+    }
+
+    /// The number of rows, dead ones counted.
+    pub fn rows(&self) -> u64
+        ensures exact { result ≡ length (of_rows self.now) }
+        ensures small { result ≤ 2 ^ 32 }
+    {
+        let _version = self.log.len();
+        self.rows.len() as u64
+    }
+
+    /// The number of changes: of rows that came, and of rows that died after they had come.
+    pub fn version(&self) -> u64
+        ensures exact { result ≡ length self.now }
+        ensures small { result ≤ 2 ^ 32 }
+    {
+        self.log.len() as u64
+    }
+
+    /// Recalls, at no cost, that each row of the log tells more than those before it.
+    pub fn rises(&self)
+        ensures { AreRises [] self.now }
+    {
+        let _log = &self.log;
+    }
+
+    /// Recalls, at no cost, that each number in its values has at most 64 bits.
+    pub fn recall_ints(&self)
+        ensures { HaveSmallInts self.now }
+    {
+        let _log = &self.log;
+    }
+
+    /// Whether a row tells more than the set: where no row has its key, or where it is dead in this row alone. It costs a look-up.
+    pub fn raises(&self, entry: &Entry) -> bool
+        ensures { result ≡ nat_lt (mark self.now entry.now.0.0 entry.now.0.1) (level entry.now.1) }
+    {
+        raises(&self.rows, entry.name(), entry.is_dead())
+    }
+
+    /// The order: each row of this set is in the other one, and is dead there if it is dead here. It costs a look-up for each row of the log, up to the first that the other set lacks.
+    pub fn le(&self, other: &LogSet) -> bool
+        ensures { IsTrue result ↔ IsAtMost self.now other.now }
+    {
+        other.covers(&self.log)
+    }
+
+    /// Whether each row of a log is in the set, and is dead here if it is dead there.
+    pub(crate) fn covers(&self, log: &Log<Entry>) -> bool
+        ensures { IsTrue result ↔ IsAtMost log.now.items self.now }
+    {
+        brings_nothing(&self.rows, log)
+    }
+
+    /// Puts a row behind the log, where it tells more, and answers whether it does. It costs two look-ups.
+    pub fn add(&mut self, entry: Entry) -> Result<bool, AllocError>
+        ensures ok { OnOk result (self.new ≡ self.old ++ changed self.old (entry ∷ [])) }
+        ensures grew { IfOk result (λ grew. grew ≡ nat_lt (mark self.old entry.0.0 entry.0.1) (level entry.1)) }
+        ensures err { OnErr result (self.new ≡ self.old) }
+    {
+        if !raises(&self.rows, entry.name(), entry.is_dead()) {
+            return Ok(false);
+        }
+        let coming = Coming::of(entry)?;
+        self.log.reserve(1)?;
+        put_in(&mut self.rows, &mut self.log, coming)?;
+        self.log.seal();
+        Ok(true)
+    }
+
+    /// Joins another set in: what is new of its log goes behind this one. It answers whether this made a difference. Each row of the other log costs a look-up, and each new one another. Where nothing is new it takes no memory.
+    pub fn join_in(&mut self, other: &LogSet) -> Result<bool, AllocError>
+        ensures ok { OnOk result (self.new ≡ self.old ++ changed self.old other.now) }
+        ensures grew { IfOk result (λ grew. IsTrue grew ↔ (of_rows self.new ≢ of_rows self.old)) }
+        ensures err { OnErr result (self.new ≡ self.old) }
+    {
+        other.rises();
+        self.join_log(&other.log)
+    }
+
+    /// Joins a state of the past of a set in, as `join_in` does.
+    pub fn join_past(&mut self, past: &Past) -> Result<bool, AllocError>
+        ensures ok { OnOk result (self.new ≡ self.old ++ changed self.old past.now) }
+        ensures grew { IfOk result (λ grew. IsTrue grew ↔ (of_rows self.new ≢ of_rows self.old)) }
+        ensures err { OnErr result (self.new ≡ self.old) }
+    {
+        past.rises();
+        self.join_log(past.log())
+    }
+
+    fn join_log(&mut self, log: &Log<Entry>) -> Result<bool, AllocError>
+        requires { AreRises [] log.now.items }
+        ensures ok { OnOk result (self.new ≡ self.old ++ changed self.old log.now.items) }
+        ensures grew { IfOk result (λ grew. IsTrue grew ↔ (of_rows self.new ≢ of_rows self.old)) }
+        ensures err { OnErr result (self.new ≡ self.old) }
+    {
+        let news = news(self.log.allocator(), &self.rows, log)?;
+        if news.is_empty() {
+            return Ok(false);
+        }
+        self.rows.reserve(news.len())?;
+        self.log.reserve(news.len())?;
+        put_news(&mut self.rows, &mut self.log, news);
+        self.log.seal();
+        Ok(true)
+    }
+
+    /// The state as it is now. It costs what a share of the log does, and stays as it is when the set grows.
+    pub fn past(&self) -> Result<Past, AllocError>
+        ensures { IfOk result (λ p. p ≡ self.now) }
+    {
+        let rows = self.rows();
+        Ok(Past::of(self.log.share()?, rows))
+    }
+}
