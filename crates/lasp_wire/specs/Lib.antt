@@ -1,5 +1,6 @@
 pub mod Decoded
 pub mod Length
+pub mod Placed
 pub mod Read
 pub mod Sent
 pub mod Written

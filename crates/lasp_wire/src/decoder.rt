@@ -1,11 +1,13 @@
 //! The message that bytes are.
 
-ghost use Rattle.std.specs.Prelude.{◌≡◌, IfOk, Ok};
+ghost use Rattle.std.specs.Prelude.{◌≡◌, ℕ, IfOk, IfErr, Result, Ok, Err};
 ghost use Rattle.model_messages.specs.Message as plain;
 ghost use Rattle.model_wire.specs.Message.{decoded, decoded_from};
+ghost use Rattle.model_wire.specs.declared.wire_why.WireWhy.{WireWhy};
 ghost use Rattle.model_wire.specs.Lawful.{IsMessage, IsSpelledSo};
+ghost use Rattle.model_wire.specs.Stuck.{IsStuck};
 ghost use Rattle.lasp_wire.specs.Read.{Fails};
-ghost use Rattle.lasp_wire.specs.Decoded.{Refuses, Tells, parts_of};
+ghost use Rattle.lasp_wire.specs.Decoded.{Refuses, Tells, IsStuckAs, parts_of};
 
 use super::counts::Counts;
 use super::message::Message;
@@ -21,6 +23,10 @@ pub fn decode(alloc: Global, bytes: &[u8]) -> Result<Message, WireRefused>
     ensures read { IfOk result (λ m. IsMessage m × IsSpelledSo m bytes.now) }
     // What is spelled so is read.
     ensures only { (m : plain.Message) → IsMessage m → IsSpelledSo m bytes.now → Tells (λ n. n) result (Ok m) }
+    // A refusal tells where whole lawful fields, in order, end, and what stands there fails.
+    ensures stuck { IfErr result (λ e. IsStuckAs e bytes.now) }
+    // Where they end so, that is told.
+    ensures refused { (place : ℕ) (why : WireWhy) → IsStuck bytes.now place why → Tells (λ n. n) result (Err (place, why)) }
 {
     let parts = parts_in(alloc, bytes)?;
     let counts = Counts::of(parts.counts);
@@ -39,7 +45,7 @@ fn parts_in(alloc: Global, bytes: &[u8]) -> Result<Parts, WireRefused>
 
 /// The refusal with the place of its field, counted from the first byte.
 fn placed(bytes: &[u8], e: ReadError) -> WireRefused
-    ensures { (read : _) → Fails e read → Refuses result (decoded_from bytes.now read) }
+    ensures { (read : Result plain.Message (ℕ × WireWhy)) → Fails e read → Refuses result (decoded_from bytes.now read) }
 {
     match e {
         ReadError::At(left, why) => WireRefused::At {

@@ -1,10 +1,11 @@
 //! The bytes of a message.
 
-ghost use Rattle.std.specs.Prelude.{◌≡◌, ◌≤◌, ◌++◌, ◌∷◌, [], IfOk, OnOk, codes, flat_map, length};
-ghost use Rattle.model_messages.specs.Spelling.{number, spelled};
+ghost use Rattle.std.specs.Prelude.{◌≡◌, ◌++◌, ◌∷◌, [], IfOk, OnOk, codes, flat_map, length};
+ghost use Rattle.model_messages.specs.Spelling.{number, spelled, spelled_counts, spelled_source};
 
+use super::counts::Counts;
 use super::message::Message;
-use super::write::{put_sources, put_u8, put_u64};
+use super::write;
 use std::alloc::{AllocError, Global};
 
 /// The one spelling of a message in version 2. It costs one pass, and for each set a list of its rows' addresses beside the bytes.
@@ -15,9 +16,9 @@ pub fn encode(alloc: Global, m: &Message) -> Result<Vec<u8>, AllocError>
     m.recall();
     let mut out = Vec::new(alloc);
     put_beginning(&mut out)?;
-    put_counts(&mut out, m.counts().as_slice())?;
-    put_u8(&mut out, m.len() as u8)?;
-    put_sources(alloc, &mut out, m.sources())?;
+    write::put_u8(&mut out, m.counts().len() as u8)?;
+    put_counts(&mut out, m.counts())?;
+    put_sources(alloc, &mut out, m)?;
     Ok(out)
 }
 
@@ -28,14 +29,22 @@ fn put_beginning(out: &mut Vec<u8>) -> Result<(), AllocError>
     out.extend_from_slice(b"LASP\x02")
 }
 
-/// The counts, with their number before them.
-fn put_counts(out: &mut Vec<u8>, counts: &[u64]) -> Result<(), AllocError>
-    requires { length counts.now ≤ 8 }
-    ensures { OnOk result (out.new.items ≡ out.old.items ++ (number 1 (length counts.now) ++ flat_map (number 8) counts.now)) }
+/// Appends counts, eight bytes each. After want of memory a part may have been appended.
+pub fn put_counts(out: &mut Vec<u8>, counts: &Counts) -> Result<(), AllocError>
+    ensures { OnOk result (out.new.items ≡ out.old.items ++ spelled_counts counts.now) }
 {
-    put_u8(out, counts.len() as u8)?;
-    for count in counts {
-        put_u64(out, *count)?;
+    let items = counts.as_slice();
+    for count in items {
+        write::put_u64(out, *count)?;
     }
     Ok(())
+}
+
+/// Appends the sources of a message as version 2 has them, with their number before them. After want of memory a part may have been appended.
+pub fn put_sources(alloc: Global, out: &mut Vec<u8>, m: &Message) -> Result<(), AllocError>
+    ensures { OnOk result (out.new.items ≡ out.old.items ++ (number 1 (length m.now.sources) ++ flat_map spelled_source m.now.sources)) }
+{
+    m.recall();
+    write::put_u8(out, m.len() as u8)?;
+    write::put_sources(alloc, out, m.sources())
 }

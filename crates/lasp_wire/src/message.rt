@@ -68,6 +68,17 @@ impl Message {
         Ok(())
     }
 
+    /// The same sources with other counts.
+    pub fn with_counts(self, counts: Counts) -> Message
+        requires { IsMessage (message counts self.sources) }
+        ensures { result ≡ message counts self.sources }
+    {
+        Message {
+            counts,
+            sources: self.sources,
+        }
+    }
+
     /// Recalls, at no cost, that it is a message whose parts are in their ranges.
     pub fn recall(&self)
         ensures { IsMessage self.now }

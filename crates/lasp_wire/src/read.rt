@@ -12,4 +12,6 @@ mod states;
 mod tokens;
 mod values;
 
-pub(crate) use message::{Parts, all_in};
+pub(crate) use message::{Parts, all_in, magic_in};
+pub(crate) use numbers::{u8_in, u64_in};
+pub(crate) use sources::sources_in;

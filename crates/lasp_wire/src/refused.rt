@@ -20,6 +20,28 @@ pub enum WireRefused {
     Memory,
 }
 
+impl From<AllocError> for WireRefused {
+    ghost use Rattle.std.specs.Prelude.{◌≡◌};
+    ghost use Rattle.lasp_wire.specs.declared.refused.WireRefused.TheVariants.{Memory};
+
+    ghost from_gives = { λ _ error. error ≡ Memory };
+
+    fn from(_error: AllocError) -> WireRefused {
+        WireRefused::Memory
+    }
+}
+
+impl<T: Drop> From<AllocFailed<T>> for WireRefused {
+    ghost use Rattle.std.specs.Prelude.{◌≡◌};
+    ghost use Rattle.lasp_wire.specs.declared.refused.WireRefused.TheVariants.{Memory};
+
+    ghost from_gives = { λ _ error. error ≡ Memory };
+
+    fn from(_error: AllocFailed<T>) -> WireRefused {
+        WireRefused::Memory
+    }
+}
+
 /// Why a field wasn't read.
 #[derive(Clone, Copy, PartialEq, Eq, Debug)]
 pub enum ReadError {

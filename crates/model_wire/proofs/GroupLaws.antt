@@ -21,10 +21,10 @@ use Rattle.model_wire.proofs.RowLaws.{spelled_mark, token_codec}
 use Rattle.model_wire.proofs.SetLaws.{RowsRise, rows_known, rows_rise}
 use Rattle.model_wire.proofs.OrderLaws.{less}
 
-abbrev Mark : Type 0
+abbrev pub Mark : Type 0
 Mark = Tok × Bool
 
-abbrev MarksRise : ℕ → Option Mark → List Mark → Type 0
+abbrev pub MarksRise : ℕ → Option Mark → List Mark → Type 0
 MarksRise nodes before marks = AllHave (Option Mark) Mark (λ s. HasTested Mark (IsToken nodes) (is_above mark_cmp s)) latest before marks
 
 -- ---- rows of groups are the rows that were grouped
@@ -49,7 +49,7 @@ groups_back (r ∷ rows) = with_row_back r (groups_of rows) ∙ ap (λ (s : List
 -- ---- groups whose values rise, each with tokens that rise
 
 -- the groups behind a value: each has tokens, and its value stands above the one before it
-abbrev Rise : ℕ → Option Val → List Group → Type 0
+abbrev pub Rise : ℕ → Option Val → List Group → Type 0
 Rise nodes before [] = Unit {0}
 Rise nodes before (g ∷ gs) = (is_above val_cmp before g.value ≡ true) × IsSourceValue g.value × (1 ≤ length g.tokens) × MarksRise nodes None g.tokens × Rise nodes (Some g.value) gs
 
@@ -157,34 +157,34 @@ rows_groups nodes (r ∷ rows) h =
 
 -- ---- how many rows the groups have
 
-length_group : (g : Group) (gs : List Group) → length (rows_of (g ∷ gs)) ≡ length g.tokens + length (rows_of gs)
+pub length_group : (g : Group) (gs : List Group) → length (rows_of (g ∷ gs)) ≡ length g.tokens + length (rows_of gs)
 length_group g gs = length-append (rows_of_group g) (rows_of gs) ∙ ap (λ (n : ℕ). n + length (rows_of gs)) (length-map g.tokens (row_of g.value))
 
 groups_few : (nodes : ℕ) (before : Option Val) (gs : List Group) → Rise nodes before gs → length gs ≤ length (rows_of gs)
 groups_few nodes before [] h = omega arith
 groups_few nodes before (g ∷ gs) h = omega (arith, h.2, length_group g gs, groups_few nodes (Some g.value) gs h.4)
 
-abbrev HasMarks : ℕ → ℕ → List Mark → Type 0
+abbrev pub HasMarks : ℕ → ℕ → List Mark → Type 0
 HasMarks nodes room = HasCounted ℕ (List Mark) (HasRange 4294967296 1 room) length (λ n. HasMany (Option Mark) Mark (λ s. HasTested Mark (IsToken nodes) (is_above mark_cmp s)) latest n None)
 
-abbrev HasGroup : ℕ → Before → Group → Type 0
+abbrev pub HasGroup : ℕ → Before → Group → Type 0
 HasGroup nodes before g = HasTested Val IsSourceValue (is_above val_cmp before.0) g.value × HasMarks nodes (65536 - before.1) g.tokens
 
-abbrev GroupsHave : ℕ → Before → List Group → Type 0
+abbrev pub GroupsHave : ℕ → Before → List Group → Type 0
 GroupsHave nodes before gs = AllHave Before Group (HasGroup nodes) after_group before gs
 
-groups_rise : (nodes : ℕ) (before : Before) (gs : List Group) → GroupsHave nodes before gs → Rise nodes before.0 gs
+pub groups_rise : (nodes : ℕ) (before : Before) (gs : List Group) → GroupsHave nodes before gs → Rise nodes before.0 gs
 groups_rise nodes before [] h = tt
 groups_rise nodes before (g ∷ gs) h =
     (h.0.0.1, h.0.0.0, (within_range 1 (65536 - before.1) (length g.tokens) h.0.1.0.1).0, h.0.1.1.1, groups_rise nodes (after_group before g) gs h.1)
 
-groups_fit : (nodes : ℕ) (before : Before) (gs : List Group) → before.1 ≤ 65536 → GroupsHave nodes before gs → before.1 + length (rows_of gs) ≤ 65536
+pub groups_fit : (nodes : ℕ) (before : Before) (gs : List Group) → before.1 ≤ 65536 → GroupsHave nodes before gs → before.1 + length (rows_of gs) ≤ 65536
 groups_fit nodes before [] few h = omega arith
 groups_fit nodes before (g ∷ gs) few h =
     let fits = (within_range 1 (65536 - before.1) (length g.tokens) h.0.1.0.1).1 in
     omega (arith, fits, length_group g gs, groups_fit nodes (after_group before g) gs (omega (arith, fits)) h.1)
 
-groups_have : (nodes : ℕ) (before : Before) (gs : List Group) → Rise nodes before.0 gs → before.1 + length (rows_of gs) ≤ 65536 → GroupsHave nodes before gs
+pub groups_have : (nodes : ℕ) (before : Before) (gs : List Group) → Rise nodes before.0 gs → before.1 + length (rows_of gs) ≤ 65536 → GroupsHave nodes before gs
 groups_have nodes before [] h few = tt
 groups_have nodes before (g ∷ gs) h few =
     let long = length_group g gs in
@@ -195,7 +195,7 @@ groups_have nodes before (g ∷ gs) h few =
 
 -- ---- version 2
 
-group_codec : (nodes : ℕ) → IsNodes nodes → (before : Before) → IsCodec Group (HasGroup nodes before) spelled_group (group_at nodes before)
+pub group_codec : (nodes : ℕ) → IsNodes nodes → (before : Before) → IsCodec Group (HasGroup nodes before) spelled_group (group_at nodes before)
 unfolding group_at tokens_at
 group_codec nodes n before =
     made_codec (Val × List Mark) Group (HasBoth Val (List Mark) (HasTested Val IsSourceValue (is_above val_cmp before.0)) (λ _. HasMarks nodes (65536 - before.1))) (HasGroup nodes before)

@@ -10,3 +10,7 @@ pub mod Within
 pub mod DepthLaws
 pub mod Steady
 pub mod PrefixLaws
+pub mod Failing
+pub mod FieldFails
+pub mod SetFails
+pub mod SourceFails

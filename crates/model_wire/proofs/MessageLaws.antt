@@ -24,13 +24,13 @@ use Rattle.model_wire.proofs.SourceLaws.{HasNumbers, numbers_codec, source_codec
 abbrev CountsHad : List ℕ → Type 0
 CountsHad = HasCounted ℕ (List ℕ) (HasRange 256 1 8) length (HasNumbers 100000)
 
-abbrev AreCounts : List ℕ → Type 0
+abbrev pub AreCounts : List ℕ → Type 0
 AreCounts counts = IsNodes (length counts) × AreAtMost 100000 counts
 
-abbrev spelled_all_counts : List ℕ → List ℕ
+abbrev pub spelled_all_counts : List ℕ → List ℕ
 spelled_all_counts = spell_counted ℕ (List ℕ) (to_be_bytes w8) length spelled_counts
 
-counts_codec : IsCodec (List ℕ) AreCounts spelled_all_counts counts_at
+pub counts_codec : IsCodec (List ℕ) AreCounts spelled_all_counts counts_at
 unfolding counts_at
 counts_codec =
     has_codec (List ℕ) CountsHad AreCounts spelled_all_counts counts_at
@@ -41,27 +41,27 @@ counts_codec =
 
 -- ---- sources
 
-abbrev SentHas : ℕ → Unit {0} → Sent → Type 0
+abbrev pub SentHas : ℕ → Unit {0} → Sent → Type 0
 SentHas nodes _ = IsSent nodes
 
-all_sent : (nodes : ℕ) (xs : List Sent) → AllHave (Unit {0}) Sent (SentHas nodes) nothing_of_sources tt xs → AllByRecursion (IsSent nodes) xs
+pub all_sent : (nodes : ℕ) (xs : List Sent) → AllHave (Unit {0}) Sent (SentHas nodes) nothing_of_sources tt xs → AllByRecursion (IsSent nodes) xs
 all_sent nodes [] h = tt
 all_sent nodes (x ∷ xs) h = (h.0, all_sent nodes xs h.1)
 
-sent_all : (nodes : ℕ) (xs : List Sent) → AllByRecursion (IsSent nodes) xs → AllHave (Unit {0}) Sent (SentHas nodes) nothing_of_sources tt xs
+pub sent_all : (nodes : ℕ) (xs : List Sent) → AllByRecursion (IsSent nodes) xs → AllHave (Unit {0}) Sent (SentHas nodes) nothing_of_sources tt xs
 sent_all nodes [] h = tt
 sent_all nodes (x ∷ xs) h = (h.0, sent_all nodes xs h.1)
 
 abbrev SourcesHad : ℕ → List Sent → Type 0
 SourcesHad nodes = HasCounted ℕ (List Sent) (HasRange 256 0 64) length (λ n. HasMany (Unit {0}) Sent (SentHas nodes) nothing_of_sources n tt)
 
-abbrev AreSources : ℕ → List Sent → Type 0
+abbrev pub AreSources : ℕ → List Sent → Type 0
 AreSources nodes xs = (length xs ≤ 64) × AllByRecursion (IsSent nodes) xs
 
-abbrev spelled_sources : ℕ → List Sent → List ℕ
+abbrev pub spelled_sources : ℕ → List Sent → List ℕ
 spelled_sources version = spell_counted ℕ (List Sent) (to_be_bytes w8) length (spell_all Sent (spelled_source_in version))
 
-sources_codec : (version nodes : ℕ) → IsNodes nodes → IsCodec (List Sent) (AreSources nodes) (spelled_sources version) (sources_at version nodes)
+pub sources_codec : (version nodes : ℕ) → IsNodes nodes → IsCodec (List Sent) (AreSources nodes) (spelled_sources version) (sources_at version nodes)
 unfolding sources_at
 sources_codec version nodes n =
     has_codec (List Sent) (SourcesHad nodes) (AreSources nodes) (spelled_sources version) (sources_at version nodes)
@@ -96,17 +96,17 @@ body_codec version =
 
 -- ---- the version
 
-abbrev Magic : ℕ → ℕ → Type 0
+abbrev pub Magic : ℕ → ℕ → Type 0
 Magic b = HasTested ℕ (IsBelow 256) (λ n. eqb n b)
 
-abbrev IsVersion : ℕ → Type 0
+abbrev pub IsVersion : ℕ → Type 0
 IsVersion v = is_version v ≡ true
 
-magic_codec : (b : ℕ) → IsCodec ℕ (Magic b) (to_be_bytes w8) (magic_at b)
+pub magic_codec : (b : ℕ) → IsCodec ℕ (Magic b) (to_be_bytes w8) (magic_at b)
 magic_codec b = tested_codec ℕ (IsBelow 256) (to_be_bytes w8) (number_at w8) (λ n. eqb n b) why.Magic (number_codec w8 256 wide8)
 
 -- a version with a byte before it that has to be b
-behind_magic : (b : ℕ) (Has : ℕ → Type 0) (spell : ℕ → List ℕ) (next : Reader ℕ) → b < 256 → IsCodec ℕ Has spell next
+pub behind_magic : (b : ℕ) (Has : ℕ → Type 0) (spell : ℕ → List ℕ) (next : Reader ℕ) → b < 256 → IsCodec ℕ Has spell next
     → IsCodec ℕ Has (λ v. to_be_bytes w8 b ++ spell v) (counted (magic_at b) (λ _. next))
 behind_magic b Has spell next small codec =
     has_codec ℕ (HasCounted ℕ ℕ (Magic b) (λ _. b) (λ _. Has)) Has (λ v. to_be_bytes w8 b ++ spell v) (counted (magic_at b) (λ _. next))
@@ -120,10 +120,10 @@ version_small v h =
       | inr e ↦ omega (arith, eqb-true v 2 e)
     ]
 
-abbrev spelled_version : ℕ → List ℕ
+abbrev pub spelled_version : ℕ → List ℕ
 spelled_version v = to_be_bytes w8 76 ++ (to_be_bytes w8 65 ++ (to_be_bytes w8 83 ++ (to_be_bytes w8 80 ++ to_be_bytes w8 v)))
 
-version_codec : IsCodec ℕ IsVersion spelled_version version_at
+pub version_codec : IsCodec ℕ IsVersion spelled_version version_at
 unfolding version_at
 version_codec =
     behind_magic 76 IsVersion _ _ (omega arith) (behind_magic 65 IsVersion _ _ (omega arith) (behind_magic 83 IsVersion _ _ (omega arith) (behind_magic 80 IsVersion (to_be_bytes w8) (tested (number_at w8) is_version why.Magic) (omega arith)
@@ -132,7 +132,7 @@ version_codec =
 
 -- ---- messages
 
-abbrev Letter : Type 0
+abbrev pub Letter : Type 0
 Letter = ℕ × Message
 
 abbrev IsLetter : Letter → Type 0
@@ -160,10 +160,10 @@ letter_again l rest h =
 letter_codec : IsCodec Letter IsLetter spelled_letter message_at
 letter_codec = record { took = letter_took; again = letter_again }
 
-abbrev beginning : ℕ → List ℕ
+abbrev pub beginning : ℕ → List ℕ
 beginning v = 76 ∷ 65 ∷ 83 ∷ 80 ∷ v ∷ []
 
-beginning_is : (v : ℕ) → IsVersion v → spelled_version v ≡ beginning v
+pub beginning_is : (v : ℕ) → IsVersion v → spelled_version v ≡ beginning v
 beginning_is v h = ap beginning (omega (arith, version_small v h))
 
 regroup : (a n c k s : List ℕ) → (((a ++ n) ++ c) ++ k) ++ s ≡ a ++ ((n ++ c) ++ (k ++ s))
@@ -191,7 +191,7 @@ content_written (Map x place ops) s = refl
 content_written (Filter x place ops) s = refl
 content_written (Fold x op place lift) s = refl
 
-sources_written : (xs : List Sent) → flat_map (spelled_source_in 2) xs ≡ flat_map spelled_source xs
+pub sources_written : (xs : List Sent) → flat_map (spelled_source_in 2) xs ≡ flat_map spelled_source xs
 sources_written [] = refl
 sources_written (x ∷ xs) = λ i. ((number 1 (length x.decl.name) ++ x.decl.name) ++ content_written x.decl.kind x.content i) ++ sources_written xs i
 

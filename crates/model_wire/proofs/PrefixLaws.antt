@@ -33,7 +33,7 @@ moved n e = (e.0 + n, e.1)
 
 -- ---- refusals
 
-behind_named : (l : Letter) (b : ℕ) (rest : List ℕ) → nothing_behind (l, b ∷ rest) ≡ refusal (length (b ∷ rest), why.Rest)
+pub behind_named : (l : Letter) (b : ℕ) (rest : List ℕ) → nothing_behind (l, b ∷ rest) ≡ refusal (length (b ∷ rest), why.Rest)
 behind_named l b rest = ap (λ (t : Bool). cond t (Ok l.1) (refusal (length (b ∷ rest), why.Rest))) (eqb-suc-zero (length rest))
 
 read_stays : (bytes more : List ℕ) (e : ℕ × WireWhy) → read_message bytes ≡ Err e → e.1 ≢ why.Short → read_message (bytes ++ more) ≡ Err (moved (length more) e)

@@ -26,25 +26,28 @@ use Rattle.model_wire.proofs.GroupLaws.{grouped_rows_codec}
 
 -- ---- numbers
 
-abbrev Ranged : ℕ → Unit {0} → ℕ → Type 0
+abbrev pub Ranged : ℕ → Unit {0} → ℕ → Type 0
 Ranged most _ = HasRange 18446744073709551616 0 most
 
-numbers_known : (most : ℕ) (xs : List ℕ) → AllHave (Unit {0}) ℕ (Ranged most) nothing_more tt xs → AreAtMost most xs
+pub numbers_known : (most : ℕ) (xs : List ℕ) → AllHave (Unit {0}) ℕ (Ranged most) nothing_more tt xs → AreAtMost most xs
 numbers_known most [] h = tt
 numbers_known most (x ∷ xs) h = ((within_range 0 most x h.0.1).1, numbers_known most xs h.1)
 
-numbers_ranged : (most : ℕ) → most < 18446744073709551616 → (xs : List ℕ) → AreAtMost most xs → AllHave (Unit {0}) ℕ (Ranged most) nothing_more tt xs
+pub numbers_ranged : (most : ℕ) → most < 18446744073709551616 → (xs : List ℕ) → AreAtMost most xs → AllHave (Unit {0}) ℕ (Ranged most) nothing_more tt xs
 numbers_ranged most small [] h = tt
 numbers_ranged most small (x ∷ xs) h = ((omega (arith, h.0, small), in_range 0 most x (omega arith) h.0), numbers_ranged most small xs h.1)
 
 abbrev pub HasNumbers : ℕ → ℕ → List ℕ → Type 0
 HasNumbers most n xs = (length xs ≡ n) × AreAtMost most xs
 
+pub limited_codec : (most : ℕ) → IsCodec ℕ (Ranged most tt) (to_be_bytes w64) (limited_at most tt)
+limited_codec most = ranged_codec w64 18446744073709551616 wide64 0 most
+
 pub numbers_codec : (most n : ℕ) → most < 18446744073709551616 → IsCodec (List ℕ) (HasNumbers most n) spelled_counts (numbers_at most n)
 unfolding numbers_at
 numbers_codec most n small =
     has_codec (List ℕ) (HasMany (Unit {0}) ℕ (Ranged most) nothing_more n tt) (HasNumbers most n) spelled_counts (list_at (limited_at most) nothing_more n tt)
-    (list_codec (Unit {0}) ℕ (Ranged most) (to_be_bytes w64) (limited_at most) nothing_more (λ _. ranged_codec w64 18446744073709551616 wide64 0 most) n tt)
+    (list_codec (Unit {0}) ℕ (Ranged most) (to_be_bytes w64) (limited_at most) nothing_more (λ _. limited_codec most) n tt)
     (λ xs h. (h.0, numbers_known most xs h.1)) (λ xs h. (h.0, numbers_ranged most small xs h.1))
 
 -- ---- registers
@@ -283,20 +286,20 @@ held_codec version nodes n =
 abbrev NameHas : List ℕ → Type 0
 NameHas = HasCounted ℕ (List ℕ) (HasRange 256 1 32) length (λ n. HasTested (List ℕ) (IsLong n) is_name)
 
-abbrev IsName : List ℕ → Type 0
+abbrev pub IsName : List ℕ → Type 0
 IsName t = is_name t ≡ true
 
 abbrev spelled_name : List ℕ → List ℕ
 spelled_name t = to_be_bytes w8 (length t) ++ t
 
-name_long : (t : List ℕ) → IsName t → (1 ≤ length t) × (length t ≤ 32)
+pub name_long : (t : List ℕ) → IsName t → (1 ≤ length t) × (length t ≤ 32)
 name_long t h =
     let most = and_parts _ _ h in
     let first = and_parts _ _ most.0 in
     let both = and_parts (ltb 0 (length t)) (leb (length t) 32) first.0 in
     (omega (arith, ltb-true 0 (length t) both.0), leb-true (length t) 32 both.1)
 
-name_codec : IsCodec (List ℕ) IsName spelled_name name_at
+pub name_codec : IsCodec (List ℕ) IsName spelled_name name_at
 unfolding name_at
 name_codec =
     has_codec (List ℕ) NameHas IsName spelled_name name_at

@@ -59,11 +59,11 @@ pub in_range : (least most n : ℕ) → least ≤ n → n ≤ most → between l
 in_range least most n low high = and_from (leb least n) (leb n most) (le-leb least n low) (le-leb n most high)
 
 -- which way a choice went
-data Chosen {A : Type 0} (b : Bool) (x y z : A) : Type 0 where
+pub data Chosen {A : Type 0} (b : Bool) (x y z : A) : Type 0 where
   first : b ≡ true → x ≡ z → Chosen b x y z
   second : b ≡ false → y ≡ z → Chosen b x y z
 
-chosen : {A : Type 0} (b : Bool) (x y z : A) → cond b x y ≡ z → Chosen b x y z
+pub chosen : {A : Type 0} (b : Bool) (x y z : A) → cond b x y ≡ z → Chosen b x y z
 chosen true x y z h = first refl h
 chosen false x y z h = second refl h
 
@@ -103,7 +103,7 @@ text_took pairs room bytes tag p t is-tag h =
     (takes_both bytes (to_be_bytes w8 1) tag.1 (spelled_text b.value.0) b.value.1 front s.0, record { pairs_left = omega arith; room_left = omega (arith, small); parts = s.1.1.1 })
 
 -- what a reader of one depth took
-abbrev Took : ℕ → Type 0
+abbrev pub Took : ℕ → Type 0
 Took depth = (pairs room : ℕ) (bytes : List ℕ) (p : Part × List ℕ) → IsBytes bytes → part_at depth pairs room bytes ≡ Ok p → PartRead pairs room bytes p
 
 pair_took : (depth pairs room : ℕ) (bytes : List ℕ) (tag : ℕ × List ℕ) (p : Part × List ℕ) → Took depth → Takes bytes (to_be_bytes w8 tag.0) tag.1 → tag.0 ≡ 2 → 0 < pairs → pair_behind depth pairs room tag.1 ≡ Ok p → PartRead pairs room bytes p
@@ -120,7 +120,7 @@ pair_took depth pairs room bytes tag p shallower t is-tag some h =
       record { pairs_left = omega (arith, some, u.1.pairs_left, v.1.pairs_left); room_left = omega (arith, u.1.room_left, v.1.room_left); parts = (u.1.parts, v.1.parts) },
     )
 
-part_took : (depth : ℕ) → Took depth
+pub part_took : (depth : ℕ) → Took depth
 unfolding part_at
 part_took zero pairs room bytes p fits e = absurd cc
 part_took (suc depth) pairs room bytes p fits e =
@@ -144,7 +144,7 @@ leaves_some (text t) = omega arith
 leaves_some (pair a b) = omega (arith, leaves_some a)
 
 -- what is spelled so is read, with so much left of the budgets
-abbrev Again : Val → Type 0
+abbrev pub Again : Val → Type 0
 Again v = (depth pairs room p q : ℕ) (rest : List ℕ) → pairs < depth → room < 65536 → leaves v + p ≡ pairs + 1 → text_bytes v + q ≡ room → IsSpellable v → part_at depth pairs room (spelled_value v ++ rest) ≡ Ok (part v p q, rest)
 
 int_again : (n : ℤ) → Again (int n)
@@ -179,7 +179,7 @@ pair_again a b front back (suc depth) pairs room p q rest deep small has-pairs h
       back depth (pairs - leaves a) (room - text_bytes a) p q rest (omega (arith, some, more)) (omega arith) (omega (arith, some, more)) (omega arith) fits.1,
     ) refl
 
-part_again : (v : Val) → Again v
+pub part_again : (v : Val) → Again v
 part_again (int n) = int_again n
 part_again (text t) = text_again t
 part_again (pair a b) = pair_again a b (part_again a) (part_again b)

@@ -30,11 +30,11 @@ pub bind_inside : (X Y : Type 0) (n : ℕ) (r : Reading X) (f : X × List ℕ �
 bind_inside X Y n (Ok x) f h next = next x h
 bind_inside X Y n (Err e) f h next = h
 
-lower : (X : Type 0) (m n : ℕ) (r : Reading X) → m ≤ n → Inside m r → Inside n r
+pub lower : (X : Type 0) (m n : ℕ) (r : Reading X) → m ≤ n → Inside m r → Inside n r
 lower X m n (Ok x) le h = omega (arith, le, h)
 lower X m n (Err e) le h = omega (arith, le, h)
 
-choice_inside : (X : Type 0) (n : ℕ) (b : Bool) (r s : Reading X) → Inside n r → Inside n s → Inside n (cond b r s)
+pub choice_inside : (X : Type 0) (n : ℕ) (b : Bool) (r s : Reading X) → Inside n r → Inside n s → Inside n (cond b r s)
 choice_inside X n true r s h k = h
 choice_inside X n false r s h k = k
 
@@ -44,23 +44,23 @@ bytes_inside n bytes = choice_inside (List ℕ) (length bytes) (ltb (length byte
 nothing_inside : IsInside nothing_at
 nothing_inside bytes = omega arith
 
-made_inside : (X Y : Type 0) (make : X → Y) (read : Reader X) → IsInside read → IsInside (made make read)
+pub made_inside : (X Y : Type 0) (make : X → Y) (read : Reader X) → IsInside read → IsInside (made make read)
 made_inside X Y make read h bytes = bind_inside X Y (length bytes) (read bytes) (remade make) (h bytes) (λ x le. le)
 
-tested_inside : (X : Type 0) (read : Reader X) (test : X → Bool) (w : WireWhy) → IsInside read → IsInside (tested read test w)
+pub tested_inside : (X : Type 0) (read : Reader X) (test : X → Bool) (w : WireWhy) → IsInside read → IsInside (tested read test w)
 tested_inside X read test w h bytes =
     bind_inside X X (length bytes) (read bytes) (if_passes test (length bytes, w)) (h bytes) (λ x le. choice_inside X (length bytes) (test x.0) (Ok x) (Err (length bytes, w)) le (omega arith))
 
-counted_inside : (X Y : Type 0) (read : Reader X) (next : X → Reader Y) → IsInside read → ((x : X) → IsInside (next x)) → IsInside (counted read next)
+pub counted_inside : (X Y : Type 0) (read : Reader X) (next : X → Reader Y) → IsInside read → ((x : X) → IsInside (next x)) → IsInside (counted read next)
 counted_inside X Y read next h k bytes =
     bind_inside X Y (length bytes) (read bytes) (λ x. next x.0 x.1) (h bytes) (λ x le. lower Y (length x.1) (length bytes) (next x.0 x.1) le (k x.0 x.1))
 
-both_inside : (X Y : Type 0) (read : Reader X) (next : X → Reader Y) → IsInside read → ((x : X) → IsInside (next x)) → IsInside (both_at read next)
+pub both_inside : (X Y : Type 0) (read : Reader X) (next : X → Reader Y) → IsInside read → ((x : X) → IsInside (next x)) → IsInside (both_at read next)
 both_inside X Y read next h k bytes =
     bind_inside X (X × Y) (length bytes) (read bytes) (λ x. next x.0 x.1 >>= paired x.0) (h bytes)
     (λ x le. bind_inside Y (X × Y) (length bytes) (next x.0 x.1) (paired x.0) (lower Y (length x.1) (length bytes) (next x.0 x.1) le (k x.0 x.1)) (λ y le'. le'))
 
-list_inside : (S X : Type 0) (read : S → Reader X) (next : S → X → S) → ((s : S) → IsInside (read s)) → (n : ℕ) (s : S) → IsInside (list_at read next n s)
+pub list_inside : (S X : Type 0) (read : S → Reader X) (next : S → X → S) → ((s : S) → IsInside (read s)) → (n : ℕ) (s : S) → IsInside (list_at read next n s)
 unfolding list_at
 list_inside S X read next h zero s bytes = omega arith
 list_inside S X read next h (suc n) s bytes =
@@ -73,13 +73,13 @@ list_inside S X read next h (suc n) s bytes =
 number_inside : (w : Width) → IsInside (number_at w)
 number_inside w = made_inside (List ℕ) ℕ (from_be_bytes w) (bytes_at (byte_len w)) (bytes_inside (byte_len w))
 
-ranged_inside : (w : Width) (least most : ℕ) → IsInside (ranged_at w least most)
+pub ranged_inside : (w : Width) (least most : ℕ) → IsInside (ranged_at w least most)
 ranged_inside w least most = tested_inside ℕ (number_at w) (between least most) why.Range (number_inside w)
 
 kind_inside : (least most : ℕ) → IsInside (kind_at least most)
 kind_inside least most = tested_inside ℕ (number_at w8) (between least most) why.Kind (number_inside w8)
 
-magic_inside : (b : ℕ) → IsInside (magic_at b)
+pub magic_inside : (b : ℕ) → IsInside (magic_at b)
 magic_inside b = tested_inside ℕ (number_at w8) (λ n. eqb n b) why.Magic (number_inside w8)
 
 signed_inside : IsInside signed_at
@@ -151,7 +151,7 @@ grouped_rows_inside nodes = made_inside (List Group) (List Row) rows_of (groups_
 rows_inside : (version nodes : ℕ) → IsInside (rows_at version nodes)
 rows_inside version nodes = elim (eqb version 1) as (λ b. IsInside (cond b (single_rows_at nodes) (grouped_rows_at nodes))) [ true ↦ single_rows_inside nodes | false ↦ grouped_rows_inside nodes ]
 
-numbers_inside : (most n : ℕ) → IsInside (numbers_at most n)
+pub numbers_inside : (most n : ℕ) → IsInside (numbers_at most n)
 unfolding numbers_at
 numbers_inside most n = list_inside (Unit {0}) ℕ (limited_at most) nothing_more (λ _. ranged_inside w64 0 most) n tt
 
@@ -196,11 +196,11 @@ unfolding source_at
 source_inside version nodes =
     made_inside (List ℕ × Held) Sent source_made (both_at name_at (λ _. held_at version nodes)) (both_inside (List ℕ) Held name_at (λ _. held_at version nodes) name_inside (λ _. held_inside version nodes))
 
-sources_inside : (version nodes : ℕ) → IsInside (sources_at version nodes)
+pub sources_inside : (version nodes : ℕ) → IsInside (sources_at version nodes)
 unfolding sources_at
 sources_inside version nodes = many_inside (Unit {0}) Sent w8 0 source_limit (any_source_at version nodes) nothing_of_sources tt (λ _. source_inside version nodes)
 
-counts_inside : IsInside counts_at
+pub counts_inside : IsInside counts_at
 unfolding counts_at
 counts_inside = counted_inside ℕ (List ℕ) nodes_at (numbers_at update_limit) (ranged_inside w8 1 8) (numbers_inside update_limit)
 

@@ -4,3 +4,4 @@ pub mod Message
 pub mod Lawful
 pub mod Spelling
 pub mod Prefix
+pub mod Stuck

@@ -189,8 +189,8 @@ read_message bytes = message_at bytes >>= nothing_behind
 abbrev pub placed : List ℕ → ℕ × WireWhy → ℕ × WireWhy
 placed bytes e = (length bytes - e.0, e.1)
 
-abbrev pub decoded_from : List ℕ → Result Message (ℕ × WireWhy) → Result Message (ℕ × WireWhy)
-decoded_from bytes (Ok m) = Ok m
+abbrev pub decoded_from : {X : Type 0} → List ℕ → Result X (ℕ × WireWhy) → Result X (ℕ × WireWhy)
+decoded_from bytes (Ok x) = Ok x
 decoded_from bytes (Err e) = Err (placed bytes e)
 
 -- the message that the bytes are, or the place and the cause of the first field that can't be read

@@ -3,6 +3,7 @@
 
 mod laws;
 mod prefixes;
+mod stuck;
 mod wire_why;
 
 pub use laws::{
@@ -13,4 +14,5 @@ pub use prefixes::{
     beginnings_of_messages_are_short, no_message_begins_with_refused_bytes,
     refusals_stay_whatever_follows, rest_stands_behind_a_message,
 };
+pub use stuck::bytes_are_refused_where_they_are_stuck;
 pub use wire_why::WireWhy;

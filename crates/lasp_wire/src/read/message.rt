@@ -22,7 +22,7 @@ pub struct Parts {
 }
 
 /// A byte that has to be this one.
-fn magic_in(bytes: &[u8], magic: u8) -> Result<(u8, &[u8]), ReadError>
+pub fn magic_in(bytes: &[u8], magic: u8) -> Result<(u8, &[u8]), ReadError>
     ensures { Gives (λ x. (x.0, x.1.now)) result (magic_at magic bytes.now) }
 {
     let (n, rest) = u8_at(bytes)?;

@@ -3,7 +3,7 @@ use Rattle.std.specs.List.{AllByRecursion}
 use Rattle.model_messages.specs.Message.{Sent}
 use Rattle.model_wire.specs.Lawful.{IsSent}
 use Rattle.lasp_wire.proofs.Short.{short_sources}
-use Rattle.lasp_wire.proofs.encoder.encode.Goals as goal
+use Rattle.lasp_wire.proofs.encoder.put_sources.Goals as goal
 
 pub put_sources-requires : goal.put_sources-requires
 put_sources-requires c =
