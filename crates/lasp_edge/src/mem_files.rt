@@ -45,12 +45,12 @@ impl MemFiles {
     }
 
     /// Puts a file in. A name that is there gets these bytes instead.
-    pub fn put_file(&mut self, alloc: Global, name: &str, bytes: &[u8]) -> Result<(), AllocError>
+    pub fn put_file(&mut self, name: &str, bytes: &[u8]) -> Result<(), AllocError>
         ensures ok { OnOk result ((n : List ℕ) → file_at self.new.files n ≡ (if bytes_eq name.now n then Some bytes.now else file_at self.old.files n)) }
         ensures same { self.new ≡ record self.old { files = self.new.files } }
         ensures err { OnErr result (self.new ≡ self.old) }
     {
-        self.shelf.put_file(alloc, name, bytes)
+        self.shelf.put_file(name, bytes)
     }
 
     /// Lets the read of this number fail, counted from 0.

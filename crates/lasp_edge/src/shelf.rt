@@ -8,10 +8,11 @@ use std::alloc::{AllocError, Global};
 use std::collections::BTreeMap;
 use std::marker::Model;
 
-/// Files by name.
+/// Files by name, and the allocator that they take their memory from.
 #[derive(Drop)]
 pub(crate) struct Shelf {
     files: BTreeMap<String, Vec<u8>>,
+    alloc: Global,
 }
 
 impl Model for Shelf {
@@ -29,21 +30,17 @@ impl Shelf {
     {
         Shelf {
             files: BTreeMap::new(alloc),
+            alloc,
         }
     }
 
     /// Puts a file in, in place of one of this name.
-    pub(crate) fn put_file(
-        &mut self,
-        alloc: Global,
-        name: &str,
-        bytes: &[u8],
-    ) -> Result<(), AllocError>
+    pub(crate) fn put_file(&mut self, name: &str, bytes: &[u8]) -> Result<(), AllocError>
         ensures ok { OnOk result ((n : List ℕ) → file_at self.new n ≡ (if bytes_eq name.now n then Some bytes.now else file_at self.old n)) }
         ensures err { OnErr result (self.new ≡ self.old) }
     {
-        let name = String::from_str(alloc, name)?;
-        let bytes = Vec::from_slice(alloc, bytes)?;
+        let name = String::from_str(self.alloc, name)?;
+        let bytes = Vec::from_slice(self.alloc, bytes)?;
         self.files.insert(name, bytes)?;
         Ok(())
     }

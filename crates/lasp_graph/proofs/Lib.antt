@@ -6,3 +6,4 @@ pub mod StateLists
 pub mod Evaluation
 pub mod ProcessLaws
 pub mod DeltaLaws
+pub mod SourceLists

@@ -7,3 +7,4 @@ pub mod Answers
 pub mod States
 pub mod Evaluated
 pub mod Delta
+pub mod Sources

@@ -14,7 +14,7 @@ ghost use Rattle.lasp_fns.specs.Steps as counted;
 ghost use Rattle.lasp_state.specs.State.{content_of, shape_of, number_of};
 ghost use Rattle.lasp_graph.specs.Library.{library_of};
 ghost use Rattle.lasp_graph.specs.Evaluated.{process, Becomes, seen, derived_shape, number_by, second_of};
-ghost use Rattle.lasp_graph.specs.Delta.{IsStateOf, IsStateBefore, IsForMemory};
+ghost use Rattle.lasp_graph.specs.Delta.{IsStateOf, IsStateBefore, IsForMemory, gained};
 
 use super::graph::Graph;
 use super::increment::{Gain, eval_gain};
@@ -114,6 +114,7 @@ pub fn node_gain(
     ensures shape { IfOk result (λ a. shape_of a.state ≡ derived_shape (kind_at g.now var)) }
     ensures number { IfOk result (λ a. number_of a.state ≡ number_by (kind_at g.now var) (content_of a.state)) }
     ensures gain { IfOk result (λ a. join (content_of old.now).rows a.rows ≡ (content_of a.state).rows) }
+    ensures rows { IfOk result (λ a. a.rows ≡ gained (kind_at g.now var) first.now (content_of (arc_value inputs.now.first)).rows second.now (content_of (second_of inputs.now)).rows) }
     ensures library { counted.library_of lib.new ≡ counted.library_of lib.old }
     ensures ticks { counted.ticks_of lib.new ≤ counted.ticks_of lib.old + length first.now }
 {

@@ -5,7 +5,7 @@ ghost use Rattle.std.specs.Arc.{arc_value};
 ghost use Rattle.model_states.specs.Content.{size_of, row_limit};
 ghost use Rattle.model_states.specs.Threshold.{set};
 ghost use Rattle.model_graph.specs.Graph.{kind_at, is_source};
-ghost use Rattle.model_graph.specs.Lawful.{IsKind};
+ghost use Rattle.model_graph.specs.Lawful.{IsKind, sources_among};
 ghost use Rattle.model_graph.specs.Evaluation.{content_at, eval, evaluated};
 ghost use Rattle.model_graph.specs.Width.{HasWidth};
 ghost use Rattle.model_readings.specs.Lawful.{Fits, FitsAll};
@@ -13,12 +13,14 @@ ghost use Rattle.lasp_state.specs.State.{content_of, shape_of, number_of};
 ghost use Rattle.lasp_graph.specs.Kind.{kind_of};
 ghost use Rattle.lasp_graph.specs.Library.{library_of};
 ghost use Rattle.lasp_graph.specs.States.{held_of, held_at, contents_of};
+ghost use Rattle.lasp_graph.specs.Sources.{by_variable};
 ghost use Rattle.lasp_graph.specs.Evaluated.{process, AreSmall, Becomes, Evaluates, seen, AreSets, AreNarrow, derived_shape, shape_after, KeepShapes, number_by, KeepNumbers, second_of};
 
 use super::graph::Graph;
 use super::inputs::{EvalAll, EvalRefused, Inputs};
 use super::kind::Kind;
 use super::process::eval_process;
+use super::sources::by_variable;
 use super::states::States;
 use lasp_fns::Library;
 use lasp_state::State;
@@ -54,9 +56,28 @@ pub fn eval_node(
     eval_process(alloc, &g.at(var as u64).kind, lib, &inputs.first, second)
 }
 
-/// The states of all variables, or the least variable that has too many rows. The states of sources are given by variable; what is given for the others isn't read.
+/// The states of all variables, or the least variable that has too many rows. There is one state for each source, in order.
 /// It costs the processes' equations on whole states; sources are shared.
 pub fn eval_all(
+    alloc: Global,
+    g: &Graph,
+    lib: &Library,
+    sources: &States,
+) -> Result<States, EvalAll>
+    requires all { length sources.now ≡ length (sources_among g.now) }
+    requires fits { FitsAll (library_of lib.now) g.now }
+    requires sets { AreSets g.now (by_variable g.now sources.now) }
+    requires narrow { AreNarrow g.now (by_variable g.now sources.now) }
+    ensures exact { Evaluates (seen contents_of result) (eval g.now (contents_of (by_variable g.now sources.now))) }
+    ensures shapes { IfOk result (λ states. KeepShapes (length g.now) g.now (by_variable g.now sources.now) states) }
+    ensures numbers { IfOk result (λ states. KeepNumbers (length g.now) g.now states) }
+{
+    let given = by_variable(alloc, g, sources)?;
+    eval_by_variable(alloc, g, lib, &given)
+}
+
+/// The same, where a state is given for each variable; what is given for derived ones isn't read.
+pub fn eval_by_variable(
     alloc: Global,
     g: &Graph,
     lib: &Library,

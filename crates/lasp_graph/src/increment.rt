@@ -42,7 +42,7 @@ use std::alloc::{AllocError, Global};
 pub struct Gain {
     /// Its state on its inputs.
     pub state: State,
-    /// The rows that, joined into those it had, give the state's rows: what the changed rows of its inputs give. Some of them it may have had before.
+    /// The rows that, joined into those it had, give the state's rows: exactly what the changed rows of its inputs give. Some of them it may have had before.
     pub rows: OrSet,
 }
 
@@ -67,6 +67,7 @@ pub(crate) fn eval_gain(
     ensures shape { IfOk result (λ a. shape_of a.state ≡ derived_shape (kind_of kind.now)) }
     ensures number { IfOk result (λ a. number_of a.state ≡ number_by (kind_of kind.now) (content_of a.state)) }
     ensures gain { IfOk result (λ a. join (content_of old.now).rows a.rows ≡ (content_of a.state).rows) }
+    ensures rows { IfOk result (λ a. a.rows ≡ gained (kind_of kind.now) x_change.now x.now y_change.now y.now) }
     ensures library { counted.library_of lib.new ≡ counted.library_of lib.old }
     ensures ticks { counted.ticks_of lib.new ≤ counted.ticks_of lib.old + length x_change.now }
 {
@@ -109,6 +110,7 @@ fn set_gain(
     requires width { IsSetOfWidth 16 x.now }
     ensures ok { IfOk result (λ p. process (kind_of kind.now) (of_set x.now) (of_set y.now) ≡ of_set p.0) }
     ensures gain { IfOk result (λ p. join old.now p.1 ≡ p.0) }
+    ensures rows { IfOk result (λ p. p.1 ≡ gained (kind_of kind.now) x_change.now x.now y_change.now y.now) }
     ensures small { IfOk result (λ p. length p.0 ≤ row_limit) }
     ensures too_many { result ≡ Err SetRefused.TooManyRows → row_limit < size_of (process (kind_of kind.now) (of_set x.now) (of_set y.now)) }
     ensures library { counted.library_of lib.new ≡ counted.library_of lib.old }
@@ -245,6 +247,7 @@ fn fold_gain(
     ensures shape { IfOk result (λ a. shape_of a.state ≡ fold) }
     ensures number { IfOk result (λ a. number_of a.state ≡ fold_rows (fold_op_of op.now) (lift_op_of l.now.op) x.now) }
     ensures gain { IfOk result (λ a. join before.now a.rows ≡ x.now) }
+    ensures rows { IfOk result (λ a. a.rows ≡ change.now) }
     ensures library { counted.library_of lib.new ≡ counted.library_of lib.old }
     ensures ticks { counted.ticks_of lib.new ≤ counted.ticks_of lib.old + length change.now }
 {

@@ -11,7 +11,7 @@ ghost use Rattle.lasp_graph.specs.Library.{library_of};
 ghost use Rattle.lasp_graph.specs.Kind.{kind_of};
 ghost use Rattle.lasp_graph.specs.Decl.{decl_of};
 ghost use Rattle.lasp_graph.specs.Written.{form_view};
-ghost use Rattle.lasp_graph.specs.Answers.{Shows, Answers, Gives};
+ghost use Rattle.lasp_graph.specs.Answers.{Answers, Gives, GivesAt};
 
 use super::decl::Decl;
 use super::graph::Graph;
@@ -51,17 +51,17 @@ pub fn read_decl(alloc: Global, j: &Json, g: &Graph, lib: &Library) -> Result<De
     ensures exact { Answers decl_of result (decl_read (library_of lib.now) g.now (view j.now)) }
 {
     let Some(written) = written_of(j) else {
-        return Err(DeclRefused::Because(GraphWhy::Shape));
+        return Err(DeclRefused::Shape);
     };
     let Some(name) = Name::of(alloc, written.name)? else {
-        return Err(DeclRefused::Because(GraphWhy::NameShape));
+        return Err(DeclRefused::NameShape);
     };
     if g.find(written.name).is_some() {
-        return Err(DeclRefused::Because(GraphWhy::NameTaken));
+        return Err(DeclRefused::NameTaken);
     }
     match read_sound_kind(g, lib, &written.form) {
         Ok(kind) if g.width_of(&kind) <= WIDTH_LIMIT => Ok(Decl { name, kind }),
-        Ok(_) => Err(DeclRefused::Because(GraphWhy::TooWide)),
+        Ok(_) => Err(DeclRefused::TooWide),
         Err(refused) => Err(refused),
     }
 }
@@ -86,22 +86,29 @@ fn read_items(alloc: Global, items: &[Json], lib: &Library) -> Result<Graph, Gra
     for j in items {
         match read_next(alloc, j, &graph, lib) {
             Ok(decl) => graph.push(alloc, decl)?,
-            Err(refused) => return Err(refused.at(graph.len())),
+            Err(refused) => return Err(refused),
         }
     }
     Ok(graph)
 }
 
 #[tactic(auto, unfolding(model_readings::specs::Graph::next_read))]
-fn read_next(alloc: Global, j: &Json, g: &Graph, lib: &Library) -> Result<Decl, DeclRefused>
-    ensures exact { Answers decl_of result (next_read (library_of lib.now) g.now (view j.now)) }
+fn read_next(alloc: Global, j: &Json, g: &Graph, lib: &Library) -> Result<Decl, GraphRefused>
+    ensures exact { GivesAt (length g.now) decl_of result (next_read (library_of lib.now) g.now (view j.now)) }
     ensures room { OnOk result (length g.now < variable_limit) }
     ensures next { IfOk result (λ d. IsNext g.now (decl_of d)) }
 {
-    if g.len() >= VARIABLE_LIMIT {
-        return Err(DeclRefused::Because(GraphWhy::TooMany));
+    let number = g.len();
+    if number >= VARIABLE_LIMIT {
+        return Err(GraphRefused::At {
+            number: number as u32,
+            why: GraphWhy::TooMany,
+        });
     }
-    read_decl(alloc, j, g, lib)
+    match read_decl(alloc, j, g, lib) {
+        Ok(decl) => Ok(decl),
+        Err(refused) => Err(refused.at(number)),
+    }
 }
 
 /// A kind, whose inputs are sets of the graph.
@@ -149,8 +156,8 @@ fn read_kind(g: &Graph, lib: &Library, form: &Form) -> Result<Kind, DeclRefused>
 
 /// Both inputs, where both are known and then both are sets.
 #[tactic(auto, unfolding(model_readings::specs::Graph::inputs_read))]
-fn read_inputs(g: &Graph, x: &str, y: &str) -> Result<(u8, u8), GraphWhy>
-    ensures { Shows (λ p. p) result (inputs_read g.now x.now y.now) }
+fn read_inputs(g: &Graph, x: &str, y: &str) -> Result<(u8, u8), DeclRefused>
+    ensures { Answers (λ p. p) result (inputs_read g.now x.now y.now) }
 {
     let i = known(g, x)?;
     let j = known(g, y)?;
@@ -161,8 +168,8 @@ fn read_inputs(g: &Graph, x: &str, y: &str) -> Result<(u8, u8), GraphWhy>
 
 /// The input, where it is known and then a set.
 #[tactic(auto, unfolding(model_readings::specs::Graph::input_read))]
-fn read_input(g: &Graph, x: &str) -> Result<u8, GraphWhy>
-    ensures { Shows (λ i. i) result (input_read g.now x.now) }
+fn read_input(g: &Graph, x: &str) -> Result<u8, DeclRefused>
+    ensures { Answers (λ i. i) result (input_read g.now x.now) }
 {
     let i = known(g, x)?;
     check_set(g, i)?;
@@ -175,10 +182,10 @@ fn read_map(lib: &Library, name: &str) -> Result<MapRef, DeclRefused>
     ensures { Answers (λ f. (f.place, f.ops)) result (function_read (maps_of lib.now) name.now) }
 {
     let Some(place) = lib.find_map(name) else {
-        return Err(DeclRefused::Because(GraphWhy::UnknownFunction));
+        return Err(DeclRefused::UnknownFunction);
     };
     let Some(ops) = lib.map_ops(place) else {
-        return Err(DeclRefused::Because(GraphWhy::UnknownFunction));
+        return Err(DeclRefused::UnknownFunction);
     };
     Ok(MapRef {
         place,
@@ -192,10 +199,10 @@ fn read_predicate(lib: &Library, name: &str) -> Result<PredRef, DeclRefused>
     ensures { Answers (λ p. (p.place, p.ops)) result (function_read (predicates_of lib.now) name.now) }
 {
     let Some(place) = lib.find_pred(name) else {
-        return Err(DeclRefused::Because(GraphWhy::UnknownFunction));
+        return Err(DeclRefused::UnknownFunction);
     };
     let Some(ops) = lib.pred_ops(place) else {
-        return Err(DeclRefused::Because(GraphWhy::UnknownFunction));
+        return Err(DeclRefused::UnknownFunction);
     };
     Ok(PredRef {
         place,
@@ -205,35 +212,35 @@ fn read_predicate(lib: &Library, name: &str) -> Result<PredRef, DeclRefused>
 
 /// A lift of the library, with its operation.
 #[tactic(auto, unfolding(model_readings::specs::Graph::function_read, model_readings::specs::Graph::function_named))]
-fn read_lift(lib: &Library, name: &str) -> Result<LiftRef, GraphWhy>
-    ensures { Shows (λ l. (l.place, lift_op_of l.op)) result (function_read (lifts_of lib.now) name.now) }
+fn read_lift(lib: &Library, name: &str) -> Result<LiftRef, DeclRefused>
+    ensures { Answers (λ l. (l.place, lift_op_of l.op)) result (function_read (lifts_of lib.now) name.now) }
 {
     let Some(place) = lib.find_lift(name) else {
-        return Err(GraphWhy::UnknownFunction);
+        return Err(DeclRefused::UnknownFunction);
     };
     let Some(op) = lib.lift_op(place) else {
-        return Err(GraphWhy::UnknownFunction);
+        return Err(DeclRefused::UnknownFunction);
     };
     Ok(LiftRef { place, op: *op })
 }
 
-fn known(g: &Graph, name: &str) -> Result<u8, GraphWhy>
-    ensures exact { result ≡ known g.now name.now }
+fn known(g: &Graph, name: &str) -> Result<u8, DeclRefused>
+    ensures exact { Answers (λ x. x) result (known g.now name.now) }
     ensures within { IfOk result (λ x. x < length g.now) }
 {
     match g.find(name) {
         Some(x) => Ok(x),
-        None => Err(GraphWhy::UnknownInput),
+        None => Err(DeclRefused::UnknownInput),
     }
 }
 
-fn check_set(g: &Graph, x: u8) -> Result<(), GraphWhy>
+fn check_set(g: &Graph, x: u8) -> Result<(), DeclRefused>
     requires { x < length g.now }
-    ensures { result ≡ set_checked g.now x }
+    ensures { Answers (λ u. u) result (set_checked g.now x) }
 {
     if g.at(x as u64).kind.is_set() {
         Ok(())
     } else {
-        Err(GraphWhy::WrongKind)
+        Err(DeclRefused::WrongKind)
     }
 }

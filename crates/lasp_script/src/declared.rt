@@ -10,7 +10,7 @@ ghost use Rattle.lasp_script.specs.Answers.{Answers};
 
 use super::refused::CommandRefused;
 use lasp_fns::Library;
-use lasp_graph::{Decl, DeclRefused, Graph, GraphWhy, read_decl};
+use lasp_graph::{Decl, Graph, GraphWhy, read_decl};
 use model_scripts::ScriptWhy;
 use serde_json::Value as Json;
 use std::alloc::Global;
@@ -27,8 +27,10 @@ pub fn read_declared(
 {
     match read_decl(alloc, tree, g, lib) {
         Ok(decl) => Ok(decl),
-        Err(DeclRefused::Because(why)) => Err(CommandRefused::Because(why_declared(why))),
-        Err(DeclRefused::Memory) => Err(CommandRefused::Memory),
+        Err(refused) => match refused.why() {
+            Some(why) => Err(CommandRefused::Because(why_declared(why))),
+            None => Err(CommandRefused::Memory),
+        },
     }
 }
 

@@ -10,7 +10,7 @@ use Rattle.lasp_graph.proofs.read.read_items.Goals as goal
 pub returns-in-Err : goal.returns-in-Err
 returns-in-Err g c =
     let whole = ap (decls_read (library_of c.args.lib.now) c.loop-j.graph) (sym (next_item c.args.items.now c.loop-j.j-index c.j-item.result c.loop-j-test.true c.j-item.is)) ∙ c.loop-j.invariant in
-    rw (c.at.ensures, c.len.ensures.count, ← whole)
+    rw (← whole)
     (decls_read-stop (library_of c.args.lib.now) c.loop-j.graph (view c.j-item.result) (map view (drop (c.loop-j.j-index + 1) c.args.items.now)) c.in-Err.refused c.in-Err.ensures.exact)
 
 pub loop-j-preserved : goal.loop-j-preserved

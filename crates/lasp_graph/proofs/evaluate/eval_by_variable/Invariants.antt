@@ -2,7 +2,7 @@ use Rattle.std.proofs.Common.{◌≡◌, length, drop}
 use Rattle.model_graph.specs.Evaluation.{eval, eval_from}
 use Rattle.lasp_graph.specs.States.{contents_of}
 use Rattle.lasp_graph.specs.Evaluated.{AreSmall, KeepShapes, KeepNumbers}
-use Rattle.lasp_graph.proofs.evaluate.eval_all.Given as goal
+use Rattle.lasp_graph.proofs.evaluate.eval_by_variable.Given as goal
 
 abbrev pub invariant-loop-var : goal.invariant-loop-var
 invariant-loop-var g l = record {
