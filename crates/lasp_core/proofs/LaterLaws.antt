@@ -1,5 +1,5 @@
 -- A job, and a result, of entries that go on.
-use Rattle.std.proofs.Common.{◌≡◌, ◌++◌, List, take, sym, ap, subst, ◌∙◌, arith}
+use Rattle.std.proofs.Common.{◌≡◌, ℕ, ◌++◌, List, length, take, sym, ap, subst, ◌∙◌, arith}
 use Rattle.std.proofs.lemmas.List.{length-append}
 use Rattle.std.specs.Arc.{arc_value}
 use Rattle.model_graph.specs.Graph.{Kind, kind_at}
@@ -8,7 +8,7 @@ use Rattle.model_journal.specs.Entry.{Entry, Frame}
 use Rattle.model_journal.specs.Journal.{graph, vals, val}
 use Rattle.model_journal.proofs.PlaceLaws.{take-front}
 use Rattle.model_core.specs.Core.{Read}
-use Rattle.model_core.proofs.BaseLaws.{kind-later, derived-take, graph-longer}
+use Rattle.model_core.proofs.BaseLaws.{take-first, kind-later, derived-take, graph-longer}
 use Rattle.model_core.proofs.ReadLaws.{suits-stays}
 use Rattle.lasp_state.specs.declared.state.State.{State}
 use Rattle.lasp_state.specs.State.{content_of}
@@ -17,6 +17,14 @@ use Rattle.lasp_graph.specs.Delta.{IsStateOf}
 use Rattle.lasp_job.specs.declared.job.Job.{Job}
 use Rattle.lasp_core.specs.Core.{IsOpen}
 use Rattle.lasp_replica.specs.Jobs.{AreInputsOf, IsJobOf, IsResultOf}
+
+-- a variable that was derived still is
+pub derived-later : (X : Frame) (entries more : List Entry) (y : ℕ) → IsDerived (graph X entries) y → IsDerived (graph X (entries ++ more)) y
+derived-later X entries more y derived =
+    derived-take X (entries ++ more) (length entries) y (subst (λ (h : List Entry). IsDerived (graph X h) y) (sym (take-first entries more)) derived)
+
+pub job-derives : (X : Frame) (entries : List Entry) (job : Job) → IsJobOf X entries job → IsDerived (graph X entries) job.var
+job-derives X entries job is = derived-take X entries job.n job.var is.derived
 
 module _ (X : Frame) (entries more : List Entry) (job : Job) where
   -- the kind of a variable that was derived when the job began stays

@@ -120,12 +120,15 @@ coded_decl = code_by (List ℕ × _) (coded× (coded_list coded_ℕ) coded_kind)
 abbrev coded_act : Coded Act
 coded_act = code_by ActParts (coded× (coded× (coded× coded_ℕ coded_ℕ) coded_ℕ) (coded× (coded× coded_op coded_message) coded_decl)) act_parts act_from act_from-parts
 
+abbrev pub coded_entry : Coded Entry
+coded_entry = code_by (ℕ × Act) (coded× coded_ℕ coded_act) (λ e. (e.by, e.act)) (λ p. record { by = p.0; act = p.1 }) (λ _. refl)
+
 abbrev pub coded_entries : Coded (List Entry)
-coded_entries = coded_list (code_by (ℕ × Act) (coded× coded_ℕ coded_act) (λ e. (e.by, e.act)) (λ p. record { by = p.0; act = p.1 }) (λ _. refl))
+coded_entries = coded_list coded_entry
 
 -- ---- cores
 
-abbrev coded_frame : Coded Frame
+abbrev pub coded_frame : Coded Frame
 coded_frame =
     code_by (List Decl × (ℕ × ℕ)) (coded× coded_decls (coded× coded_ℕ coded_ℕ)) (λ x. (x.opening, (x.replica, x.nodes))) (λ p. record { opening = p.0; replica = p.1.0; nodes = p.1.1 }) (λ _. refl)
 

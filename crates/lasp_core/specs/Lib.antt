@@ -2,4 +2,5 @@ pub mod Coded
 pub mod Reads
 pub mod Core
 pub mod Listed
+pub mod Evaluated
 pub mod Watched

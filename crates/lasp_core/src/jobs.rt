@@ -1,6 +1,6 @@
 //! What a worker asks of a replica, however it comes by it.
 
-ghost use Rattle.std.specs.Prelude.{◌≡◌, ℕ, List, [], ◌∷◌, ◌++◌, Option, None, length, IfOk, IfErr, OnOk, OnErr, IfSome, IfNone, IsTrue};
+ghost use Rattle.std.specs.Prelude.{◌≡◌, ℕ, ◌-◌, List, [], ◌∷◌, ◌++◌, Option, None, length, IfOk, IfErr, OnOk, OnErr, IfSome, IfNone, IsTrue};
 ghost use Rattle.std.specs.List.{AllByRecursion};
 ghost use Rattle.std.specs.Option.{option_map};
 ghost use Rattle.model_graph.specs.Lawful.{IsDerived};
@@ -90,6 +90,7 @@ pub trait Jobs {
         ensures alone { looks self.old ≡ None → OnOk result (list self.new ≡ list self.old ++ entry (caller self.old) (model.Bind job.var job.n) ∷ []) }
         ensures same { looks self.old ≡ None → OnErr result (list self.new ≡ list self.old) }
         ensures met { IfOk result (λ reads. AllByRecursion (λ r. IsTrue (is_met (frame self.new) (list self.new) r)) reads) }
+        ensures looked { OnOk result (HasLooked (looks self.old) (looks self.new) (told self.new) (length (list self.new) - 1)) }
         ensures caller { caller self.new ≡ caller self.old }
         ensures own_ok { OnOk result (made_by (caller self.old) (list self.new) ≡ made_by (caller self.old) (list self.old) ++ entry (caller self.old) (model.Bind job.var job.n) ∷ []) }
         ensures own_err { OnErr result (made_by (caller self.old) (list self.new) ≡ made_by (caller self.old) (list self.old)) }
@@ -109,6 +110,7 @@ pub trait Jobs {
         ensures frame { frame self.new ≡ frame self.old }
         ensures list { GoesOn (list self.old) (list self.new) }
         ensures alone { looks self.old ≡ None → list self.new ≡ list self.old }
+        ensures looked { HasLooked (looks self.old) (looks self.new) (told self.new) (length (list self.new)) }
         ensures caller { caller self.new ≡ caller self.old }
         ensures own { made_by (caller self.old) (list self.new) ≡ made_by (caller self.old) (list self.old) }
         ensures later { IsLater (looks self.old) (looks self.new) }

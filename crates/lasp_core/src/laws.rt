@@ -1,13 +1,21 @@
 //! What callers need of jobs and reads that others outrun, and what the entries tell of jobs and states. There is nothing to run here: each contract is a group of laws.
 
-ghost use Rattle.std.specs.Prelude.{◌≡◌, ℕ, ◌<◌, List, length, ◌++◌, take};
+ghost use Rattle.std.specs.Prelude.{◌≡◌, ℕ, ◌<◌, ◌≤◌, List, length, ◌++◌, take};
+ghost use Rattle.std.specs.Arc.{arc_value};
+ghost use Rattle.model_functions.specs.Library as functions;
+ghost use Rattle.model_states.specs.Content.{size_of, row_limit};
+ghost use Rattle.model_graph.specs.Graph.{kind_at};
+ghost use Rattle.model_graph.specs.Evaluation.{equation};
 ghost use Rattle.model_graph.specs.Lawful.{IsDerived};
+ghost use Rattle.model_readings.specs.Lawful.{FitsAll};
 ghost use Rattle.model_journal.specs.Entry.{Entry, Frame};
-ghost use Rattle.model_journal.specs.Journal.{graph};
+ghost use Rattle.model_journal.specs.Journal.{graph, vals};
 ghost use Rattle.lasp_state.specs.declared.state.State.{State};
+ghost use Rattle.lasp_state.specs.State.{content_of};
 ghost use Rattle.lasp_job.specs.declared.job.Job.{Job};
 ghost use Rattle.model_core.specs.Core.{Read, Core};
 ghost use Rattle.lasp_graph.specs.States.{held_of};
+ghost use Rattle.lasp_core.specs.Evaluated.{evaluated, IsEvaluated, IsSameJob};
 ghost use Rattle.lasp_core.specs.Core.{IsOpen, rows_of, IsStateOf, state_after};
 ghost use Rattle.lasp_replica.specs.Jobs.{IsJobOf, IsJobNow, IsResultOf, unread_rows};
 
@@ -15,6 +23,22 @@ ghost use Rattle.lasp_replica.specs.Jobs.{IsJobOf, IsJobNow, IsResultOf, unread_
 pub fn jobs_stay()
     ensures job { (X : Frame) (entries more : List Entry) (job : Job) → IsJobOf X entries job → IsJobOf X (entries ++ more) job }
     ensures result { (X : Frame) (entries more : List Entry) (job : Job) (s : State) → IsDerived (graph X (take job.n entries)) job.var → IsResultOf X entries job s → IsResultOf X (entries ++ more) job s }
+{}
+
+/// A job that was taken and then evaluated is a job still, and what its process gives on its inputs is its result. Its graph is the one after the entries, so what fits that fits it; and what its process gives is what the variable's does on the present inputs.
+pub fn evaluated_jobs_have_results()
+    ensures job { (X : Frame) (entries : List Entry) (y : ℕ) (job done : Job) → IsJobNow X entries y job → IsSameJob job done → IsJobOf X entries done }
+    ensures result { (X : Frame) (entries : List Entry) (y : ℕ) (job done : Job) → IsJobNow X entries y job → IsSameJob job done → (s : State) → IsEvaluated job s → size_of (content_of s) ≤ row_limit → IsResultOf X entries done s }
+    ensures fits { (X : Frame) (entries : List Entry) (y : ℕ) (job : Job) → IsJobNow X entries y job → (lib : functions.Library) → FitsAll lib (graph X entries) → FitsAll lib (arc_value job.graph) }
+    ensures present { (X : Frame) (entries : List Entry) (y : ℕ) (job : Job) → IsJobNow X entries y job → evaluated job ≡ equation (kind_at (graph X entries) y) (vals X entries) }
+{}
+
+/// A variable that is declared stays declared where the entries go on, and of its kind; one that is derived stays so. A job is of a derived variable.
+pub fn variables_stay()
+    ensures declared { (X : Frame) (entries more : List Entry) → length (graph X entries) ≤ length (graph X (entries ++ more)) }
+    ensures kind { (X : Frame) (entries more : List Entry) (x : ℕ) → x < length (graph X entries) → kind_at (graph X (entries ++ more)) x ≡ kind_at (graph X entries) x }
+    ensures derived { (X : Frame) (entries more : List Entry) (y : ℕ) → IsDerived (graph X entries) y → IsDerived (graph X (entries ++ more)) y }
+    ensures job { (X : Frame) (entries : List Entry) (job : Job) → IsJobOf X entries job → IsDerived (graph X entries) job.var }
 {}
 
 /// A read that may be asked may be asked where the entries go on.

@@ -1,18 +1,28 @@
 //! One replica: the journal of all that happened to it, the states that follow from it, jobs for those who evaluate its derived variables, and reads that wait.
 //!
 //! ```text
-//! let mut core = Core::new(alloc, &graph, 0, 1)?;
-//! core.update(0, 0, &Op::Add(value))?;
-//! while let Some(mut job) = core.take()? {
-//!     match job.evaluate(alloc, &mut library) {
-//!         Ok(state) => drop(core.finish(0, job, state)?),
-//!         Err(_) => core.give_back(job),
+//! /// Does one job, if there is one. A job can't be dropped: it is finished or given back.
+//! fn do_one(alloc: Global, core: &mut Core, lib: &mut StepLib) -> Result<bool, EvalRefused> {
+//!     let Some(mut job) = core.take()? else { return Ok(false) };
+//!     match job.evaluate(alloc, lib) {
+//!         Ok(state) => match core.finish(0, job, state) {
+//!             Ok(released) => Ok(true),                 // the reads that may be polled now
+//!             Err((job, _)) => {
+//!                 core.give_back(job);
+//!                 Err(EvalRefused::Memory)
+//!             }
+//!         },
+//!         Err(refused) => {
+//!             core.give_back(job);
+//!             Err(refused)
+//!         }
 //!     }
 //! }
 //! ```
 #![tactic(auto)]
 
 mod jobs;
+mod kept;
 mod laws;
 mod parked;
 mod read;
@@ -20,9 +30,11 @@ mod replica_core;
 mod watched;
 
 pub use jobs::Jobs;
+pub use kept::{KeptEntry, KeptFrame};
 pub use lasp_replica::{Act, DeliverRefused, Entry, NotYet, UpdateRefused, begins};
 pub use laws::{
-    jobs_have_the_unread_rows, jobs_stay, reads_stay_open, states_are_those_after_the_entries,
+    evaluated_jobs_have_results, jobs_have_the_unread_rows, jobs_stay, reads_stay_open,
+    states_are_those_after_the_entries, variables_stay,
 };
 pub use read::{ReadNo, Released};
 pub use replica_core::Core;

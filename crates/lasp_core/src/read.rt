@@ -1,10 +1,12 @@
 //! Reads that wait for a threshold, and those that a call released.
 
-ghost use Rattle.std.specs.Prelude.{◌≡◌, ◌<◌, ◌++◌, ◌∷◌, [], length, map, slice_get, Some, IfOk};
+ghost use Rattle.std.specs.Prelude.{◌≡◌, ◌<◌, ◌++◌, ◌∷◌, [], length, map, slice_get, Some, IfOk, IsTrue};
 ghost use Rattle.std.specs.Arc.{arc_value};
+ghost use Rattle.model_states.specs.Threshold.{suits, meets};
+ghost use Rattle.lasp_state.specs.State.{content_of, shape_of};
 ghost use Rattle.lasp_core.specs.Reads.{read_of};
 
-use lasp_state::Threshold;
+use lasp_state::{State, Threshold};
 use std::alloc::{AllocError, Global};
 use std::marker::Model;
 use std::sync::Arc;
@@ -30,6 +32,14 @@ impl ReadNo {
         ensures { result ≡ (read_of self.now).var }
     {
         self.var
+    }
+
+    /// Whether a state of its variable has come to its threshold. The state may be a share, so that its replica isn't held meanwhile; it costs as `Threshold::meets`.
+    pub fn is_met_by(&self, state: &State) -> bool
+        requires { IsTrue (suits (read_of self.now).threshold (shape_of state.now)) }
+        ensures { result ≡ meets (read_of self.now).threshold (content_of state.now) }
+    {
+        self.threshold.meets(state)
     }
 
     /// The same read, which shares the threshold.

@@ -1,6 +1,6 @@
 //! The core of a replica, as callers see it.
 
-ghost use Rattle.std.specs.Prelude.{◌≡◌, ◌<◌, ◌≤◌, ◌↔◌, [], IfOk, IfErr, OnOk, OnErr, IfSome, IfNone, IsTrue, is_some, length, take, slice_get, Some, vec_capacity, ℕ};
+ghost use Rattle.std.specs.Prelude.{◌≡◌, ◌<◌, ◌≤◌, ◌^◌, ◌↔◌, [], IfOk, IfErr, OnOk, OnErr, IfSome, IfNone, IsTrue, is_some, length, take, slice_get, Some, vec_capacity, ℕ};
 ghost use Rattle.std.specs.Arc.{arc_value};
 ghost use Rattle.model_states.specs.Counts.{count_at};
 ghost use Rattle.model_states.specs.Content.{IsContentAtMost};
@@ -281,7 +281,8 @@ impl Core {
 
     /// The length of the journal.
     pub fn journal_len(&self) -> u64
-        ensures { result ≡ length self.now.entries }
+        ensures length { result ≡ length self.now.entries }
+        ensures small { result < 2 ^ 63 }
     {
         self.replica.journal.len() as u64
     }
