@@ -2,3 +2,5 @@
 pub mod CountedLaws
 pub mod AgreeLaws
 pub mod TextLaws
+pub mod WordLaws
+pub mod SizeLaws

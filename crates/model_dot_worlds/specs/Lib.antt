@@ -2,3 +2,5 @@
 pub mod DotWorld
 pub mod Counted
 pub mod DotReport
+pub mod Words
+pub mod Sizes

@@ -1,0 +1,3 @@
+-- What the replicas of a run are.
+pub mod Replicas
+pub mod Commands
