@@ -2,21 +2,18 @@
 #![tactic(auto)]
 
 use lasp_edge::{DirFiles, StdSink};
-use lasp_program::{answer_words, words_after_name};
+use lasp_program::{answer_call, words_after_name};
 use std::alloc::AllocError;
 use std::io::Write;
 use std::process::ExitCode;
 
-/// Answers the words behind the program's name over the real files and the standard streams. A word that isn't UTF-8 is of no listed form.
+/// Answers the words behind the program's name over the real files and the standard streams.
 fn run(rt: &HostRuntime) -> Result<u8, AllocError> {
-    let Some(words) = words_after_name(rt.alloc(), rt)? else {
-        let _ = rt.stderr().write_all(b"usage\n");
-        return Ok(1);
-    };
+    let words = words_after_name(rt.alloc(), rt)?;
     let mut files = DirFiles::new(rt);
     let mut out = StdSink::new(rt.stdout());
     let mut err = StdSink::new(rt.stderr());
-    answer_words(rt.alloc(), &words, &mut files, &mut out, &mut err)
+    answer_call(rt.alloc(), &words, &mut files, &mut out, &mut err)
 }
 
 fn main(rt: HostRuntime) -> ExitCode {

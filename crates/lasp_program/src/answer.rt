@@ -1,20 +1,11 @@
 //! The answer to the program's words over the library of its functions.
 
-ghost use Rattle.std.specs.Prelude.{◌≡◌, ◌≢◌, ◌≤◌, ◌⊎◌, ℕ, List, Result, Some, Ok, Err, IfOk, OnErr, map};
+ghost use Rattle.std.specs.Prelude.{◌≡◌, IfOk, OnErr, map};
 ghost use Rattle.model_values.specs.Size.{IsSized};
 ghost use Rattle.model_functions.specs.Predicate.{passes};
 ghost use Rattle.model_functions.specs.Lift.{lifted};
-ghost use Rattle.model_program.specs.Plan.{word_at, told_answer, Comes};
-ghost use Rattle.model_program.specs.Follows.{view, Follows};
-ghost use Rattle.model_program.specs.Ends.{Ends, writing, NoFault};
-ghost use Rattle.model_program.specs.Line.{status_of};
-ghost use Rattle.model_program.specs.Program.{form, plan};
-ghost use Rattle.model_program.specs.declared.form.Form.{Form};
-ghost use Rattle.model_program.specs.declared.refusal.Refusal.{Refusal};
-ghost use Rattle.model_program.specs.declared.failure.Failure.{Failure};
+ghost use Rattle.model_program.specs.Call.{reading_of, writing_of, IsAnswered};
 ghost use Rattle.lasp_value.specs.Value.{val_of};
-ghost use Rattle.model_values.specs.Faults.{Rose};
-ghost use Rattle.model_values.specs.Told.{Appends};
 ghost use Rattle.lasp_fns.specs.Lift.{lift_op_of};
 ghost use Rattle.lasp_fns.specs.Answers.{Answers};
 ghost use Rattle.lasp_run.specs.Words.{words_of};
@@ -39,26 +30,8 @@ pub fn answer_words<F: Files, O: Sink, E: Sink>(
     out: &mut O,
     err: &mut E,
 ) -> Result<u8, AllocError>
-    // some answer follows the plan of the words over the program's library, and the call ends by it
-    ensures ends { IfOk result (λ status. (answer : Result (List ℕ) Failure)
-        × Follows (words_of words.now) (view (F.content files.old) (F.faults files.old) (F.faults files.new)) (plan program_library (words_of words.now)) answer
-        × Ends (words_of words.now) answer (writing (O.written out.old) (O.written out.new) (O.faults out.old) (O.faults out.new)) (writing (E.written err.old) (E.written err.new) (E.faults err.old) (E.faults err.new)) status) }
-    // a refusal that the contents decide has its status, unless memory was wanting or a read of one of the files failed
-    ensures refused { IfOk result (λ status. (x : Refusal) → told_answer (F.content files.old) (words_of words.now) (plan program_library (words_of words.now)) ≡ Some (Err x)
-        → (status ≡ status_of (Failure.Refused x)) ⊎ ((status ≡ 7) ⊎ ((f : ℕ) × (status ≡ 4) × Comes (F.content files.old) (words_of words.now) (plan program_library (words_of words.now)) f × Rose (F.faults files.old (word_at (words_of words.now) f)) (F.faults files.new (word_at (words_of words.now) f))))) }
-    // a text that the contents decide is written whole with status 0, unless memory was wanting, where nothing failed
-    ensures complete { IfOk result (λ status. (text : List ℕ) → told_answer (F.content files.old) (words_of words.now) (plan program_library (words_of words.now)) ≡ Some (Ok text)
-        → NoFault (words_of words.now) (view (F.content files.old) (F.faults files.old) (F.faults files.new)) (plan program_library (words_of words.now)) → ¬ Rose (O.faults out.old) (O.faults out.new)
-        → ((status ≡ 0) × Appends (O.written out.old) text (O.written out.new)) ⊎ (status ≡ 7)) }
-    // contents of files stay, and no count of faults falls
-    ensures same { IfOk result (λ _. (name : List ℕ) → F.content files.new name ≡ F.content files.old name) }
-    ensures later { IfOk result (λ _. (name : List ℕ) → F.faults files.old name ≤ F.faults files.new name) }
-    ensures out_later { IfOk result (λ _. O.faults out.old ≤ O.faults out.new) }
-    ensures err_later { IfOk result (λ _. E.faults err.old ≤ E.faults err.new) }
-    // words of no listed form: no file is read
-    ensures unread { form (words_of words.now) ≡ Form.Wrong → files.new ≡ files.old }
-    // with another status than 0 and 5 nothing is written to `out`
-    ensures quiet { IfOk result (λ status. status ≢ 0 → status ≢ 5 → O.written out.new ≡ O.written out.old) }
+    ensures answered { IfOk result (IsAnswered program_library (words_of words.now) (reading_of F.content F.faults files.old files.new)
+        (writing_of O.written O.faults out.old out.new) (writing_of E.written E.faults err.old err.new)) }
     // where the library found no memory, nothing was done
     ensures err { OnErr result ((files.new ≡ files.old) × (out.new ≡ out.old) × (err.new ≡ err.old)) }
 {
@@ -80,21 +53,9 @@ fn answer_over<F: Files, O: Sink, E: Sink>(
     requires maps { map map_entry maps.now ≡ program_maps }
     requires predicates { map predicate_entry predicates.now ≡ program_predicates }
     requires lifts { map lift_entry lifts.now ≡ program_lifts }
-    // the clauses of `answer_words`, which are explained there
-    ensures ends { IfOk result (λ status. (answer : Result (List ℕ) Failure)
-        × Follows (words_of words.now) (view (F.content files.old) (F.faults files.old) (F.faults files.new)) (plan program_library (words_of words.now)) answer
-        × Ends (words_of words.now) answer (writing (O.written out.old) (O.written out.new) (O.faults out.old) (O.faults out.new)) (writing (E.written err.old) (E.written err.new) (E.faults err.old) (E.faults err.new)) status) }
-    ensures refused { IfOk result (λ status. (x : Refusal) → told_answer (F.content files.old) (words_of words.now) (plan program_library (words_of words.now)) ≡ Some (Err x)
-        → (status ≡ status_of (Failure.Refused x)) ⊎ ((status ≡ 7) ⊎ ((f : ℕ) × (status ≡ 4) × Comes (F.content files.old) (words_of words.now) (plan program_library (words_of words.now)) f × Rose (F.faults files.old (word_at (words_of words.now) f)) (F.faults files.new (word_at (words_of words.now) f))))) }
-    ensures complete { IfOk result (λ status. (text : List ℕ) → told_answer (F.content files.old) (words_of words.now) (plan program_library (words_of words.now)) ≡ Some (Ok text)
-        → NoFault (words_of words.now) (view (F.content files.old) (F.faults files.old) (F.faults files.new)) (plan program_library (words_of words.now)) → ¬ Rose (O.faults out.old) (O.faults out.new)
-        → ((status ≡ 0) × Appends (O.written out.old) text (O.written out.new)) ⊎ (status ≡ 7)) }
-    ensures same { IfOk result (λ _. (name : List ℕ) → F.content files.new name ≡ F.content files.old name) }
-    ensures later { IfOk result (λ _. (name : List ℕ) → F.faults files.old name ≤ F.faults files.new name) }
-    ensures out_later { IfOk result (λ _. O.faults out.old ≤ O.faults out.new) }
-    ensures err_later { IfOk result (λ _. E.faults err.old ≤ E.faults err.new) }
-    ensures unread { form (words_of words.now) ≡ Form.Wrong → files.new ≡ files.old }
-    ensures quiet { IfOk result (λ status. status ≢ 0 → status ≢ 5 → O.written out.new ≡ O.written out.old) }
+    // the clauses of `answer_words`
+    ensures answered { IfOk result (IsAnswered program_library (words_of words.now) (reading_of F.content F.faults files.old files.new)
+        (writing_of O.written O.faults out.old out.new) (writing_of E.written E.faults err.old err.new)) }
     ensures err { OnErr result ((files.new ≡ files.old) × (out.new ≡ out.old) × (err.new ≡ err.old)) }
 {
     let mut library = Library::new(alloc);

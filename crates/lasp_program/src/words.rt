@@ -3,20 +3,17 @@
 use std::alloc::{AllocError, Global};
 use std::env::{Env, FillError};
 
-/// The words behind the program's name, or `None` where one of them isn't UTF-8. The name itself isn't asked for, so it may be any bytes.
+/// The words behind the program's name, each as its bytes. The name itself isn't asked for, so it may be any bytes.
 /// That the environment tells the words of the call no clause can say.
-pub fn words_after_name<R: Env>(alloc: Global, env: &R) -> Result<Option<Vec<String>>, AllocError> {
+pub fn words_after_name<R: Env>(alloc: Global, env: &R) -> Result<Vec<Vec<u8>>, AllocError> {
     let mut words = Vec::new(alloc);
     for place in 1..usize::MAX {
         let Some(bytes) = bytes_at(alloc, env, place)? else {
             break;
         };
-        let Ok(word) = String::from_utf8(bytes) else {
-            return Ok(None);
-        };
-        words.push(word)?;
+        words.push(bytes)?;
     }
-    Ok(Some(words))
+    Ok(words)
 }
 
 /// The bytes of the word at a place, or `None` past the last one. A word that fills more than 2^31 bytes is taken for want of memory.

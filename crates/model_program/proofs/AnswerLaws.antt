@@ -3,11 +3,12 @@ use Rattle.std.proofs.Common.{sym, ap, subst, ◌∙◌}
 use Rattle.std.specs.Prelude.{◌≡◌, ◌≢◌, ◌⊎◌, ℕ, List, Option, Some, None, option_and_then, Result, Ok, Err}
 use mathlib.Core.Logic.{inl, inr}
 use Rattle.model_values.specs.Faults.{Rose}
-use Rattle.model_values.specs.Told.{Sees, Appends}
-use Rattle.model_program.specs.Plan.{Answer, Plan, Says, Reads, Comes, word_at, told_answer}
-use Rattle.model_program.specs.Follows.{View, Fails, Gives, Follows}
+use Rattle.model_values.specs.Told.{Sees}
+use Rattle.model_program.specs.Plan.{Text, Answer, Plan, Says, Reads, Comes, word_at, told_answer}
+use Rattle.model_program.specs.Follows.{View, Fails, AllowsText, Allows, Follows}
 use Rattle.model_program.specs.Line.{status_of}
-use Rattle.model_program.specs.Ends.{Writing, Ends, Settles, NoFault}
+use Rattle.model_program.specs.Call.{Writes, Begins}
+use Rattle.model_program.specs.Ends.{Writing, Ends, Settles, MeetsFault, NoFault}
 use Rattle.model_program.specs.declared.refusal.Refusal.{Refusal}
 use Rattle.model_program.specs.declared.failure.Failure.{Failure}
 use Rattle.model_program.specs.declared.failure.Failure.TheVariants.{Refused, ReadFault, Memory}
@@ -15,8 +16,8 @@ use Rattle.model_program.specs.declared.failure.Failure.TheVariants.{Refused, Re
 some-same : {A : Type 0} (x y : A) → Some x ≡ Some y → x ≡ y
 some-same x y e = cc
 
-settles-says : (words : List (List ℕ)) (v : View) (answer a : Answer) (r : Result (List ℕ) Failure) → Gives (λ (t : List ℕ). t) answer r → answer ≡ a → Settles words v (Says answer) a r
-settles-says words v answer a (Ok text) h e = sym e ∙ h
+settles-says : (words : List (List ℕ)) (v : View) (answer a : Answer) (r : Result (List ℕ) Failure) → Allows answer r → answer ≡ a → Settles words v (Says answer) a r
+settles-says words v answer a (Ok text) h e = subst (λ (b : Answer). AllowsText b text) e h
 settles-says words v answer a (Err (Refused x)) h e = sym e ∙ h
 settles-says words v answer a (Err (ReadFault f)) h e = absurd h
 settles-says words v answer a (Err Memory) h e = tt
@@ -50,37 +51,45 @@ follows-told words v (Reads f next) r a (inr (bytes, sees, rest)) e =
     let seen = told-seen (λ read. told_answer v.content words (next read)) (v.content (word_at words f)) bytes a sees e in
     settles-rest words v f next bytes a r seen.0 (follows-told words v (next bytes) r a rest seen.1)
 
-ok-same : (x y : List ℕ) → ◌≡◌ {A = Answer} (Ok x) (Ok y) → x ≡ y
-ok-same x y e = cc
-
 err-same : (x y : Refusal) → ◌≡◌ {A = Answer} (Err x) (Err y) → x ≡ y
 err-same x y e = cc
 
 -- a refusal that the contents decide: its status, or that of want of memory or of a fault
 pub refused-ends : (words : List (List ℕ)) (v : View) (p : Plan) (x : Refusal) (answer : Result (List ℕ) Failure) (out err : Writing) (status : ℕ)
     → Settles words v p (Err x) answer → Ends words answer out err status
-    → (status ≡ status_of (Refused x)) ⊎ ((status ≡ 7) ⊎ ((f : ℕ) × (status ≡ 4) × Comes v.content words p f × Rose (v.before (word_at words f)) (v.after (word_at words f))))
+    → (status ≡ status_of (Refused x)) ⊎ ((status ≡ 7) ⊎ ((status ≡ 4) × MeetsFault words v p))
 unfolding Ends
-refused-ends words v p x (Ok text) out err status settles ends = absurd cc
+refused-ends words v p x (Ok text) out err status settles ends = absurd settles
 refused-ends words v p x (Err (Refused e)) out err status settles ends = inl (ends.0 ∙ ap (λ (y : Refusal). status_of (Refused y)) (sym (err-same x e settles)))
-refused-ends words v p x (Err (ReadFault f)) out err status settles ends = inr (inr (f, ends.0, settles.0, settles.1))
+refused-ends words v p x (Err (ReadFault f)) out err status settles ends = inr (inr (ends.0, (f, settles.0, settles.1)))
 refused-ends words v p x (Err Memory) out err status settles ends = inr (inl ends.0)
 
 -- an answer that the contents decide: it was written whole with status 0, or memory was wanting, where nothing failed
-pub complete-ends : (words : List (List ℕ)) (v : View) (p : Plan) (text : List ℕ) (answer : Result (List ℕ) Failure) (out err : Writing) (status : ℕ)
+pub complete-ends : (words : List (List ℕ)) (v : View) (p : Plan) (text : Text) (answer : Result (List ℕ) Failure) (out err : Writing) (status : ℕ)
     → NoFault words v p → ¬ Rose out.faults_before out.faults_after → Settles words v p (Ok text) answer → Ends words answer out err status
-    → ((status ≡ 0) × Appends out.before text out.after) ⊎ (status ≡ 7)
+    → ((status ≡ 0) × Writes out text) ⊎ (status ≡ 7)
 unfolding Ends
 complete-ends words v p text (Ok written) out err status quiet sound settles (inl (zero_is, appends, same)) =
-    inl (zero_is, subst (λ (t : List ℕ). Appends out.before t out.after) (sym (ok-same text written settles)) appends)
-complete-ends words v p text (Ok written) out err status quiet sound settles (inr (five, rose, part, line)) = absurd (sound rose)
+    inl (zero_is, (written, settles, appends))
+complete-ends words v p text (Ok written) out err status quiet sound settles (inr (five, some, rose, part, line)) = absurd (sound rose)
 complete-ends words v p text (Err (Refused e)) out err status quiet sound settles ends = absurd cc
 complete-ends words v p text (Err (ReadFault f)) out err status quiet sound settles ends = absurd (quiet f settles.0 settles.1)
 complete-ends words v p text (Err Memory) out err status quiet sound settles ends = inr ends.0
+
+-- an answer that the contents decide: it was written whole or begun, or memory was wanting, or a read failed
+pub written-ends : (words : List (List ℕ)) (v : View) (p : Plan) (text : Text) (answer : Result (List ℕ) Failure) (out err : Writing) (status : ℕ)
+    → Settles words v p (Ok text) answer → Ends words answer out err status
+    → ((status ≡ 0) × Writes out text) ⊎ (((status ≡ 5) × Begins out text) ⊎ ((status ≡ 7) ⊎ ((status ≡ 4) × MeetsFault words v p)))
+unfolding Ends
+written-ends words v p text (Ok bytes) out err status settles (inl (zero_is, appends, same)) = inl (zero_is, (bytes, settles, appends))
+written-ends words v p text (Ok bytes) out err status settles (inr (five, some, rose, part, line)) = inr (inl (five, (bytes, settles, some, rose, part)))
+written-ends words v p text (Err (Refused e)) out err status settles ends = absurd cc
+written-ends words v p text (Err (ReadFault f)) out err status settles ends = inr (inr (inr (ends.0, (f, settles.0, settles.1))))
+written-ends words v p text (Err Memory) out err status settles ends = inr (inr (inl ends.0))
 
 -- with another status than 0 and 5 nothing was written
 pub quiet-ends : (words : List (List ℕ)) (answer : Result (List ℕ) Failure) (out err : Writing) (status : ℕ) → status ≢ 0 → status ≢ 5 → Ends words answer out err status → out.after ≡ out.before
 unfolding Ends
 quiet-ends words (Ok text) out err status not_done not_fault (inl (done, appends, same)) = absurd (not_done done)
-quiet-ends words (Ok text) out err status not_done not_fault (inr (fault, rose, part, line)) = absurd (not_fault fault)
+quiet-ends words (Ok text) out err status not_done not_fault (inr (fault, some, rose, part, line)) = absurd (not_fault fault)
 quiet-ends words (Err failure) out err status not_done not_fault ends = ends.1

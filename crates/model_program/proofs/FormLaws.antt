@@ -1,53 +1,30 @@
 -- Which words are of which form.
 use Rattle.std.proofs.Common.{refl, sym, ap, subst, ◌∙◌, arith}
-use Rattle.std.specs.Prelude.{◌≡◌, ◌≢◌, ◌↔◌, ℕ, ◌<◌, ◌≤◌, ◌+◌, ◌-◌, ◌&&◌, ◌==◌, List, [], ◌∷◌, length, codes, Bool, true, false, if◌then◌else◌, nat_lt, nat_le, Option, Some, None}
+use Rattle.std.specs.Prelude.{◌≡◌, ◌≢◌, ◌↔◌, ℕ, ◌<◌, ◌≤◌, ◌&&◌, ◌==◌, List, [], ◌∷◌, length, codes, Bool, true, false, if◌then◌else◌, nat_lt, Option, Some, None}
 use Rattle.std.specs.Fmt.{decimal}
 use Rattle.std.specs.Str.{bytes_eq}
-use Rattle.std.proofs.lemmas.Bool.{ltb-true, leb-true, lt-ltb, le-leb, and_parts}
+use Rattle.std.proofs.lemmas.Bool.{ltb-true, lt-ltb, and_parts}
 use Rattle.std.proofs.lemmas.Bool.Decides.{Decides-eqb}
-use Rattle.std.proofs.lemmas.Fmt.{decimal_digit}
 use Rattle.std.proofs.lemmas.Slice.Eq.{bytes_eq-Decides}
 use Rattle.model_program.specs.Plan.{word_at}
 use Rattle.model_program.specs.Program.{node_word, export_form, form}
-use Rattle.model_program.specs.Listed.{IsListed, plain, check, export, merge}
+use Rattle.model_program.proofs.NumberLaws.{number-decimal, number-spelled}
+use Rattle.model_program.specs.Listed.{IsListed, plain, check, dots, export, merge}
 use Rattle.model_program.specs.declared.form.Form.{Form}
-use Rattle.model_program.specs.declared.form.Form.TheVariants.{Plain, Check, Export, Merge, Wrong}
+use Rattle.model_program.specs.declared.form.Form.TheVariants.{Plain, Check, Dots, Export, Merge, Wrong}
 
 -- ---- a node's number
 
--- what a digit's test comes to
-abbrev digit_node : ℕ → Bool → Option ℕ
-digit_node digit b = if b then Some (digit - 48) else None
-
-node-digit : (node : ℕ) → node < 8 → node_word ((48 + node) ∷ []) ≡ Some node
-node-digit node few =
-    ap (λ (b : Bool). digit_node (48 + node) (b && nat_lt (48 + node) 56)) (le-leb 48 (48 + node) (omega arith))
-    ∙ ap (λ (b : Bool). digit_node (48 + node) b) (lt-ltb (48 + node) 56 (omega (arith, few)))
-    ∙ ap (λ (n : ℕ). Some n) (omega arith)
-
 node-decimal : (node : ℕ) → node < 8 → node_word (decimal node) ≡ Some node
-node-decimal node few = ap node_word (decimal_digit node (omega (arith, few))) ∙ node-digit node few
+node-decimal node few = number-decimal 0 7 node (omega (arith, few)) (omega arith) (omega (arith, few))
 
 -- the word is a node's number in digits
 record IsNodeWord (word : List ℕ) (node : ℕ) : Type 0 where
   few : node < 8
   is : word ≡ decimal node
 
-digit-word : (digit node : ℕ) (a b : Bool) → nat_le 48 digit ≡ a → nat_lt digit 56 ≡ b → digit_node digit (a && b) ≡ Some node → IsNodeWord (digit ∷ []) node
-digit-word digit node true true least most e =
-    let low = leb-true 48 digit least in
-    let high = ltb-true digit 56 most in
-    let same : digit - 48 ≡ node = cc in
-    let few : node < 8 = omega (arith, low, high, same) in
-    let back : digit ≡ 48 + node = omega (arith, low, same) in
-    record { few = few; is = ap (λ (d : ℕ). d ∷ []) back ∙ sym (decimal_digit node (omega (arith, few))) }
-digit-word digit node true false least most e = absurd cc
-digit-word digit node false b least most e = absurd cc
-
 word-node : (word : List ℕ) (node : ℕ) → node_word word ≡ Some node → IsNodeWord word node
-word-node [] node e = absurd cc
-word-node (digit ∷ []) node e = digit-word digit node _ _ refl refl e
-word-node (digit ∷ more ∷ rest) node e = absurd cc
+word-node word node e = let found = number-spelled word 0 7 node e in record { few = omega (arith, found.high); is = found.is }
 
 -- ---- forms by their words
 
@@ -55,8 +32,8 @@ word-true : (word text : List ℕ) → bytes_eq word text ≡ true → word ≡ 
 word-true word text h = (bytes_eq-Decides word text).0 h
 
 -- the tests of the forms, one after the other
-abbrev chosen : Bool → Bool → Bool → Option ℕ → Bool → Form
-chosen a b c node d = if a then Plain else if b then Check else if c then export_form node else if d then Merge else Wrong
+abbrev chosen : Bool → Bool → Bool → Bool → Option ℕ → Bool → Form
+chosen a b e c node d = if a then Plain else if b then Check else if e then Dots else if c then export_form node else if d then Merge else Wrong
 
 abbrev is_plain : List (List ℕ) → Bool
 is_plain words = length words == 3 && bytes_eq (word_at words 0) (codes "plain")
@@ -64,13 +41,16 @@ is_plain words = length words == 3 && bytes_eq (word_at words 0) (codes "plain")
 abbrev is_check : List (List ℕ) → Bool
 is_check words = length words == 2 && bytes_eq (word_at words 0) (codes "check")
 
+abbrev is_dots : List (List ℕ) → Bool
+is_dots words = length words == 2 && bytes_eq (word_at words 0) (codes "dots")
+
 abbrev is_export : List (List ℕ) → Bool
 is_export words = length words == 4 && bytes_eq (word_at words 0) (codes "export")
 
 abbrev is_merge : List (List ℕ) → Bool
 is_merge words = nat_lt 2 (length words) && nat_lt (length words) 11 && bytes_eq (word_at words 0) (codes "merge")
 
-form-chosen : (words : List (List ℕ)) → form words ≡ chosen (is_plain words) (is_check words) (is_export words) (node_word (word_at words 3)) (is_merge words)
+form-chosen : (words : List (List ℕ)) → form words ≡ chosen (is_plain words) (is_check words) (is_dots words) (is_export words) (node_word (word_at words 3)) (is_merge words)
 unfolding form
 form-chosen words = refl
 
@@ -86,6 +66,12 @@ check-listed [] h = absurd cc
 check-listed (a ∷ []) h = absurd cc
 check-listed (a ∷ b ∷ []) h = subst (λ (w : List ℕ). IsListed (w ∷ b ∷ []) Check) (sym (word-true a (codes "check") h)) check
 check-listed (a ∷ b ∷ c ∷ rest) h = absurd (omega (arith, (Decides-eqb (length (a ∷ b ∷ c ∷ rest)) 2).0 (and_parts _ _ h).0))
+
+dots-listed : (words : List (List ℕ)) → is_dots words ≡ true → IsListed words Dots
+dots-listed [] h = absurd cc
+dots-listed (a ∷ []) h = absurd cc
+dots-listed (a ∷ b ∷ []) h = subst (λ (w : List ℕ). IsListed (w ∷ b ∷ []) Dots) (sym (word-true a (codes "dots") h)) dots
+dots-listed (a ∷ b ∷ c ∷ rest) h = absurd (omega (arith, (Decides-eqb (length (a ∷ b ∷ c ∷ rest)) 2).0 (and_parts _ _ h).0))
 
 export-word : (b c word : List ℕ) (node : ℕ) → IsNodeWord word node → IsListed (codes "export" ∷ b ∷ c ∷ word ∷ []) (Export node)
 export-word b c word node h = subst (λ (w : List ℕ). IsListed (codes "export" ∷ b ∷ c ∷ w ∷ []) (Export node)) (sym h.is) (export h.few)
@@ -125,11 +111,15 @@ answer-export : (words : List (List ℕ)) (c : Bool) → is_export words ≡ c �
 answer-export words true e = answer-node words (node_word (word_at words 3)) e refl
 answer-export words false e = answer-merge words (is_merge words) refl
 
-answer-check : (words : List (List ℕ)) (b : Bool) → is_check words ≡ b → FormAnswer words (if b then Check else if is_export words then export_form (node_word (word_at words 3)) else if is_merge words then Merge else Wrong)
-answer-check words true e = listed (check-listed words e)
-answer-check words false e = answer-export words (is_export words) refl
+answer-dots : (words : List (List ℕ)) (e : Bool) → is_dots words ≡ e → FormAnswer words (if e then Dots else if is_export words then export_form (node_word (word_at words 3)) else if is_merge words then Merge else Wrong)
+answer-dots words true h = listed (dots-listed words h)
+answer-dots words false h = answer-export words (is_export words) refl
 
-answer-plain : (words : List (List ℕ)) (a : Bool) → is_plain words ≡ a → FormAnswer words (chosen a (is_check words) (is_export words) (node_word (word_at words 3)) (is_merge words))
+answer-check : (words : List (List ℕ)) (b : Bool) → is_check words ≡ b → FormAnswer words (if b then Check else if is_dots words then Dots else if is_export words then export_form (node_word (word_at words 3)) else if is_merge words then Merge else Wrong)
+answer-check words true e = listed (check-listed words e)
+answer-check words false e = answer-dots words (is_dots words) refl
+
+answer-plain : (words : List (List ℕ)) (a : Bool) → is_plain words ≡ a → FormAnswer words (chosen a (is_check words) (is_dots words) (is_export words) (node_word (word_at words 3)) (is_merge words))
 answer-plain words true e = listed (plain-listed words e)
 answer-plain words false e = answer-check words (is_check words) refl
 
@@ -151,22 +141,25 @@ merge-form : (graph : List ℕ) (files : List (List ℕ)) → 1 ≤ length files
 merge-form graph files some few =
     let words : List (List ℕ) = codes "merge" ∷ graph ∷ files in
     form-chosen words
-    ∙ ap (λ (a : Bool). chosen a (is_check words) (is_export words) (node_word (word_at words 3)) (is_merge words)) (and-false (length words == 3))
-    ∙ ap (λ (b : Bool). chosen false b (is_export words) (node_word (word_at words 3)) (is_merge words)) (and-false (length words == 2))
-    ∙ ap (λ (c : Bool). chosen false false c (node_word (word_at words 3)) (is_merge words)) (and-false (length words == 4))
-    ∙ ap (λ (d : Bool). chosen false false false (node_word (word_at words 3)) (d && true)) (and-two (nat_lt 2 (length words)) (nat_lt (length words) 11) (lt-ltb 2 (length words) (omega (arith, some))) (lt-ltb (length words) 11 (omega (arith, few))))
+    ∙ ap (λ (a : Bool). chosen a (is_check words) (is_dots words) (is_export words) (node_word (word_at words 3)) (is_merge words)) (and-false (length words == 3))
+    ∙ ap (λ (b : Bool). chosen false b (is_dots words) (is_export words) (node_word (word_at words 3)) (is_merge words)) (and-false (length words == 2))
+    ∙ ap (λ (e : Bool). chosen false false e (is_export words) (node_word (word_at words 3)) (is_merge words)) (and-false (length words == 2))
+    ∙ ap (λ (c : Bool). chosen false false false c (node_word (word_at words 3)) (is_merge words)) (and-false (length words == 4))
+    ∙ ap (λ (d : Bool). chosen false false false false (node_word (word_at words 3)) (d && true)) (and-two (nat_lt 2 (length words)) (nat_lt (length words) 11) (lt-ltb 2 (length words) (omega (arith, some))) (lt-ltb (length words) 11 (omega (arith, few))))
 
 -- words of a listed form have this form
 pub listed-form : (words : List (List ℕ)) (f : Form) → IsListed words f → form words ≡ f
 unfolding form
 listed-form words f plain = refl
 listed-form words f check = refl
+listed-form words f dots = refl
 listed-form words f (export {node = node} few) = ap export_form (node-decimal node few)
 listed-form words f (merge {graph = graph} {files = files} some few) = merge-form graph files some few
 
 not-wrong : (words : List (List ℕ)) (f : Form) → IsListed words f → f ≡ Wrong → ⊥
 not-wrong words f plain e = absurd cc
 not-wrong words f check e = absurd cc
+not-wrong words f dots e = absurd cc
 not-wrong words f (export few) e = absurd cc
 not-wrong words f (merge some few) e = absurd cc
 

@@ -11,3 +11,11 @@ mod NamedLaws
 mod KindLaws
 mod DeclarationLaws
 mod MergeCauses
+mod DirectLaws
+pub mod PromiseLaws
+pub mod NumberLaws
+pub mod BackLaws
+mod StatusLaws
+mod AlikeLaws
+mod DotCauses
+mod DotTextLaws

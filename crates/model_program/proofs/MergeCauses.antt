@@ -9,9 +9,9 @@ use Rattle.model_messages.specs.Message.{Message}
 use Rattle.model_wire.specs.Message.{decoded}
 use Rattle.model_wire.specs.declared.wire_why.WireWhy.{WireWhy}
 use Rattle.model_world.specs.World.{Peer, delivered}
-use Rattle.model_program.specs.Plan.{Answer, Plan, Says, told_answer, word_at, file_limit, checked}
+use Rattle.model_program.specs.Plan.{Answer, Plan, Says, exactly, told_answer, word_at, file_limit, checked}
 use Rattle.model_program.specs.Merge.{file_at, state_refused, large_refused, may_take, replica_before, message_joined, file_joined, merge_answer, merge_text, merging_more, merging_files, nodes_in, joined}
-use Rattle.model_program.specs.Listed.{IsListed, plain, check as a_check, export, merge}
+use Rattle.model_program.specs.Listed.{IsListed, plain, check as a_check, dots, export, merge}
 use Rattle.model_program.specs.Program.{form}
 use Rattle.model_program.specs.declared.form.Form.{Form}
 use Rattle.model_program.specs.declared.form.Form.TheVariants as form_of
@@ -26,7 +26,7 @@ use Rattle.model_program.proofs.CauseLaws.{told-short, told-long, told-checked, 
 -- ---- one file
 
 -- where a test fails
-false-here : (b : Bool) → (b ≡ true → ⊥) → b ≡ false
+pub false-here : (b : Bool) → (b ≡ true → ⊥) → b ≡ false
 false-here true h = absurd (h refl)
 false-here false h = refl
 
@@ -78,7 +78,7 @@ module _ (g : List Decl) (before : List Message) (bytes : List ℕ) where
 -- ---- one file after the other
 
 -- the plan once the files of these messages are joined, so many being left
-abbrev rest_plan : List Decl → List Message → ℕ → Plan
+abbrev pub rest_plan : List Decl → List Message → ℕ → Plan
 rest_plan g [] zero = Says (Err refusal.Usage)
 rest_plan g [] (suc left) = merging_files g left
 rest_plan g (m ∷ ms) left = merging_more g (length (m ∷ ms)) left (joined g (m ∷ ms))
@@ -94,14 +94,14 @@ joined-nodes g content words ms none = tt
 joined-nodes g content words ms (more {before = before} {m = m} there here) = nodes-push before m (joined-nodes g content words before there) here.nodes
 
 module _ (g : List Decl) (content : List ℕ → Option (List ℕ)) (words : List (List ℕ)) where
-  abbrev answered : Plan → Option Answer
+  abbrev pub answered : Plan → Option Answer
   answered p = told_answer content words p
 
   -- what the plan does with the next file
-  abbrev next : List Message → ℕ → List ℕ → Plan
+  abbrev pub next : List Message → ℕ → List ℕ → Plan
   next ms left bytes = checked (λ e. e) (file_joined g (length ms) (replica_of g ms) bytes) (λ r. merging_more g (length ms + 1) left r)
 
-  file-short : (ms : List Message) (left : ℕ) (bytes : List ℕ) → IsFileTold content words (file_at (length ms)) bytes → answered (rest_plan g ms (suc left)) ≡ answered (next ms left bytes)
+  pub file-short : (ms : List Message) (left : ℕ) (bytes : List ℕ) → IsFileTold content words (file_at (length ms)) bytes → answered (rest_plan g ms (suc left)) ≡ answered (next ms left bytes)
   file-short [] left bytes file = told-short content words (file_at 0) bytes (next [] left) file.told file.short
   file-short (m ∷ ms) left bytes file =
       ap answered (more-file g (length (m ∷ ms)) left (joined g (m ∷ ms))) ∙ told-short content words (file_at (length (m ∷ ms))) bytes (next (m ∷ ms) left) file.told file.short
@@ -117,7 +117,7 @@ module _ (g : List Decl) (content : List ℕ → Option (List ℕ)) (words : Lis
   file-refused ms left bytes e file refused =
       file-short ms left bytes file ∙ told-refused content words (λ x. x) (file_joined g (length ms) (replica_of g ms) bytes) e (λ r. merging_more g (length ms + 1) left r) refused
 
-  file-joined : (ms : List Message) (m : Message) (left : ℕ) → AreJoined g content words ms → IsJoined g content words ms m → answered (rest_plan g ms (suc left)) ≡ answered (rest_plan g (ms ++ m ∷ []) left)
+  pub file-joined : (ms : List Message) (m : Message) (left : ℕ) → AreJoined g content words ms → IsJoined g content words ms m → answered (rest_plan g ms (suc left)) ≡ answered (rest_plan g (ms ++ m ∷ []) left)
   file-joined ms m left there here =
       file-short ms left here.bytes here.file
       ∙ told-checked content words (λ x. x) (file_joined g (length ms) (replica_of g ms) here.bytes) (joined g (ms ++ m ∷ [])) (λ r. merging_more g (length ms + 1) left r)
@@ -137,20 +137,20 @@ module _ (g : List Decl) (content : List ℕ → Option (List ℕ)) (words : Lis
   next-answer ms is there within h =
       files-joined ms (length words - 3) (suc (length words - 3 - length ms)) there (omega (arith, within)) ∙ h (length words - 3 - length ms)
 
-  last-plan : (ms : List Message) → 1 ≤ length ms → rest_plan g ms 0 ≡ Says (merge_answer g (length ms) (joined g ms))
+  last-plan : (ms : List Message) → 1 ≤ length ms → rest_plan g ms 0 ≡ Says (exactly (merge_answer g (length ms) (joined g ms)))
   last-plan [] h = absurd (omega (arith, h))
   last-plan (m ∷ ms) h = more-none g (length (m ∷ ms)) (joined g (m ∷ ms))
 
-  pub last-answer : (ms : List Message) (is : Answer) → AreJoined g content words ms → 3 ≤ length words → file_at (length ms) ≡ length words → merge_answer g (length ms) (joined g ms) ≡ is
-      → answered (merging_files g (length words - 3)) ≡ Some is
+  pub last-answer : (ms : List Message) (is : Result (List ℕ) Refusal) → AreJoined g content words ms → 3 ≤ length words → file_at (length ms) ≡ length words → merge_answer g (length ms) (joined g ms) ≡ is
+      → answered (merging_files g (length words - 3)) ≡ Some (exactly is)
   last-answer ms is there many all e =
       files-joined ms (length words - 3) 0 there (omega (arith, many, all))
       ∙ ap answered (last-plan ms (omega (arith, many, all)))
-      ∙ told-answer content words (merge_answer g (length ms) (joined g ms)) is e
+      ∙ told-answer content words (exactly (merge_answer g (length ms) (joined g ms))) (exactly is) (ap exactly e)
 
 -- ---- what is answered behind the last file
 
-abbrev after_shown : List Decl → ℕ → Peer → Option ℕ → Answer
+abbrev after_shown : List Decl → ℕ → Peer → Option ℕ → Result (List ℕ) Refusal
 after_shown g files r large = large_refused g files large >>= λ _. Ok (merge_text g r)
 
 pub shown-answer : (g : List Decl) (files : ℕ) (r : Peer) (large : Option ℕ) → first_large 0 (eval g r.contents) ≡ large → merge_answer g files r ≡ after_shown g files r large
@@ -161,6 +161,7 @@ shown-answer g files r large e = ap (after_shown g files r) e
 listed-many : (words : List (List ℕ)) (f : Form) → IsListed words f → f ≡ form_of.Merge → 3 ≤ length words
 listed-many words f plain e = absurd cc
 listed-many words f a_check e = absurd cc
+listed-many words f dots e = absurd cc
 listed-many words f (export few) e = absurd cc
 listed-many words f (merge some few) e = omega (arith, some)
 

@@ -10,7 +10,7 @@ use Rattle.model_graph.specs.Graph.{Kind, OrSet, GSet, Counter, MaxReg, Union, P
 use Rattle.model_messages.specs.Message.{Message}
 use Rattle.model_world.specs.World.{Peer, fresh_peer, delivered}
 use Rattle.model_readings.specs.Graph.{declaration}
-use Rattle.model_program.specs.Plan.{Says}
+use Rattle.model_program.specs.Plan.{Says, exactly}
 use Rattle.model_program.specs.Merge.{declared_in, sources_of, IsPrefixOf, is_same_kind, is_same_source, is_prefix_of, may_take, replica_before, merging_file, merge_answer, merging_more, nodes_in, taking, joined}
 
 -- ---- sources
@@ -91,7 +91,7 @@ take-Decides g r m =
 
 -- ---- files
 
-pub more-none : (g : List Decl) (i : ℕ) (r : Peer) → merging_more g i zero r ≡ Says (merge_answer g i r)
+pub more-none : (g : List Decl) (i : ℕ) (r : Peer) → merging_more g i zero r ≡ Says (exactly (merge_answer g i r))
 unfolding merging_more
 more-none g i r = refl
 

@@ -12,9 +12,10 @@ use Rattle.model_readings.specs.declared.graph_why.GraphWhy.{GraphWhy}
 use Rattle.model_scripts.specs.Progress.{grown}
 use Rattle.model_scripts.specs.Script.{script_of}
 use Rattle.model_scripts.specs.declared.script_why.ScriptWhy.{ScriptWhy}
-use Rattle.model_program.specs.Plan.{Answer, Plan, Says, told_answer, word_at, file_limit, checked}
+use Rattle.model_program.specs.Plan.{Plan, Says, exactly, told_answer, word_at, file_limit, checked}
 use Rattle.model_program.specs.Program.{form, plan, plan_of, opening, scripting, run_answer, graph_refused, script_refused, stopped}
 use Rattle.model_program.specs.declared.form.Form.{Form}
+use Rattle.model_program.specs.declared.refusal.Refusal.{Refusal}
 use Rattle.model_program.specs.declared.refusal.Refusal.TheVariants as refusal
 use Rattle.model_program.specs.Told.{IsFileTold, IsGraphTold, IsScriptTold}
 use Rattle.model_program.proofs.CauseLaws.{told-short, told-long, told-checked, told-refused, told-answer}
@@ -55,17 +56,17 @@ module _ (lib : Library) (content : List ℕ → Option (List ℕ)) (words : Lis
       ∙ told-checked content words script_refused (script_of lib g script.bytes) s next script.read
 
 -- what a run with this end answers
-abbrev pub ended_answer : (Run → List ℕ) → List Decl → Script → Result Run Stop → Answer
+abbrev pub ended_answer : (Run → List ℕ) → List Decl → Script → Result Run Stop → Result (List ℕ) Refusal
 ended_answer output g s r = refusing (stopped (grown g s.commands)) r >>= (λ run. Ok (output run))
 
 pub run-ends : (output : Run → List ℕ) (g : List Decl) (s : Script) (r : Result Run Stop) → ended g s ≡ r → run_answer output g s ≡ ended_answer output g s r
 run-ends output g s r ends = ap (ended_answer output g s) ends
 
 -- graph and script are accepted
-module _ (lib : Library) (content : List ℕ → Option (List ℕ)) (words : List (List ℕ)) (g : List Decl) (answer : List Decl → Script → Answer) where
-  pub to-script : IsGraphTold lib content words g → told_answer content words (opening lib (λ h. scripting lib h (λ s. Says (answer h s)))) ≡ told_answer content words (scripting lib g (λ s. Says (answer g s)))
-  to-script graph = opening-read lib content words (λ h. scripting lib h (λ s. Says (answer h s))) g graph
+module _ (lib : Library) (content : List ℕ → Option (List ℕ)) (words : List (List ℕ)) (g : List Decl) (answer : List Decl → Script → Result (List ℕ) Refusal) where
+  pub to-script : IsGraphTold lib content words g → told_answer content words (opening lib (λ h. scripting lib h (λ s. Says (exactly (answer h s))))) ≡ told_answer content words (scripting lib g (λ s. Says (exactly (answer g s))))
+  to-script graph = opening-read lib content words (λ h. scripting lib h (λ s. Says (exactly (answer h s)))) g graph
 
-  pub to-answer : (s : Script) (is : Answer) → IsGraphTold lib content words g → IsScriptTold lib content words g s → answer g s ≡ is
-      → told_answer content words (opening lib (λ h. scripting lib h (λ s. Says (answer h s)))) ≡ Some is
-  to-answer s is graph script e = to-script graph ∙ scripting-read lib content words g (λ k. Says (answer g k)) s script ∙ told-answer content words (answer g s) is e
+  pub to-answer : (s : Script) (is : Result (List ℕ) Refusal) → IsGraphTold lib content words g → IsScriptTold lib content words g s → answer g s ≡ is
+      → told_answer content words (opening lib (λ h. scripting lib h (λ s. Says (exactly (answer h s))))) ≡ Some (exactly is)
+  to-answer s is graph script e = to-script graph ∙ scripting-read lib content words g (λ k. Says (exactly (answer g k))) s script ∙ told-answer content words (exactly (answer g s)) (exactly is) (ap exactly e)

@@ -6,8 +6,8 @@ use Rattle.std.proofs.lemmas.Bool.{le-ltb, lt-ltb}
 use Rattle.model_graph.specs.Chain.{refusing}
 use Rattle.model_values.specs.Faults.{Rose}
 use Rattle.model_values.specs.Told.{Sees}
-use Rattle.model_program.specs.Plan.{Answer, Plan, Says, Reads, checked, within, reading, file_limit, word_at}
-use Rattle.model_program.specs.Follows.{View, Fails, Gives, Follows, IsPartOf, Passes, Stops, Performs}
+use Rattle.model_program.specs.Plan.{Plan, Says, exactly, Reads, checked, within, reading, file_limit, word_at}
+use Rattle.model_program.specs.Follows.{View, Fails, Allows, Gives, Follows, IsPartOf, Passes, Stops, Performs}
 use Rattle.model_program.specs.declared.refusal.Refusal.{Refusal}
 use Rattle.model_program.specs.declared.refusal.Refusal.TheVariants.{TooLong}
 use Rattle.model_program.specs.declared.failure.Failure.{Failure}
@@ -103,7 +103,15 @@ stops-checked words v f refuse reader failure stops w part next = stops w part (
 pub part-itself : (v : View) → IsPartOf v v
 part-itself v = record { content = λ n. refl; before = λ n. omega arith; after = λ n. omega arith }
 
+-- where one text alone is lawful, a result is allowed exactly where it is what a function gives
+pub gives-allows : (answer : Result (List ℕ) Refusal) (r : Result (List ℕ) Failure) → Gives (λ (t : List ℕ). t) answer r → Allows (exactly answer) r
+gives-allows (Ok text) (Ok bytes) h = let same : bytes ≡ text = cc in same
+gives-allows (Err e) (Ok bytes) h = absurd cc
+gives-allows answer (Err (Refused e)) h = ap exactly h
+gives-allows answer (Err (ReadFault f)) h = h
+gives-allows answer (Err Memory) h = tt
+
 -- the end of a plan
-pub follows-says : (words : List (List ℕ)) (v : View) (answer : Answer) (r : Result (List ℕ) Failure) → Gives (λ (t : List ℕ). t) answer r → Follows words v (Says answer) r
+pub follows-says : (words : List (List ℕ)) (v : View) (answer : Result (List ℕ) Refusal) (r : Result (List ℕ) Failure) → Gives (λ (t : List ℕ). t) answer r → Follows words v (Says (exactly answer)) r
 unfolding Follows
-follows-says words v answer r h = h
+follows-says words v answer r h = gives-allows answer r h

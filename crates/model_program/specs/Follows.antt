@@ -2,7 +2,7 @@
 use Rattle.std.specs.Prelude.{◌≡◌, ◌<◌, ◌≤◌, ◌⊎◌, ℕ, List, length, Option, Result, Ok, Err}
 use Rattle.model_values.specs.Faults.{Rose}
 use Rattle.model_values.specs.Told.{Sees}
-use Rattle.model_program.specs.Plan.{Plan, Says, Reads, word_at}
+use Rattle.model_program.specs.Plan.{IsText, Answer, Plan, Says, Reads, word_at}
 use Rattle.model_program.specs.declared.refusal.Refusal.{Refusal}
 use Rattle.model_program.specs.declared.failure.Failure.{Failure}
 use Rattle.model_program.specs.declared.failure.Failure.TheVariants.{Refused, ReadFault, Memory}
@@ -23,7 +23,19 @@ Fails words v f (Err (Refused e)) = ⊥
 Fails words v f (Err (ReadFault e)) = (e ≡ f) × (f < length words) × Rose (v.before (word_at words f)) (v.after (word_at words f))
 Fails words v f (Err Memory) = Unit {0}
 
--- the result is this answer, or memory was wanting
+-- the answer is a text, and these bytes are as it has to be
+abbrev pub AllowsText : Answer → List ℕ → Type 0
+AllowsText (Ok text) bytes = IsText text bytes
+AllowsText (Err e) bytes = ⊥
+
+-- the answer allows the result: a text as it has to be, its refusal, or want of memory
+abbrev pub Allows : Answer → Result (List ℕ) Failure → Type 0
+Allows answer (Ok bytes) = AllowsText answer bytes
+Allows answer (Err (Refused e)) = answer ≡ Err e
+Allows answer (Err (ReadFault f)) = ⊥
+Allows answer (Err Memory) = Unit {0}
+
+-- the result is what a function gives, or memory was wanting
 abbrev pub Gives : {A B : Type 0} → (A → B) → Result B Refusal → Result A Failure → Type 0
 Gives shown answer (Ok x) = answer ≡ Ok (shown x)
 Gives shown answer (Err (Refused e)) = answer ≡ Err e
@@ -32,7 +44,7 @@ Gives shown answer (Err Memory) = Unit {0}
 
 -- the result is one to which the plan leads
 unfoldable pub Follows : List (List ℕ) → View → Plan → Result (List ℕ) Failure → Type 0
-Follows words v (Says answer) r = Gives (λ (t : List ℕ). t) answer r
+Follows words v (Says answer) r = Allows answer r
 Follows words v (Reads f next) r = Fails words v f r ⊎ ((bytes : List ℕ) × Sees (v.content (word_at words f)) bytes × Follows words v (next bytes) r)
 
 -- the first call is a part of the second: it saw the same contents, and began later and ended earlier

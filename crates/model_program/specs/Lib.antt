@@ -10,3 +10,7 @@ pub mod Told
 pub mod First
 pub mod Named
 pub mod Declaration
+pub mod Call
+pub mod Cause
+pub mod Places
+pub mod Dots

@@ -12,7 +12,7 @@ use Rattle.model_wire.specs.declared.wire_why.WireWhy.{WireWhy}
 use Rattle.model_world.specs.Line.{line, shown_content}
 use Rattle.model_world.specs.World.{Peer, fresh_peer, delivered}
 use Rattle.model_scripts.specs.Check.{is_orset, is_gset, is_counter, is_maxreg}
-use Rattle.model_program.specs.Plan.{Answer, Plan, Says, checked, reading}
+use Rattle.model_program.specs.Plan.{Plan, Says, exactly, checked, reading}
 use Rattle.model_program.specs.declared.refusal.Refusal.{Refusal}
 use Rattle.model_program.specs.declared.refusal.Refusal.TheVariants as refusal
 use Rattle.model_program.specs.declared.state_why.StateWhy.TheVariants.{Wire, WrongGraph}
@@ -101,14 +101,14 @@ abbrev pub merge_text : List Decl → Peer → List ℕ
 merge_text g r = value_lines 0 g (eval g r.contents) ++ counts_line r.counts
 
 -- what is answered of the replica of so many files
-abbrev pub merge_answer : List Decl → ℕ → Peer → Answer
+abbrev pub merge_answer : List Decl → ℕ → Peer → Result (List ℕ) Refusal
 merge_answer g files r = do
   _ ← large_refused g files (first_large 0 (eval g r.contents))
   Ok (merge_text g r)
 
 -- so many files more, the first of them being number i
 unfoldable pub merging_more : List Decl → ℕ → ℕ → Peer → Plan
-merging_more g i zero r = Says (merge_answer g i r)
+merging_more g i zero r = Says (exactly (merge_answer g i r))
 merging_more g i (suc more) r = merging_file g i (Some r) (λ next. merging_more g (i + 1) more next)
 
 -- the first file, and so many more

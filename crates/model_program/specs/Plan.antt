@@ -3,9 +3,22 @@ use Rattle.std.specs.Prelude.{◌≡◌, ◌⊎◌, ℕ, List, length, if◌then
 use Rattle.model_program.specs.declared.refusal.Refusal.{Refusal}
 use Rattle.model_program.specs.declared.refusal.Refusal.TheVariants.{TooLong}
 
--- the text to write, or a refusal
+-- What a text has to be. Where one text alone is lawful, it is told; a command that has many lawful texts has a constructor of its own, with what decides which they are.
+pub data Text : Type 0 where
+  Exactly : List ℕ → Text
+
+-- these bytes are such a text
+abbrev pub IsText : Text → List ℕ → Type 0
+IsText (Exactly text) bytes = bytes ≡ text
+
+-- what the text to write has to be, or a refusal
 abbrev pub Answer : Type 0
-Answer = Result (List ℕ) Refusal
+Answer = Result Text Refusal
+
+-- the answer where one text alone is lawful
+abbrev pub exactly : Result (List ℕ) Refusal → Answer
+exactly (Ok text) = Ok (Exactly text)
+exactly (Err refusal) = Err refusal
 
 pub data Plan : Type 0 where
   Says : Answer → Plan

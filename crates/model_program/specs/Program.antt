@@ -1,6 +1,8 @@
 -- The program: which plan its words stand for.
-use Rattle.std.specs.Prelude.{ℕ, ◌+◌, ◌-◌, List, [], ◌∷◌, codes, length, if◌then◌else◌, ◌&&◌, ◌==◌, nat_lt, nat_le, Option, Some, None, Ok, Err}
+use Rattle.std.specs.Prelude.{ℕ, ◌+◌, ◌-◌, List, codes, length, if◌then◌else◌, ◌&&◌, ◌==◌, nat_lt, nat_le, Option, Some, None, Result, Ok, Err}
+use Rattle.std.specs.Fmt.{decimal}
 use Rattle.std.specs.Str.{bytes_eq}
+use Rattle.std.specs.Str.Parse.{digits_value}
 use Rattle.model_functions.specs.Library.{Library}
 use Rattle.model_graph.specs.Graph.{Decl, name_at}
 use Rattle.model_graph.specs.Chain.{◌>>=◌, check, refusing}
@@ -16,13 +18,15 @@ use Rattle.model_scripts.specs.Progress.{grown}
 use Rattle.model_scripts.specs.Script.{script_of}
 use Rattle.model_scripts.specs.declared.script_why.ScriptWhy.{ScriptWhy}
 use Rattle.model_scripts.specs.declared.script_why.ScriptWhy.TheVariants.{NoSuchNode}
+use Rattle.model_dot_worlds.specs.DotWorld.{one_set}
 use Rattle.model_program.specs.Check.{check_text}
+use Rattle.model_program.specs.Dots.{dots_answer}
 use Rattle.model_program.specs.Merge.{merging_files}
-use Rattle.model_program.specs.Plan.{Answer, Plan, Says, checked, reading, word_at}
+use Rattle.model_program.specs.Plan.{Plan, Says, exactly, checked, reading, word_at}
 use Rattle.model_program.specs.declared.refusal.Refusal.{Refusal}
 use Rattle.model_program.specs.declared.refusal.Refusal.TheVariants as refusal
 use Rattle.model_program.specs.declared.form.Form.{Form}
-use Rattle.model_program.specs.declared.form.Form.TheVariants.{Plain, Check, Export, Merge, Wrong}
+use Rattle.model_program.specs.declared.form.Form.TheVariants.{Plain, Check, Dots, Export, Merge, Wrong}
 
 abbrev pub graph_refused : ℕ × GraphWhy → Refusal
 graph_refused e = refusal.Graph e.0 e.1
@@ -30,10 +34,17 @@ graph_refused e = refusal.Graph e.0 e.1
 abbrev pub script_refused : ℕ × ScriptWhy → Refusal
 script_refused e = refusal.Script e.0 e.1
 
--- a node's number in one digit, 0 to 7
+-- the number, where it is from these bounds and the word is its spelling
+abbrev pub spelled_in : List ℕ → ℕ → ℕ → ℕ → Option ℕ
+spelled_in word least most number = if nat_le least number && nat_le number most && bytes_eq word (decimal number) then Some number else None
+
+-- the number from these bounds that the word spells in decimal digits without a leading zero
+abbrev pub number_in : List ℕ → ℕ → ℕ → Option ℕ
+number_in word least most = spelled_in word least most (digits_value 10 word)
+
+-- a node's number, 0 to 7
 abbrev pub node_word : List ℕ → Option ℕ
-node_word (digit ∷ []) = if nat_le 48 digit && nat_lt digit 56 then Some (digit - 48) else None
-node_word _ = None
+node_word word = number_in word 0 7
 
 abbrev pub export_form : Option ℕ → Form
 export_form (Some node) = Export node
@@ -44,6 +55,7 @@ unfoldable pub form : List (List ℕ) → Form
 form words =
     if length words == 3 && bytes_eq (word_at words 0) (codes "plain") then Plain else
     if length words == 2 && bytes_eq (word_at words 0) (codes "check") then Check else
+    if length words == 2 && bytes_eq (word_at words 0) (codes "dots") then Dots else
     if length words == 4 && bytes_eq (word_at words 0) (codes "export") then export_form (node_word (word_at words 3)) else
     if nat_lt 2 (length words) && nat_lt (length words) 11 && bytes_eq (word_at words 0) (codes "merge") then Merge else
     Wrong
@@ -63,12 +75,12 @@ stopped g (stop.NetworkFull command) = refusal.NetworkFull command
 stopped g (stop.NotReached command) = refusal.NotReached command
 
 -- what is written of a run's last world; a variable where it stops may be one that the script declares
-abbrev pub run_answer : (Run → List ℕ) → List Decl → Script → Answer
+abbrev pub run_answer : (Run → List ℕ) → List Decl → Script → Result (List ℕ) Refusal
 run_answer output g script = refusing (stopped (grown g script.commands)) (ended g script) >>= (λ run. Ok (output run))
 
 -- script, run, and then a text of its last world
 abbrev pub running_script : Library → (Run → List ℕ) → List Decl → Plan
-running_script lib output g = scripting lib g (λ script. Says (run_answer output g script))
+running_script lib output g = scripting lib g (λ script. Says (exactly (run_answer output g script)))
 
 -- graph, script, run, and then a text of its last world
 abbrev pub running : Library → (Run → List ℕ) → Plan
@@ -76,21 +88,29 @@ running lib output = opening lib (λ g. running_script lib output g)
 
 -- graph, and then what its variables are
 abbrev pub checking : Library → Plan
-checking lib = opening lib (λ g. Says (Ok (check_text g)))
+checking lib = opening lib (λ g. Says (exactly (Ok (check_text g))))
+
+-- the script is the second word's file, read against the graph of one set
+abbrev pub dots_scripting : Library → (Script → Plan) → Plan
+dots_scripting lib next = reading 1 (λ bytes. checked script_refused (script_of lib one_set bytes) next)
+
+-- script, whether replicas without tombstones know its words, and then what they print, know and keep
+abbrev pub running_dots : Library → Plan
+running_dots lib = dots_scripting lib (λ script. Says (exactly (dots_answer script)))
 
 -- the bytes of a node's message in the last world
 abbrev pub exported_bytes : ℕ → Run → List ℕ
 exported_bytes node run = spelled (message_at run.graph (peer_at run.peers node))
 
 -- a script without the node is refused behind its last command
-abbrev pub export_answer : ℕ → List Decl → Script → Answer
+abbrev pub export_answer : ℕ → List Decl → Script → Result (List ℕ) Refusal
 export_answer node g script = do
   _ ← check (nat_lt node script.nodes) (refusal.Script (length script.commands + 1) NoSuchNode)
   run_answer (exported_bytes node) g script
 
 -- script, whether it has the node, run, and then the node's message
 abbrev pub exporting_script : Library → ℕ → List Decl → Plan
-exporting_script lib node g = scripting lib g (λ script. Says (export_answer node g script))
+exporting_script lib node g = scripting lib g (λ script. Says (exactly (export_answer node g script)))
 
 -- graph, script, whether it has the node, run, and then the node's message
 abbrev pub exporting : Library → ℕ → Plan
@@ -103,6 +123,7 @@ merging lib more = opening lib (λ g. merging_files g more)
 abbrev pub plan_of : Library → List (List ℕ) → Form → Plan
 plan_of lib words Plain = running lib report_of
 plan_of lib words Check = checking lib
+plan_of lib words Dots = running_dots lib
 plan_of lib words (Export node) = exporting lib node
 plan_of lib words Merge = merging lib (length words - 3)
 plan_of lib words Wrong = Says (Err refusal.Usage)

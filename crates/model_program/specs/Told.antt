@@ -6,10 +6,13 @@ use Rattle.model_graph.specs.Evaluation.{first_large}
 use Rattle.model_messages.specs.Message.{Message}
 use Rattle.model_wire.specs.Message.{decoded}
 use Rattle.model_world.specs.Command.{Script}
+use Rattle.model_dot_worlds.specs.DotWorld.{one_set}
 use Rattle.model_readings.specs.Graph.{graph_of}
 use Rattle.model_scripts.specs.Script.{script_of}
 use Rattle.model_program.specs.Merge.{declared_in, sources_of, IsPrefixOf, file_at, nodes_in, joined}
 use Rattle.model_program.specs.Plan.{word_at, file_limit}
+use Rattle.model_program.specs.Program.{form}
+use Rattle.model_program.specs.declared.form.Form.TheVariants.{Plain, Dots}
 
 -- these bytes are told of the file that the word at this place names, and they are not too many
 pub record IsFileTold (content : List ℕ → Option (List ℕ)) (words : List (List ℕ)) (f : ℕ) (bytes : List ℕ) : Type 0 where
@@ -27,6 +30,23 @@ pub record IsScriptTold (lib : Library) (content : List ℕ → Option (List ℕ
   pub bytes : List ℕ
   pub file : IsFileTold content words 2 bytes
   pub read : script_of lib g bytes ≡ Ok s
+
+-- the first file is told and not too long, and its bytes are this script against the graph of one set
+pub record IsDotsTold (lib : Library) (content : List ℕ → Option (List ℕ)) (words : List (List ℕ)) (s : Script) : Type 0 where
+  pub bytes : List ℕ
+  pub file : IsFileTold content words 1 bytes
+  pub read : script_of lib one_set bytes ≡ Ok s
+
+-- the words are `plain GRAPH SCRIPT`, and the files say this graph and this script
+pub record TellsRun (lib : Library) (content : List ℕ → Option (List ℕ)) (words : List (List ℕ)) (g : List Decl) (s : Script) : Type 0 where
+  pub plain : form words ≡ Plain
+  pub graph : IsGraphTold lib content words g
+  pub script : IsScriptTold lib content words g s
+
+-- the words are `dots SCRIPT`, and the file says this script
+pub record TellsDots (lib : Library) (content : List ℕ → Option (List ℕ)) (words : List (List ℕ)) (s : Script) : Type 0 where
+  pub dots : form words ≡ Dots
+  pub script : IsDotsTold lib content words s
 
 -- the sources of the message are the first ones of the graph
 abbrev pub IsOfGraph : List Decl → Message → Type 0

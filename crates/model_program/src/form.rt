@@ -7,6 +7,8 @@ pub enum Form {
     Plain,
     /// `check GRAPH`
     Check,
+    /// `dots SCRIPT`
+    Dots,
     /// `export GRAPH SCRIPT NODE`, NODE being 0 to 7
     Export(u8),
     /// `merge GRAPH FILE ..`, of 1 to 8 files

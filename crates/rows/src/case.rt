@@ -1,15 +1,19 @@
 //! One case: its files, its runs, and how these must end.
 
 use crate::ended::Ended;
-use crate::program::run_line;
+use crate::program::{Room, run_line};
 use crate::text::{add_line, each, split, times};
 use anyhow::{Result, bail};
 use lasp_edge::{Files, MemFiles};
 use std::alloc::{AllocError, Global};
 use std::mem;
 
-/// How many bytes an output takes.
-const ROOM: u64 = 4_000_000;
+/// What outputs take where nothing else is said.
+const AMPLE: Room = Room {
+    out: 4_000_000,
+    err: 4_000_000,
+    failing: None,
+};
 
 /// A case as far as it was read.
 #[derive(Drop)]
@@ -19,8 +23,8 @@ pub struct Case {
     // the file that was begun last
     name: String,
     bytes: Vec<u8>,
-    // how many bytes the next run's line of an error may have
-    err_room: u64,
+    // what the outputs of the next run take
+    room: Room,
     // how many runs there were, how the last one ended, and how it must
     runs: u64,
     came: Ended,
@@ -36,7 +40,7 @@ impl Case {
             files: MemFiles::new(alloc),
             name: String::new(alloc),
             bytes: Vec::new(alloc),
-            err_room: ROOM,
+            room: AMPLE,
             runs: 0,
             came: Ended::new(alloc),
             wanted: Ended::new(alloc),
@@ -63,7 +67,8 @@ impl Case {
     fn take_other(&mut self, word: &str, rest: &str) -> Result<()> {
         match word.as_bytes() {
             b"fail_read" => self.files.fail_at(rest.parse()?)?,
-            b"err_room" => self.err_room = rest.parse()?,
+            b"err_room" => self.room.err = rest.parse()?,
+            b"fail_write" => self.room.failing = Some(rest.parse()?),
             b"keep" => self.keep(rest)?,
             b"unread" => self.want_unread(rest)?,
             b"out" => add_line(&mut self.wanted.out, rest)?,
@@ -87,7 +92,7 @@ impl Case {
     fn append(&mut self, bytes: &[u8]) -> Result<()> {
         self.bytes.extend_from_slice(bytes)?;
         self.files
-            .put_file(self.alloc, self.name.as_str(), self.bytes.as_slice())?;
+            .put_file(self.name.as_str(), self.bytes.as_slice())?;
         Ok(())
     }
 
@@ -98,12 +103,12 @@ impl Case {
     }
 
     fn run(&mut self, line: &str) -> Result<()> {
-        let room = (ROOM, mem::replace(&mut self.err_room, ROOM));
+        let room = mem::replace(&mut self.room, AMPLE);
         self.run_within(line, room)
     }
 
     /// Runs the program with outputs of this room, behind a look at how the run before ended.
-    fn run_within(&mut self, line: &str, room: (u64, u64)) -> Result<()> {
+    fn run_within(&mut self, line: &str, room: Room) -> Result<()> {
         self.compare()?;
         self.runs = self.runs.saturating_add(1);
         self.came = run_line(self.alloc, line, &mut self.files, room)?;
@@ -121,7 +126,13 @@ impl Case {
 
     /// Runs the program with room for so many bytes of this text, of which it leaves just these.
     fn run_cut(&mut self, line: &str, whole: &[u8], taken: usize) -> Result<()> {
-        self.run_within(line, (taken as u64, ROOM))?;
+        self.run_within(
+            line,
+            Room {
+                out: taken as u64,
+                ..AMPLE
+            },
+        )?;
         self.want_bytes(whole.get(..taken).unwrap_or(b""))?;
         self.want_end("5 write fault", "\n")
     }
@@ -129,7 +140,7 @@ impl Case {
     /// Makes a file of the text that the last run wrote.
     fn keep(&mut self, name: &str) -> Result<(), AllocError> {
         let out = mem::replace(&mut self.came.out, Vec::new(self.alloc));
-        self.files.put_file(self.alloc, name, out.as_slice())
+        self.files.put_file(name, out.as_slice())
     }
 
     /// Reads this file, which must fail.

@@ -10,6 +10,7 @@
 //!     pad LENGTH            continues it with spaces until it has so many bytes
 //!     fail_read NUMBER      lets the case's read of this number fail, counted from 0
 //!     err_room COUNT        lets the next run's line of an error fail after so many bytes
+//!     fail_write NUMBER     lets the next run's write of this number to its text's output fail, counted from 0
 //!     run WORDS             runs the program on these words
 //!     keep NAME             makes a file of the text that the run wrote, which isn't compared then
 //!     unread NAME           the read that was set to fail is still to come: this file's is the next one, and fails

@@ -15,7 +15,7 @@ ghost use Rattle.model_scripts.specs.Script.{script_of};
 ghost use Rattle.model_scripts.specs.declared.script_why.ScriptWhy.{ScriptWhy};
 ghost use Rattle.model_program.specs.Told.{IsFileTold, IsGraphTold, IsScriptTold};
 ghost use Rattle.model_program.specs.Check.{check_text};
-ghost use Rattle.model_program.specs.Plan.{told_answer, word_at, file_limit};
+ghost use Rattle.model_program.specs.Plan.{Exactly, told_answer, word_at, file_limit};
 ghost use Rattle.model_program.specs.Program.{form, plan, stopped};
 ghost use Rattle.model_program.specs.declared.form.Form.TheVariants.{Plain, Check, Wrong};
 ghost use Rattle.model_program.specs.declared.refusal.Refusal.TheVariants as refusal;
@@ -50,7 +50,7 @@ pub fn causes_of_answers()
         → told_answer content words (plan lib words) ≡ Some (Err (refusal.NotReached command)) }
     ensures reported { (lib : Library) (content : List ℕ → Option (List ℕ)) (words : List (List ℕ)) (g : List Decl) (s : Script) (run : Run) → form words ≡ Plain
         → IsGraphTold lib content words g → IsScriptTold lib content words g s → ended g s ≡ Ok run
-        → told_answer content words (plan lib words) ≡ Some (Ok (report_of run)) }
+        → told_answer content words (plan lib words) ≡ Some (Ok (Exactly (report_of run))) }
 {}
 
 /// In the form `check GRAPH` the graph's file and the graph; no script is read.
@@ -63,5 +63,5 @@ pub fn causes_of_checks()
         → told_answer content words (plan lib words) ≡ Some (Err (refusal.Graph number why)) }
     ensures checked { (lib : Library) (content : List ℕ → Option (List ℕ)) (words : List (List ℕ)) (g : List Decl) → form words ≡ Check
         → IsGraphTold lib content words g
-        → told_answer content words (plan lib words) ≡ Some (Ok (check_text g)) }
+        → told_answer content words (plan lib words) ≡ Some (Ok (Exactly (check_text g))) }
 {}

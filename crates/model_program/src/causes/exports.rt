@@ -14,7 +14,7 @@ ghost use Rattle.model_scripts.specs.Script.{script_of};
 ghost use Rattle.model_scripts.specs.declared.script_why.ScriptWhy.{ScriptWhy};
 ghost use Rattle.model_scripts.specs.declared.script_why.ScriptWhy.TheVariants.{NoSuchNode};
 ghost use Rattle.model_program.specs.Told.{IsFileTold, IsGraphTold, IsScriptTold};
-ghost use Rattle.model_program.specs.Plan.{told_answer, word_at, file_limit};
+ghost use Rattle.model_program.specs.Plan.{Exactly, told_answer, word_at, file_limit};
 ghost use Rattle.model_program.specs.Program.{form, plan, stopped, exported_bytes};
 ghost use Rattle.model_program.specs.declared.form.Form.TheVariants.{Export};
 ghost use Rattle.model_program.specs.declared.refusal.Refusal.TheVariants as refusal;
@@ -50,5 +50,5 @@ pub fn causes_of_exports()
         → told_answer content words (plan lib words) ≡ Some (Err (refusal.NotReached command)) }
     ensures exported { (lib : Library) (content : List ℕ → Option (List ℕ)) (words : List (List ℕ)) (g : List Decl) (s : Script) (run : Run) (node : ℕ) → form words ≡ Export node
         → IsGraphTold lib content words g → IsScriptTold lib content words g s → node < s.nodes → ended g s ≡ Ok run
-        → told_answer content words (plan lib words) ≡ Some (Ok (exported_bytes node run)) }
+        → told_answer content words (plan lib words) ≡ Some (Ok (Exactly (exported_bytes node run))) }
 {}

@@ -11,7 +11,7 @@ ghost use Rattle.model_wire.specs.Message.{decoded};
 ghost use Rattle.model_wire.specs.declared.wire_why.WireWhy.{WireWhy};
 ghost use Rattle.model_program.specs.Told.{IsFileTold, IsGraphTold, IsOfGraph, IsOfNodes, AreJoined};
 ghost use Rattle.model_program.specs.Merge.{file_at, joined, merge_text};
-ghost use Rattle.model_program.specs.Plan.{told_answer, word_at, file_limit};
+ghost use Rattle.model_program.specs.Plan.{Exactly, told_answer, word_at, file_limit};
 ghost use Rattle.model_program.specs.Program.{form, plan};
 ghost use Rattle.model_program.specs.declared.form.Form.TheVariants.{Merge};
 ghost use Rattle.model_program.specs.declared.refusal.Refusal.TheVariants as refusal;
@@ -49,5 +49,5 @@ pub fn causes_of_merges()
     ensures merged { (lib : Library) (content : List ℕ → Option (List ℕ)) (words : List (List ℕ)) (g : List Decl) (all : List Message) → form words ≡ Merge
         → IsGraphTold lib content words g → AreJoined g content words all → file_at (length all) ≡ length words
         → first_large 0 (eval g (joined g all).contents) ≡ None
-        → told_answer content words (plan lib words) ≡ Some (Ok (merge_text g (joined g all))) }
+        → told_answer content words (plan lib words) ≡ Some (Ok (Exactly (merge_text g (joined g all)))) }
 {}

@@ -71,17 +71,7 @@ loop-name-3-preserved g c = record {
   lifts = one-more lift_entry c.args.lifts.now program_lifts c.loop-name-3.name-index no_lift c.requires.lifts c.loop-name-3-test.true _ _ c.loop-name-3.invariant.lifts c.in_ok-add_lift.ensures.ok;
 }
 
-pub returns-clause-ends : goal.returns-clause-ends
-returns-clause-ends g c =
+pub returns-clause-answered : goal.returns-clause-answered
+returns-clause-answered g c =
     rw (← library-whole (record { maps = maps_of c.loop-name-3.library; predicates = predicates_of c.loop-name-3.library; lifts = lifts_of c.loop-name-3.library }) c.loop-name-3.invariant.maps c.loop-name-3.invariant.predicates (c.loop-name-3.invariant.lifts ∙ entries-added lift_entry c.args.lifts.now program_lifts c.loop-name-3.name-index c.requires.lifts c.loop-name-3-test.false))
-    c.one_thread.ensures.ends
-
-pub returns-clause-refused : goal.returns-clause-refused
-returns-clause-refused g c =
-    rw (← library-whole (record { maps = maps_of c.loop-name-3.library; predicates = predicates_of c.loop-name-3.library; lifts = lifts_of c.loop-name-3.library }) c.loop-name-3.invariant.maps c.loop-name-3.invariant.predicates (c.loop-name-3.invariant.lifts ∙ entries-added lift_entry c.args.lifts.now program_lifts c.loop-name-3.name-index c.requires.lifts c.loop-name-3-test.false))
-    c.one_thread.ensures.refused
-
-pub returns-clause-complete : goal.returns-clause-complete
-returns-clause-complete g c =
-    rw (← library-whole (record { maps = maps_of c.loop-name-3.library; predicates = predicates_of c.loop-name-3.library; lifts = lifts_of c.loop-name-3.library }) c.loop-name-3.invariant.maps c.loop-name-3.invariant.predicates (c.loop-name-3.invariant.lifts ∙ entries-added lift_entry c.args.lifts.now program_lifts c.loop-name-3.name-index c.requires.lifts c.loop-name-3-test.false))
-    c.one_thread.ensures.complete
+    c.one_thread.ensures.answered

@@ -2,7 +2,7 @@ use Rattle.std.proofs.Common.{refl, ◌∙◌}
 use Rattle.std.specs.Prelude.{Ok, Err}
 use Rattle.model_world.specs.Report.{report_of}
 use Rattle.model_world.specs.declared.stop.Stop.TheVariants as stop
-use Rattle.model_program.specs.Plan.{Says}
+use Rattle.model_program.specs.Plan.{Says, exactly}
 use Rattle.model_program.specs.Program.{running_script, run_answer}
 use Rattle.model_program.specs.declared.form.Form.TheVariants.{Plain, Wrong}
 use Rattle.model_program.specs.declared.refusal.Refusal.TheVariants as refusal
@@ -23,11 +23,11 @@ returns-clause-graph_refused c = λ lib content words graph number why is file b
 
 pub returns-clause-script_too_long : goal.returns-clause-script_too_long
 returns-clause-script_too_long c = λ lib content words script g is graph told long.
-    told-form lib content words Plain is ∙ to-script lib content words g (run_answer report_of) graph ∙ scripting-long lib content words g (λ s. Says (run_answer report_of g s)) script told long
+    told-form lib content words Plain is ∙ to-script lib content words g (run_answer report_of) graph ∙ scripting-long lib content words g (λ s. Says (exactly (run_answer report_of g s))) script told long
 
 pub returns-clause-script_refused : goal.returns-clause-script_refused
 returns-clause-script_refused c = λ lib content words script g number why is graph file bad.
-    told-form lib content words Plain is ∙ to-script lib content words g (run_answer report_of) graph ∙ scripting-refused lib content words g (λ s. Says (run_answer report_of g s)) script number why file bad
+    told-form lib content words Plain is ∙ to-script lib content words g (run_answer report_of) graph ∙ scripting-refused lib content words g (λ s. Says (exactly (run_answer report_of g s))) script number why file bad
 
 pub returns-clause-run_stopped : goal.returns-clause-run_stopped
 returns-clause-run_stopped c = λ lib content words g s halt is graph script ends.

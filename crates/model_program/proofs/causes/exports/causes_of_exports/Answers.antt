@@ -8,15 +8,16 @@ use Rattle.model_world.specs.World.{Run, ended}
 use Rattle.model_world.specs.declared.stop.Stop.{Stop}
 use Rattle.model_world.specs.declared.stop.Stop.TheVariants as stop
 use Rattle.model_scripts.specs.declared.script_why.ScriptWhy.TheVariants.{NoSuchNode}
-use Rattle.model_program.specs.Plan.{Answer, Says}
+use Rattle.model_program.specs.Plan.{Says, exactly}
 use Rattle.model_program.specs.Program.{exported_bytes, run_answer, export_answer, exporting_script}
 use Rattle.model_program.specs.declared.form.Form.TheVariants.{Export}
+use Rattle.model_program.specs.declared.refusal.Refusal.{Refusal}
 use Rattle.model_program.specs.declared.refusal.Refusal.TheVariants as refusal
 use Rattle.model_program.proofs.PlanCauses.{told-form, opening-long, opening-refused, scripting-long, scripting-refused, ended_answer, run-ends, to-script, to-answer}
 use Rattle.model_program.proofs.causes.exports.causes_of_exports.Goals as goal
 
 -- the answer by whether the script has the node
-abbrev by_node : ℕ → List Decl → Script → Bool → Answer
+abbrev by_node : ℕ → List Decl → Script → Bool → Result (List ℕ) Refusal
 by_node node g s has = check has (refusal.Script (length s.commands + 1) NoSuchNode) >>= λ _. run_answer (exported_bytes node) g s
 
 -- the script has the node
@@ -33,11 +34,11 @@ returns-clause-graph_refused c = λ lib content words graph number why node is f
 
 pub returns-clause-script_too_long : goal.returns-clause-script_too_long
 returns-clause-script_too_long c = λ lib content words script g node is graph told long.
-    told-form lib content words (Export node) is ∙ to-script lib content words g (export_answer node) graph ∙ scripting-long lib content words g (λ s. Says (export_answer node g s)) script told long
+    told-form lib content words (Export node) is ∙ to-script lib content words g (export_answer node) graph ∙ scripting-long lib content words g (λ s. Says (exactly (export_answer node g s))) script told long
 
 pub returns-clause-script_refused : goal.returns-clause-script_refused
 returns-clause-script_refused c = λ lib content words script g number why node is graph file bad.
-    told-form lib content words (Export node) is ∙ to-script lib content words g (export_answer node) graph ∙ scripting-refused lib content words g (λ s. Says (export_answer node g s)) script number why file bad
+    told-form lib content words (Export node) is ∙ to-script lib content words g (export_answer node) graph ∙ scripting-refused lib content words g (λ s. Says (exactly (export_answer node g s))) script number why file bad
 
 pub returns-clause-no_such_node : goal.returns-clause-no_such_node
 returns-clause-no_such_node c = λ lib content words g s node is graph script low.

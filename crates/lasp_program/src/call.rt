@@ -1,0 +1,49 @@
+//! A call with words of any bytes.
+
+ghost use Rattle.std.specs.Prelude.{◌≡◌, ◌⊎◌, IfOk, OnErr};
+ghost use Rattle.model_program.specs.Call.{reading_of, writing_of, AreTexts, IsAnswered, IsUsage};
+ghost use Rattle.lasp_program.specs.Functions.{program_library};
+ghost use Rattle.lasp_program.specs.Call.{bytes_of, TextsOrNone};
+
+use crate::answer::answer_words;
+use lasp_edge::{Files, Sink};
+use std::alloc::{AllocError, Global};
+
+/// The words as texts, or `None` where one of them is none.
+fn texts_of(alloc: Global, words: &[Vec<u8>]) -> Result<Option<Vec<String>>, AllocError>
+    ensures { IfOk result (TextsOrNone (bytes_of words.now)) }
+{
+    let mut texts = Vec::new(alloc);
+    for word in words {
+        match str::from_utf8(word) {
+            Ok(text) => texts.push(String::from_str(alloc, text)?)?,
+            Err(_) => return Ok(None),
+        }
+    }
+    Ok(Some(texts))
+}
+
+/// A call of the program with the words behind its name. Where no memory is found for them or for the functions, nothing is read or written.
+pub fn answer_call<F: Files, O: Sink, E: Sink>(
+    alloc: Global,
+    words: &[Vec<u8>],
+    files: &mut F,
+    out: &mut O,
+    err: &mut E,
+) -> Result<u8, AllocError>
+    // the words are those of the call that is answered; a word that is no text is usage
+    ensures answered { IfOk result (λ status.
+        (AreTexts (bytes_of words.now) × IsAnswered program_library (bytes_of words.now) (reading_of F.content F.faults files.old files.new)
+        (writing_of O.written O.faults out.old out.new) (writing_of E.written E.faults err.old err.new) status)
+        ⊎ (¬ AreTexts (bytes_of words.now) × IsUsage (reading_of F.content F.faults files.old files.new)
+        (writing_of O.written O.faults out.old out.new) (writing_of E.written E.faults err.old err.new) status)) }
+    ensures err { OnErr result ((files.new ≡ files.old) × (out.new ≡ out.old) × (err.new ≡ err.old)) }
+{
+    match texts_of(alloc, words)? {
+        Some(texts) => answer_words(alloc, &texts, files, out, err),
+        None => {
+            let _ = err.put(b"usage\n");
+            Ok(1)
+        }
+    }
+}

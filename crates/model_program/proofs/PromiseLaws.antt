@@ -1,0 +1,35 @@
+-- A call that followed the plan of its words, and ended by its answer, keeps all that is promised of it.
+use Rattle.std.specs.Prelude.{◌≡◌, ℕ, List, Result, Ok, Err}
+use Rattle.model_functions.specs.Library.{Library}
+use Rattle.model_program.specs.Call.{AreUnchanged, AreLater, IsLater, Reading, view_of, IsAnswered}
+use Rattle.model_program.specs.Ends.{Writing, Ends}
+use Rattle.model_program.specs.Follows.{Follows}
+use Rattle.model_program.specs.Program.{form, plan}
+use Rattle.model_program.specs.declared.failure.Failure.{Failure}
+use Rattle.model_program.specs.declared.form.Form.TheVariants.{Wrong}
+use Rattle.model_program.proofs.AlikeLaws.{known-places, alike-places}
+use Rattle.model_program.proofs.AnswerLaws.{follows-told, refused-ends, written-ends, complete-ends, quiet-ends}
+use Rattle.model_program.proofs.BackLaws.{told-cause}
+use Rattle.model_program.proofs.DirectLaws.{direct-ends}
+use Rattle.model_program.proofs.DotTextLaws.{dots-writes}
+
+pub call-answered : {N : Type 0} (lib : Library) (words : List (List ℕ)) (files : Reading N) (answer : Result (List ℕ) Failure) (out err : Writing) (status : ℕ)
+    → AreUnchanged files.content files.before files.after → AreLater files.faults files.before files.after → (form words ≡ Wrong → files.after ≡ files.before)
+    → Follows words (view_of files) (plan lib words) answer → IsLater out → IsLater err → Ends words answer out err status → IsAnswered lib words files out err status
+call-answered lib words files answer out err status same later unread follows out_later err_later ends = record {
+  same = same;
+  later = later;
+  out_later = out_later;
+  err_later = err_later;
+  ends = (answer, follows, ends);
+  caused = λ a told. told-cause lib (files.content files.before) words a told;
+  refused = λ x told. refused-ends words (view_of files) (plan lib words) x answer out err status (follows-told words (view_of files) (plan lib words) answer (Err x) follows told) ends;
+  written = λ text told. written-ends words (view_of files) (plan lib words) text answer out err status (follows-told words (view_of files) (plan lib words) answer (Ok text) follows told) ends;
+  complete = λ text told quiet sound. complete-ends words (view_of files) (plan lib words) text answer out err status quiet sound (follows-told words (view_of files) (plan lib words) answer (Ok text) follows told) ends;
+  direct = λ g script tells done. direct-ends lib words (view_of files) g script answer out err status tells follows ends done;
+  known = λ g script tells done. known-places g script;
+  alike = λ g script tells done. alike-places g script;
+  dots = λ script run tells is done. dots-writes lib words (view_of files) script run answer out err status tells is follows ends done;
+  unread = unread;
+  quiet = λ not_done not_fault. quiet-ends words answer out err status not_done not_fault ends;
+}
