@@ -1,47 +1,40 @@
--- Laws of the calls and the reads of a run's nodes.
-use Rattle.std.proofs.Common.{zero, suc, refl, sym, ap, subst, ◌∙◌, arith, get_or}
-use Rattle.std.specs.Prelude.{◌≡◌, ◌≢◌, ℕ, ◌<◌, ◌==◌, Bool, true, false, not, if◌then◌else◌, List, [], ◌∷◌, ◌++◌, map, flat_map, filter, length, slice_get, slice_set, slice_index_or, Some, Result, Ok, Err, OnOk}
-use Rattle.std.specs.List.{range_with_len}
-use Rattle.std.proofs.lemmas.List.{map-set, get_or-map}
+-- Laws of the calls of a run's nodes, and of how many reads they opened.
+use Rattle.std.proofs.Common.{zero, suc, ◌⊎◌, inl, inr, refl, sym, ap, subst, ◌∙◌, arith}
+use Rattle.std.specs.Prelude.{◌≡◌, ◌≢◌, ℕ, ◌+◌, ◌<◌, ◌==◌, Bool, if◌then◌else◌, List, [], ◌∷◌, ◌++◌, map, length, replicate, slice_get, slice_set, slice_index_or, Some, Result, Ok}
 use Rattle.std.proofs.lemmas.Bool.{eq-eqb, ne_eqb}
-use Rattle.std.proofs.lemmas.Option.{get_or_from_slice_get}
+use Rattle.std.proofs.lemmas.Option.{slice_get_within}
 use Rattle.model_states.specs.Update.{Op}
-use Rattle.model_states.specs.Content.{Content}
-use Rattle.model_states.specs.Threshold.{Threshold, meets}
-use Rattle.model_graph.specs.Evaluation.{content_at}
 use Rattle.model_world.specs.World as world
-use Rattle.model_world.specs.World.{Run, Act, Post, act, each, takes, sync_acts, sent_number}
+use Rattle.model_world.specs.World.{Run, Act, act, each, sent_number}
 use Rattle.model_world.specs.declared.stop.Stop.{Stop}
 use Rattle.model_known.proofs.FollowLaws.{bound}
 use Rattle.model_journal.specs.Entry as model
 use Rattle.model_journal.specs.Entry.{Entry}
-use Rattle.model_core.specs.Core.{Read}
 use Rattle.model_runs.specs.Calls.{fed, call_of, when_done, calls_of_acts}
 use Rattle.model_runs.proofs.MatchLaws.{append-nothing, append-again}
+use Rattle.lasp_drive.specs.Node.{NodeView}
+use Rattle.lasp_drive.specs.Nodes.{calls_of}
 use Rattle.lasp_drive.specs.Calls.{calls_at, GoOnByCalls}
-use Rattle.lasp_drive.specs.Reads.{Reads, no_reads, opened_more, next_read, opens, closes, looks, reads_at}
+use Rattle.lasp_drive.specs.Reads.{Reads, no_reads}
+use Rattle.lasp_drive.specs.Waiting.{opened_counts, opened_by, GoOnByReads}
+use Rattle.lasp_drive.proofs.NodeLaws.{mapped-or}
 
 -- ---- one call of a node
 
 -- no node was called
-pub calls-stay : {N : Type 0} (calls : N → List Entry) (old new : List N) → map calls new ≡ map calls old → GoOnByCalls calls old new (λ q. [])
-calls-stay calls old new same q low = ap (λ (hs : List (List Entry)). slice_index_or hs q []) same ∙ sym (append-nothing (calls_at calls old q))
-
-pub ok-calls : {N A E : Type 0} (calls : N → List Entry) (result : Result A E) (old new : List N) → OnOk result (map calls new ≡ map calls old) → OnOk result (GoOnByCalls calls old new (λ q. []))
-ok-calls calls (Ok done) old new same = calls-stay calls old new same
-ok-calls calls (Err why) old new same = tt
+pub calls-stay : (old new : List NodeView) → calls_of new ≡ calls_of old → GoOnByCalls old new (λ q. [])
+calls-stay old new same q low = ap (λ (hs : List (List Entry)). slice_index_or hs q []) same ∙ sym (append-nothing (calls_at old q))
 
 -- one node was called
-pub calls-set : {N : Type 0} (calls : N → List Entry) (nodes : List N) (p : ℕ) (n new : N) (more : ℕ → List Entry) → p < length nodes → n ≡ get_or nodes p n → calls new ≡ calls n ++ more p → ((q : ℕ) → q ≢ p → more q ≡ [])
-    → GoOnByCalls calls nodes (slice_set nodes p new) more
-calls-set calls [] p n new more within found is others q low = absurd (omega (arith, within))
-calls-set calls (m ∷ nodes) zero n new more within found is others zero low = is ∙ ap (λ k. calls k ++ more zero) found
-calls-set calls (m ∷ nodes) zero n new more within found is others (suc q) low =
-    sym (append-nothing (calls_at calls nodes q)) ∙ ap (λ (h : List Entry). calls_at calls nodes q ++ h) (sym (others (suc q) (λ h. omega (arith, h))))
-calls-set calls (m ∷ nodes) (suc p) n new more within found is others zero low =
-    sym (append-nothing (calls m)) ∙ ap (λ (h : List Entry). calls m ++ h) (sym (others zero (λ h. omega (arith, h))))
-calls-set calls (m ∷ nodes) (suc p) n new more within found is others (suc q) low =
-    calls-set calls nodes p n new (λ k. more (suc k)) (omega (arith, within)) found is (λ k apart. others (suc k) (λ h. apart (omega (arith, h)))) q (omega (arith, low))
+pub calls-set : (nodes : List NodeView) (p : ℕ) (n new : NodeView) (more : ℕ → List Entry) → slice_get nodes p ≡ Some n → new.calls ≡ n.calls ++ more p → ((q : ℕ) → q ≢ p → more q ≡ []) → GoOnByCalls nodes (slice_set nodes p new) more
+calls-set [] p n new more at is others q low = absurd cc
+calls-set (m ∷ nodes) zero n new more at is others zero low = is ∙ ap (λ (k : NodeView). k.calls ++ more zero) (sym (let same : m ≡ n = cc in same))
+calls-set (m ∷ nodes) zero n new more at is others (suc q) low =
+    sym (append-nothing (calls_at nodes q)) ∙ ap (λ (h : List Entry). calls_at nodes q ++ h) (sym (others (suc q) (λ h. omega (arith, h))))
+calls-set (m ∷ nodes) (suc p) n new more at is others zero low =
+    sym (append-nothing m.calls) ∙ ap (λ (h : List Entry). m.calls ++ h) (sym (others zero (λ h. omega (arith, h))))
+calls-set (m ∷ nodes) (suc p) n new more at is others (suc q) low =
+    calls-set nodes p n new (λ k. more (suc k)) at is (λ k apart. others (suc k) (λ h. apart (omega (arith, h)))) q (omega (arith, low))
 
 abbrev where_it_is : Entry → Bool → List Entry
 where_it_is e here = if here then e ∷ [] else []
@@ -59,27 +52,14 @@ pub taken-elsewhere : (run : Run) (p i q : ℕ) → q ≢ p → call_of run q (w
 taken-elsewhere run p i q apart = ap (where_it_is (fed (model.Deliver i (sent_number run.sent i)))) (ne_eqb p q (λ h. apart (sym h)))
 
 -- every node was called alike
-pub calls-each : {N : Type 0} (calls : N → List Entry) (old new : List N) (more : List Entry) → map calls new ≡ map (λ h. h ++ more) (map calls old) → GoOnByCalls calls old new (λ q. more)
-calls-each calls old new more same q low = ap (λ (hs : List (List Entry)). slice_index_or hs q []) same ∙ here calls old q low where
-  here : {N : Type 0} (calls : N → List Entry) (old : List N) (q : ℕ) → q < length old → slice_index_or (map (λ h. h ++ more) (map calls old)) q [] ≡ slice_index_or (map calls old) q [] ++ more
-  here calls [] q low = absurd (omega (arith, low))
-  here calls (m ∷ old) zero low = refl
-  here calls (m ∷ old) (suc q) low = here calls old q (omega (arith, low))
+pub calls-each : (old new : List NodeView) (more : List Entry) → calls_of new ≡ map (λ h. h ++ more) (calls_of old) → GoOnByCalls old new (λ q. more)
+calls-each old new more same q low = ap (λ (hs : List (List Entry)). slice_index_or hs q []) same ∙ here old q low where
+  here : (old : List NodeView) (q : ℕ) → q < length old → slice_index_or (map (λ h. h ++ more) (calls_of old)) q [] ≡ slice_index_or (calls_of old) q [] ++ more
+  here [] q low = absurd (omega (arith, low))
+  here (m ∷ old) zero low = refl
+  here (m ∷ old) (suc q) low = here old q (omega (arith, low))
 
 -- ---- acts one after the other
-
--- the calls so far and those to come are all calls
-abbrev pub AreToCome : {N : Type 0} → (N → List Entry) → List N → List N → (ℕ → List Entry) → (ℕ → List Entry) → Type 0
-AreToCome calls old now rest all = (q : ℕ) → q < length old → calls_at calls now q ++ rest q ≡ calls_at calls old q ++ all q
-
--- the next act was done
-pub come-next : {N : Type 0} (calls : N → List Entry) (old now new : List N) (c : ℕ) (run next : Run) (a : Act) (rest : List Act) (all : ℕ → List Entry) → length now ≡ length old → act c run a ≡ Ok next
-    → GoOnByCalls calls now new (λ q. call_of run q a) → AreToCome calls old now (λ q. calls_of_acts c run q (a ∷ rest)) all → AreToCome calls old new (λ q. calls_of_acts c next q rest) all
-come-next calls old now new c run next a rest all size done went come q low =
-    ap (λ (h : List Entry). h ++ calls_of_acts c next q rest) (went q (omega (arith, low, size)))
-    ∙ append-again (calls_at calls now q) (call_of run q a) (calls_of_acts c next q rest)
-    ∙ ap (λ (r : Result Run Stop). calls_at calls now q ++ (call_of run q a ++ when_done r (λ n. calls_of_acts c n q rest))) (sym done)
-    ∙ come q low
 
 -- the calls of acts and of those behind them
 pub calls-append : (c : ℕ) (run next : Run) (q : ℕ) (xs ys : List Act) → each c run xs ≡ Ok next → calls_of_acts c run q (xs ++ ys) ≡ calls_of_acts c run q xs ++ calls_of_acts c next q ys
@@ -91,75 +71,78 @@ calls-append c run next q (a ∷ xs) ys done =
     ∙ sym (append-again (call_of run q a) (calls_of_acts c both.0 q xs) (calls_of_acts c next q ys))
     ∙ ap (λ (r : Result Run Stop). (call_of run q a ++ when_done r (λ n. calls_of_acts c n q xs)) ++ calls_of_acts c next q ys) (sym both.1)
 
--- the next acts were done
-pub come-more : {N : Type 0} (calls : N → List Entry) (old now new : List N) (c : ℕ) (run next : Run) (xs rest : List Act) (all : ℕ → List Entry) → length now ≡ length old → each c run xs ≡ Ok next
-    → GoOnByCalls calls now new (λ q. calls_of_acts c run q xs) → AreToCome calls old now (λ q. calls_of_acts c run q (xs ++ rest)) all → AreToCome calls old new (λ q. calls_of_acts c next q rest) all
-come-more calls old now new c run next xs rest all size done went come q low =
-    ap (λ (h : List Entry). h ++ calls_of_acts c next q rest) (went q (omega (arith, low, size)))
-    ∙ append-again (calls_at calls now q) (calls_of_acts c run q xs) (calls_of_acts c next q rest)
-    ∙ ap (λ (h : List Entry). calls_at calls now q ++ h) (sym (calls-append c run next q xs rest done))
-    ∙ come q low
-
--- other words for the acts to come
-pub come-as : {N : Type 0} (calls : N → List Entry) (old now : List N) (c : ℕ) (run : Run) (acts others : List Act) (all : ℕ → List Entry) → acts ≡ others
-    → AreToCome calls old now (λ q. calls_of_acts c run q acts) all → AreToCome calls old now (λ q. calls_of_acts c run q others) all
-come-as calls old now c run acts others all same come = subst (λ (many : List Act). AreToCome calls old now (λ q. calls_of_acts c run q many) all) same come
-
--- none is left
-pub come-end : {N : Type 0} (calls : N → List Entry) (old now : List N) (c : ℕ) (run : Run) (acts : List Act) (all : ℕ → List Entry) → acts ≡ [] → AreToCome calls old now (λ q. calls_of_acts c run q acts) all → GoOnByCalls calls old now all
-come-end calls old now c run acts all none come q low =
-    sym (append-nothing (calls_at calls now q)) ∙ come-as calls old now c run acts [] all none come q low
-
 -- some acts, and then others
-pub calls-then : {N : Type 0} (calls : N → List Entry) (old mid new : List N) (c : ℕ) (run next : Run) (xs ys : List Act) → length mid ≡ length old → each c run xs ≡ Ok next
-    → GoOnByCalls calls old mid (λ q. calls_of_acts c run q xs) → GoOnByCalls calls mid new (λ q. calls_of_acts c next q ys) → GoOnByCalls calls old new (λ q. calls_of_acts c run q (xs ++ ys))
-calls-then calls old mid new c run next xs ys size done first second q low =
+pub calls-then : (old mid new : List NodeView) (c : ℕ) (run next : Run) (xs ys : List Act) → length mid ≡ length old → each c run xs ≡ Ok next
+    → GoOnByCalls old mid (λ q. calls_of_acts c run q xs) → GoOnByCalls mid new (λ q. calls_of_acts c next q ys) → GoOnByCalls old new (λ q. calls_of_acts c run q (xs ++ ys))
+calls-then old mid new c run next xs ys size done first second q low =
     second q (omega (arith, low, size))
     ∙ ap (λ (h : List Entry). h ++ calls_of_acts c next q ys) (first q low)
-    ∙ append-again (calls_at calls old q) (calls_of_acts c run q xs) (calls_of_acts c next q ys)
-    ∙ ap (λ (h : List Entry). calls_at calls old q ++ h) (sym (calls-append c run next q xs ys done))
+    ∙ append-again (calls_at old q) (calls_of_acts c run q xs) (calls_of_acts c next q ys)
+    ∙ ap (λ (h : List Entry). calls_at old q ++ h) (sym (calls-append c run next q xs ys done))
 
--- a sync: every node sent, and then each took what the others sent
-pub sync-calls : {N A E : Type 0} (calls : N → List Entry) (result : Result A E) (old mid new : List N) (c : ℕ) (run next : Run) (many first i : ℕ) → length mid ≡ many → length old ≡ many → i ≡ first → each c run (map Post (range_with_len 0 many)) ≡ Ok next
-    → GoOnByCalls calls old mid (λ q. calls_of_acts c run q (map Post (range_with_len 0 many)))
-    → OnOk result (GoOnByCalls calls mid new (λ q. calls_of_acts c next q (flat_map (takes (length mid) i) (range_with_len 0 (length mid)))))
-    → OnOk result (GoOnByCalls calls old new (λ q. calls_of_acts c run q (sync_acts many first)))
-sync-calls calls (Err why) old mid new c run next many first i same size number done sent taken = tt
-sync-calls calls (Ok all) old mid new c run next many first i same size number done sent taken =
-    calls-then calls old mid new c run next (map Post (range_with_len 0 many)) (flat_map (takes many first) (range_with_len 0 many)) (same ∙ sym size) done sent
-    (subst (λ (k : ℕ). GoOnByCalls calls mid new (λ q. calls_of_acts c next q (flat_map (takes many k) (range_with_len 0 many)))) number
-    (subst (λ (n : ℕ). GoOnByCalls calls mid new (λ q. calls_of_acts c next q (flat_map (takes n i) (range_with_len 0 n)))) same taken))
+-- an act alone
+pub calls-one : (old new : List NodeView) (c : ℕ) (run next : Run) (a : Act) → act c run a ≡ Ok next → GoOnByCalls old new (λ q. call_of run q a) → GoOnByCalls old new (λ q. calls_of_acts c run q (a ∷ []))
+calls-one old new c run next a done went q low =
+    went q low ∙ ap (λ (h : List Entry). calls_at old q ++ h)
+    (sym (append-nothing (call_of run q a)) ∙ ap (λ (r : Result Run Stop). call_of run q a ++ when_done r (λ n. calls_of_acts c n q [])) (sym done))
 
--- ---- reads
+-- ---- how many reads were opened
 
--- a read that was opened and closed again
-pub looked : (x : ℕ) (threshold : Threshold) (met : Bool) (s : Reads) → closes s.opened (opens (next_read s x threshold) met s) ≡ looks s
-looked x threshold true s = refl
-looked x threshold false s = ap (λ (rs : List Read). record { waiting = rs; opened = opened_more s.opened }) (without s.waiting) where
-  last : Read
-  last = next_read s x threshold
+-- none was
+pub counts-stay : (old new : List NodeView) → opened_counts new ≡ opened_counts old → GoOnByReads old new (λ q. 0)
+counts-stay old new same q low = omega (arith, ap (λ (cs : List ℕ). slice_index_or cs q 0) same)
 
-  left : (b : Bool) → b ≡ true → (if not b then last ∷ [] else []) ≡ []
-  left true e = refl
-  left false e = absurd cc
+pub count-here : (nodes : List NodeView) (p : ℕ) (n : NodeView) → slice_get nodes p ≡ Some n → opened_by nodes p ≡ n.reads.opened
+count-here nodes p n at = mapped-or (λ (n : NodeView). n.reads.opened) nodes p n 0 at
 
-  without : (rs : List Read) → filter (λ r. not (r.number == s.opened)) (rs ++ last ∷ []) ≡ filter (λ r. not (r.number == s.opened)) rs
-  without [] = left (s.opened == s.opened) (eq-eqb s.opened s.opened refl)
-  without (r ∷ rs) = ap (λ (more : List Read). if not (r.number == s.opened) then r ∷ more else more) (without rs)
+same-or-apart : (p q : ℕ) → (p ≡ q) ⊎ (p ≡ q → ⊥)
+same-or-apart zero zero = inl refl
+same-or-apart zero (suc q) = inr (λ h. omega (arith, h))
+same-or-apart (suc p) zero = inr (λ h. omega (arith, h))
+same-or-apart (suc p) (suc q) = next (same-or-apart p q) where
+  next : (p ≡ q) ⊎ (p ≡ q → ⊥) → (suc p ≡ suc q) ⊎ (suc p ≡ suc q → ⊥)
+  next (inl same) = inl (ap (λ (k : ℕ). suc k) same)
+  next (inr apart) = inr (λ h. apart (omega (arith, h)))
 
--- the reads of the node at a place
-pub reads-here : {N : Type 0} (reads : N → Reads) (nodes : List N) (p : ℕ) (n : N) → p < length nodes → n ≡ get_or nodes p n → reads_at reads nodes p ≡ reads n
-reads-here reads nodes p n within found = get_or-map reads nodes p n no_reads within ∙ ap reads (sym found)
+count-there : (nodes : List NodeView) (p : ℕ) (new : NodeView) → p < length nodes → opened_by (slice_set nodes p new) p ≡ new.reads.opened
+count-there [] p new within = absurd (omega (arith, within))
+count-there (m ∷ nodes) zero new within = refl
+count-there (m ∷ nodes) (suc p) new within = count-there nodes p new (omega (arith, within))
 
--- the node there looked at a read
-pub looks-at : {N : Type 0} (reads : N → Reads) (nodes : List N) (p : ℕ) (n new : N) → p < length nodes → n ≡ get_or nodes p n → reads new ≡ looks (reads n) → map reads (slice_set nodes p new) ≡ slice_set (map reads nodes) p (looks (reads_at reads nodes p))
-looks-at reads nodes p n new within found is =
-    map-set reads nodes p new ∙ ap (λ (s : Reads). slice_set (map reads nodes) p s) (is ∙ ap looks (sym (reads-here reads nodes p n within found)))
+count-elsewhere : (nodes : List NodeView) (p : ℕ) (new : NodeView) (q : ℕ) → p ≢ q → opened_by (slice_set nodes p new) q ≡ opened_by nodes q
+count-elsewhere [] p new q apart = refl
+count-elsewhere (m ∷ nodes) zero new zero apart = absurd (apart refl)
+count-elsewhere (m ∷ nodes) zero new (suc q) apart = refl
+count-elsewhere (m ∷ nodes) (suc p) new zero apart = refl
+count-elsewhere (m ∷ nodes) (suc p) new (suc q) apart = count-elsewhere nodes p new q (λ h. apart (ap (λ (k : ℕ). suc k) h))
 
--- a read was opened at the node there
-pub opens-at : {N : Type 0} (shown : N → List Content) (reads : N → Reads) (nodes : List N) (p : ℕ) (n new m : N) (x : ℕ) (threshold : Threshold) → n ≡ get_or nodes p n → slice_get nodes p ≡ Some m
-    → reads new ≡ opens (next_read (reads n) x threshold) (meets threshold (content_at (shown n) x)) (reads n)
-    → map reads (slice_set nodes p new) ≡ slice_set (map reads nodes) p (opens (next_read (reads m) x threshold) (meets threshold (content_at (shown m) x)) (reads m))
-opens-at shown reads nodes p n new m x threshold found at is =
-    map-set reads nodes p new
-    ∙ ap (λ (s : Reads). slice_set (map reads nodes) p s) (is ∙ ap (λ k. opens (next_read (reads k) x threshold) (meets threshold (content_at (shown k) x)) (reads k)) (found ∙ get_or_from_slice_get nodes p m n at))
+-- one node opened one
+pub one-opened : (nodes : List NodeView) (p : ℕ) (n new : NodeView) → slice_get nodes p ≡ Some n → new.reads.opened ≡ n.reads.opened + 1 → GoOnByReads nodes (slice_set nodes p new) (λ q. if p == q then 1 else 0)
+one-opened nodes p n new at more q low = choose (same-or-apart p q) where
+  choose : (p ≡ q) ⊎ (p ≡ q → ⊥) → opened_by (slice_set nodes p new) q ≡ opened_by nodes q + (if p == q then 1 else 0)
+  choose (inl same) =
+      ap (λ (k : ℕ). opened_by (slice_set nodes p new) k) (sym same) ∙ count-there nodes p new (slice_get_within nodes p n at) ∙ more
+      ∙ ap (λ (k : ℕ). k + 1) (sym (count-here nodes p n at)) ∙ ap (λ (k : ℕ). opened_by nodes k + 1) same ∙ ap (λ (b : Bool). opened_by nodes q + (if b then 1 else 0)) (sym (eq-eqb p q same))
+  choose (inr apart) =
+      count-elsewhere nodes p new q apart ∙ (let none : opened_by nodes q ≡ opened_by nodes q + 0 = omega arith in none) ∙ ap (λ (b : Bool). opened_by nodes q + (if b then 1 else 0)) (sym (ne_eqb p q apart))
+
+-- nodes that had opened none
+pub opened-alone : (old new : List NodeView) (many : ℕ) (all : ℕ → ℕ) → map (λ (n : NodeView). n.reads) old ≡ replicate many no_reads → length old ≡ many → GoOnByReads old new all → (p : ℕ) → p < many → opened_by new p ≡ all p
+opened-alone old new many all fresh size went p low = omega (arith, went p (omega (arith, low, size)), none many old p fresh) where
+  none : (many : ℕ) (nodes : List NodeView) (p : ℕ) → map (λ (n : NodeView). n.reads) nodes ≡ replicate many no_reads → opened_by nodes p ≡ 0
+  none many [] p fresh = refl
+  none zero (m ∷ nodes) p fresh = absurd cc
+  none (suc many) (m ∷ nodes) zero fresh = let first : m.reads ≡ no_reads = cc in ap (λ (s : Reads). s.opened) first
+  none (suc many) (m ∷ nodes) (suc p) fresh = none many nodes p (let rest : map (λ (n : NodeView). n.reads) nodes ≡ replicate many no_reads = cc in rest)
+
+abbrev pub no_calls : List Entry
+no_calls = []
+
+-- nodes that had no calls have these alone
+pub called-alone : (old new : List NodeView) (many : ℕ) (all : ℕ → List Entry) → calls_of old ≡ replicate many [] → length old ≡ many → GoOnByCalls old new all → (p : ℕ) → p < many → calls_at new p ≡ all p
+called-alone old new many all fresh size went p low =
+    went p (omega (arith, low, size)) ∙ ap (λ (h : List Entry). h ++ all p) (ap (λ (hs : List (List Entry)). slice_index_or hs p []) fresh ∙ none many p) where
+      none : (many p : ℕ) → slice_index_or (replicate many no_calls) p [] ≡ no_calls
+      none zero p = refl
+      none (suc many) zero = refl
+      none (suc many) (suc p) = none many p

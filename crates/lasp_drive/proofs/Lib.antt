@@ -1,6 +1,7 @@
 pub mod NodeLaws
-pub mod CallLaws
-pub mod DriverLaws
-pub mod SyncLaws
-pub mod PointLaws
 pub mod WaitLaws
+pub mod PointLaws
+pub mod CallLaws
+pub mod ActLaws
+pub mod StepLaws
+pub mod PlayLaws

@@ -1,9 +1,9 @@
 -- Laws of the nodes of a run: what one node did, the world did.
 use Rattle.std.proofs.Common.{zero, suc, refl, sym, ap, subst, ◌∙◌, arith, get_or}
-use Rattle.std.specs.Prelude.{◌≡◌, ◌≢◌, ℕ, ◌+◌, ◌<◌, ◌≤◌, List, [], ◌∷◌, ◌++◌, map, length, Option, Some, None, slice_get, slice_set, Result, Ok, Err, Bool, if◌then◌else◌, IsTrue}
-use Rattle.std.proofs.lemmas.List.{map-set, get_or-map}
+use Rattle.std.specs.Prelude.{◌≡◌, ◌≢◌, ℕ, ◌+◌, ◌<◌, ◌≤◌, List, [], ◌∷◌, ◌++◌, map, length, Option, Some, None, slice_get, slice_set, slice_index_or, Result, Ok, Err, Bool, if◌then◌else◌, IsTrue}
+use Rattle.std.proofs.lemmas.List.{map-set, get_or-map, length-map}
 use Rattle.std.proofs.lemmas.Bool.{le-ltb, lt-ltb}
-use Rattle.std.proofs.lemmas.Option.{slice_get_read, get_or_from_slice_get}
+use Rattle.std.proofs.lemmas.Option.{slice_get_read, slice_get_within, get_or_from_slice_get}
 use Rattle.model_states.specs.Content.{size_of, row_limit}
 use Rattle.model_states.specs.Counts.{count_at}
 use Rattle.model_states.specs.Threshold.{Threshold, suits}
@@ -13,7 +13,7 @@ use Rattle.model_graph.specs.Lawful.{shape_of}
 use Rattle.model_graph.specs.Evaluation.{content_at, first_large}
 use Rattle.model_messages.specs.Message.{Message}
 use Rattle.model_messages.specs.Spelling.{spelled}
-use Rattle.model_world.specs.World.{Peer, Run, peer_at, no_peer, with_peer, updated, checked_update, delivered, checked_delivery, stop_from, message_at, no_message, sent_number, checked_send, network_size, network_limit}
+use Rattle.model_world.specs.World.{Peer, Run, peer_at, with_peer, updated, checked_update, delivered, checked_delivery, stop_from, message_at, no_message, sent_number, checked_send, network_size, network_limit}
 use Rattle.model_world.specs.declared.stop.Stop.{Stop}
 use Rattle.model_world.specs.declared.stop.Stop.TheVariants.{TooLarge, NetworkFull}
 use Rattle.model_runs.specs.Held.{IsHeld, IsUpdate, IsSentTo, AreBelow}
@@ -22,9 +22,12 @@ use Rattle.lasp_state.specs.State.{IsOpOf}
 use Rattle.lasp_state.specs.declared.op.Op as rust
 use Rattle.lasp_gossip.specs.Network.{size_of as size_of_network}
 use Rattle.lasp_gossip.proofs.SizeLaws.{size_more}
-use Rattle.lasp_drive.specs.Node.{Updates, Delivers, IsNode, AreNodes}
+use Rattle.lasp_drive.specs.Node.{NodeView, Updates, Delivers, IsNode, IsStill, AreNodes}
+use Rattle.lasp_drive.specs.Nodes.{peers_of}
 use Rattle.lasp_drive.specs.declared.node.NodeStop.{NodeStop}
 use Rattle.lasp_drive.specs.declared.node.NodeStop.TheVariants as node
+
+-- ---- lists
 
 -- what holds of each other element and of a new one holds of each after a write
 pub at-set : {X : Type 0} (P : ℕ → X → Type 0) (xs : List X) (p : ℕ) (y : X) → ((q : ℕ) (x : X) → q ≢ p → slice_get xs q ≡ Some x → P q x) → P p y
@@ -35,81 +38,111 @@ at-set P (z ∷ xs) zero y each here (suc q) x e = each (suc q) x (λ h. omega (
 at-set P (z ∷ xs) (suc p) y each here zero x e = each zero x (λ h. omega (arith, h)) e
 at-set P (z ∷ xs) (suc p) y each here (suc q) x e = at-set (λ n. P (suc n)) xs p y (λ n w other h. each (suc n) w (λ k. other (omega (arith, k))) h) here q x e
 
-module _ {N : Type 0} (decls : N → List Decl) (number among : N → ℕ) where
-  -- the nodes after a call of one of them
-  pub nodes-set : (g : List Decl) (many : ℕ) (nodes : List N) (p : ℕ) (new : N) → AreNodes decls number among g many nodes → IsNode decls number among g many p new
-      → AreNodes decls number among g many (slice_set nodes p new)
-  nodes-set g many nodes p new each here = at-set (IsNode decls number among g many) nodes p new (λ q n _ h. each q n h) here
+-- what an element is mapped to stands at its place
+pub mapped-at : {X Y : Type 0} (f : X → Y) (xs : List X) (p : ℕ) (x : X) → slice_get xs p ≡ Some x → slice_get (map f xs) p ≡ Some (f x)
+mapped-at f [] p x at = absurd cc
+mapped-at f (z ∷ xs) zero x at = ap (λ w. Some (f w)) (let same : z ≡ x = cc in same)
+mapped-at f (z ∷ xs) (suc p) x at = mapped-at f xs p x at
 
-  pub node-here : (g : List Decl) (many : ℕ) (nodes : List N) (p : ℕ) (n : N) → AreNodes decls number among g many nodes → p < length nodes → n ≡ get_or nodes p n → IsNode decls number among g many p n
-  node-here g many nodes p n each within found = each p n (slice_get_read nodes (length nodes) p n refl within found)
+pub mapped-or : {X Y : Type 0} (f : X → Y) (xs : List X) (p : ℕ) (x : X) (d : Y) → slice_get xs p ≡ Some x → slice_index_or (map f xs) p d ≡ f x
+mapped-or f xs p x d at = get_or_from_slice_get (map f xs) p (f x) d (mapped-at f xs p x at)
 
-  -- a call of a node leaves it the node of its number
-  pub node-stays : (g : List Decl) (many p : ℕ) (n new : N) → IsNode decls number among g many p n → IsNode decls number among (decls n) (among n) (number n) new → IsNode decls number among g many p new
-  node-stays g many p n new old stays = record {
-    graph = stays.graph ∙ old.graph;
-    replica = stays.replica ∙ old.replica;
-    nodes = stays.nodes ∙ old.nodes;
-  }
+-- an element that has what the one at its place had leaves all as it was
+pub same-set : {X Y : Type 0} (f : X → Y) (xs : List X) (p : ℕ) (x y : X) → slice_get xs p ≡ Some x → f y ≡ f x → map f (slice_set xs p y) ≡ map f xs
+same-set f [] p x y at same = refl
+same-set {X} {Y} f (z ∷ xs) zero x y at same = ap (λ (r : Y). r ∷ map f xs) (same ∙ ap f (sym (let here : z ≡ x = cc in here)))
+same-set {X} {Y} f (z ∷ xs) (suc p) x y at same = ap (λ (rs : List Y). f z ∷ rs) (same-set f xs p x y at same)
+
+-- ---- a node of the code, as it is seen
+
+-- the node at a place
+pub seen-at : {N V : Type 0} (view : N → V) (nodes : List N) (p : ℕ) (n : N) → p < length nodes → n ≡ get_or nodes p n → slice_get (map view nodes) p ≡ Some (view n)
+seen-at view nodes p n within found = mapped-at view nodes p n (slice_get_read nodes (length nodes) p n refl within found)
+
+pub seen-low : {N V : Type 0} (view : N → V) (nodes : List N) (p : ℕ) → p < length (map view nodes) → p < length nodes
+seen-low view nodes p low = omega (arith, low, length-map nodes view)
+
+pub seen-high : {N V : Type 0} (view : N → V) (nodes : List N) (p : ℕ) → p < length nodes → p < length (map view nodes)
+seen-high view nodes p low = omega (arith, low, length-map nodes view)
+
+-- what holds of the nodes with a new one in its place
+pub seen-set : {N V : Type 0} (view : N → V) (nodes : List N) (p : ℕ) (new : N) (P : List V → Type 0) → P (slice_set (map view nodes) p (view new)) → P (map view (slice_set nodes p new))
+seen-set view nodes p new P holds = subst P (sym (map-set view nodes p new)) holds
+
+-- ---- nodes of one run
+
+-- the nodes after a call of one of them
+pub nodes-set : (g : List Decl) (many : ℕ) (nodes : List NodeView) (p : ℕ) (new : NodeView) → AreNodes g many nodes → IsNode g many p new → AreNodes g many (slice_set nodes p new)
+nodes-set g many nodes p new each here = at-set (IsNode g many) nodes p new (λ q n _ h. each q n h) here
+
+-- a call of a node leaves it the node of its number
+pub node-stays : (g : List Decl) (many p : ℕ) (n new : NodeView) → IsNode g many p n → IsStill n new → IsNode g many p new
+node-stays g many p n new old stays = record { graph = stays.graph ∙ old.graph; replica = stays.replica ∙ old.replica; nodes = stays.nodes ∙ old.nodes }
 
 -- the replica of a node
-pub peer-here : {N : Type 0} (peer : N → Peer) (nodes : List N) (p : ℕ) (n : N) → p < length nodes → n ≡ get_or nodes p n → peer_at (map peer nodes) p ≡ peer n
-peer-here peer nodes p n within found = get_or-map peer nodes p n no_peer within ∙ ap peer (sym found)
+pub peer-here : (nodes : List NodeView) (p : ℕ) (n : NodeView) → slice_get nodes p ≡ Some n → peer_at (peers_of nodes) p ≡ n.peer
+peer-here nodes p n at = mapped-or (λ (n : NodeView). n.peer) nodes p n _ at
 
-module _ {N : Type 0} (decls : N → List Decl) (number among : N → ℕ) (peer : N → Peer) (g : List Decl) (many : ℕ) (nodes : List N) (p : ℕ) (n : N) where
-  pub held-here : AreNodes decls number among g many nodes → IsHeld many g (peer_at (map peer nodes) p) → p < length nodes → n ≡ get_or nodes p n → IsHeld (among n) (decls n) (peer n)
-  held-here each held within found =
-      let here : IsNode decls number among g many p n = node-here decls number among g many nodes p n each within found in
-      subst (λ (k : ℕ). IsHeld k (decls n) (peer n)) (sym here.nodes)
-      (subst (λ (h : List Decl). IsHeld many h (peer n)) (sym here.graph)
-      (subst (λ (r : Peer). IsHeld many g r) (peer-here peer nodes p n within found) held))
+pub held-here : (g : List Decl) (many : ℕ) (nodes : List NodeView) (p : ℕ) (n : NodeView) → IsNode g many p n → slice_get nodes p ≡ Some n → IsHeld many g (peer_at (peers_of nodes) p) → IsHeld n.among n.decls n.peer
+held-here g many nodes p n here at held =
+    subst (λ (k : ℕ). IsHeld k n.decls n.peer) (sym here.nodes)
+    (subst (λ (h : List Decl). IsHeld many h n.peer) (sym here.graph)
+    (subst (λ (r : Peer). IsHeld many g r) (peer-here nodes p n at) held))
 
 -- an update that the world may give to a node's replica, the node may get
-pub update-here : {N : Type 0} (decls : N → List Decl) (number among : N → ℕ) (g : List Decl) (many p x : ℕ) (n : N) (op : Op) → IsNode decls number among g many p n
-    → IsUpdate many g x op → IsUpdate (among n) (decls n) x op
-update-here decls number among g many p x n op here may =
-    subst (λ (k : ℕ). IsUpdate k (decls n) x op) (sym here.nodes) (subst (λ (h : List Decl). IsUpdate many h x op) (sym here.graph) may)
+pub update-here : (g : List Decl) (many p x : ℕ) (n : NodeView) (op : Op) → IsNode g many p n → IsUpdate many g x op → IsUpdate n.among n.decls x op
+update-here g many p x n op here may =
+    subst (λ (k : ℕ). IsUpdate k n.decls x op) (sym here.nodes) (subst (λ (h : List Decl). IsUpdate many h x op) (sym here.graph) may)
 
-pub suits-here : {N : Type 0} (decls : N → List Decl) (number among : N → ℕ) (g : List Decl) (many p x : ℕ) (n : N) (op : rust.Op) → IsNode decls number among g many p n
-    → IsOpOf op p (shape_of many (kind_at g x)) → IsOpOf op (number n) (shape_of (among n) (kind_at (decls n) x))
-suits-here decls number among g many p x n op here suits =
-    subst (λ (k : ℕ). IsOpOf op (number n) (shape_of k (kind_at (decls n) x))) (sym here.nodes)
-    (subst (λ (h : List Decl). IsOpOf op (number n) (shape_of many (kind_at h x))) (sym here.graph)
+pub suits-here : (g : List Decl) (many p x : ℕ) (n : NodeView) (op : rust.Op) → IsNode g many p n
+    → IsOpOf op p (shape_of many (kind_at g x)) → IsOpOf op n.number (shape_of n.among (kind_at n.decls x))
+suits-here g many p x n op here suits =
+    subst (λ (k : ℕ). IsOpOf op n.number (shape_of k (kind_at n.decls x))) (sym here.nodes)
+    (subst (λ (h : List Decl). IsOpOf op n.number (shape_of many (kind_at h x))) (sym here.graph)
     (subst (λ (q : ℕ). IsOpOf op q (shape_of many (kind_at g x))) (sym here.replica) suits))
 
-pub room-here : {N : Type 0} (decls : N → List Decl) (number among : N → ℕ) (peer : N → Peer) (g : List Decl) (many c : ℕ) (nodes : List N) (p : ℕ) (n : N) → IsNode decls number among g many p n
-    → p < length nodes → n ≡ get_or nodes p n → many ≡ length nodes → length (peer_at (map peer nodes) p).counts ≡ many → AreBelow c (peer_at (map peer nodes) p).counts → c ≤ 100000 → count_at (peer n).counts (number n) < 100000
-room-here decls number among peer g many c nodes p n here within found size wide below few =
-    subst (λ (q : ℕ). count_at (peer n).counts q < 100000) (sym here.replica)
-    (subst (λ (r : Peer). count_at r.counts p < 100000) (peer-here peer nodes p n within found)
-    (omega (arith, few, below-at c p (peer_at (map peer nodes) p).counts below (omega (arith, within, size, wide)))))
+pub room-here : (g : List Decl) (many c : ℕ) (nodes : List NodeView) (p : ℕ) (n : NodeView) → IsNode g many p n → slice_get nodes p ≡ Some n → p < many
+    → length (peer_at (peers_of nodes) p).counts ≡ many → AreBelow c (peer_at (peers_of nodes) p).counts → c ≤ 100000 → count_at n.peer.counts n.number < 100000
+room-here g many c nodes p n here at member wide below few =
+    subst (λ (q : ℕ). count_at n.peer.counts q < 100000) (sym here.replica)
+    (subst (λ (r : Peer). count_at r.counts p < 100000) (peer-here nodes p n at)
+    (omega (arith, few, below-at c p (peer_at (peers_of nodes) p).counts below (omega (arith, member, wide)))))
+
+pub var-here : (g : List Decl) (x : ℕ) (n : NodeView) → n.decls ≡ g → x < length g → x < length n.decls
+var-here g x n graph within = subst (λ (h : List Decl). x < length h) (sym graph) within
+
+-- a threshold that suits a variable suits it at the node
+pub suited-here : (g : List Decl) (many p x : ℕ) (n : NodeView) (t : Threshold) → IsNode g many p n → IsTrue (suits t (shape_of many (kind_at g x))) → IsTrue (suits t (shape_of n.among (kind_at n.decls x)))
+suited-here g many p x n t here suited =
+    subst (λ (k : ℕ). IsTrue (suits t (shape_of k (kind_at n.decls x)))) (sym here.nodes) (subst (λ (h : List Decl). IsTrue (suits t (shape_of many (kind_at h x)))) (sym here.graph) suited)
+
+-- ---- updates
 
 abbrev checked_by : ℕ → ℕ → ℕ → Run → Peer → Bool → Result Run Stop
 checked_by c p x run r long = if long then Err (TooLarge c p x) else Ok (with_peer run p r)
 
 -- the world updates the node's replica
-same-updated : {N : Type 0} (number : N → ℕ) (peer : N → Peer) (nodes : List N) (p x : ℕ) (op : Op) (n : N) → number n ≡ p → p < length nodes → n ≡ get_or nodes p n
-    → updated (number n) x op (peer n) ≡ updated p x op (peer_at (map peer nodes) p)
-same-updated number peer nodes p x op n same within found =
-    ap (λ (q : ℕ). updated q x op (peer n)) same ∙ ap (λ (r : Peer). updated p x op r) (sym (peer-here peer nodes p n within found))
+same-updated : (nodes : List NodeView) (p x : ℕ) (op : Op) (n : NodeView) → n.number ≡ p → slice_get nodes p ≡ Some n → updated n.number x op n.peer ≡ updated p x op (peer_at (peers_of nodes) p)
+same-updated nodes p x op n same at =
+    ap (λ (q : ℕ). updated q x op n.peer) same ∙ ap (λ (r : Peer). updated p x op r) (sym (peer-here nodes p n at))
 
 -- a run with these replicas
 abbrev pub with_peers : Run → List Peer → Run
 with_peers run peers = record { graph = run.graph; peers = peers; sent = run.sent; marks = run.marks; reads = run.reads; text = run.text }
 
-peers-set : {N : Type 0} (peer : N → Peer) (run : Run) (nodes : List N) (p : ℕ) (new : N) → run.peers ≡ map peer nodes → with_peer run p (peer new) ≡ with_peers run (map peer (slice_set nodes p new))
-peers-set peer run nodes p new peers = ap (with_peers run) (ap (λ (ps : List Peer). slice_set ps p (peer new)) peers ∙ sym (map-set peer nodes p new))
+peers-set : (run : Run) (nodes : List NodeView) (p : ℕ) (new : NodeView) → run.peers ≡ peers_of nodes → with_peer run p new.peer ≡ with_peers run (peers_of (slice_set nodes p new))
+peers-set run nodes p new peers = ap (with_peers run) (ap (λ (ps : List Peer). slice_set ps p new.peer) peers ∙ sym (map-set (λ (n : NodeView). n.peer) nodes p new))
 
 -- an update that its node did, the world did
-pub update-done : {N : Type 0} (number : N → ℕ) (peer : N → Peer) (run : Run) (nodes : List N) (c p x : ℕ) (op : Op) (n new : N) → run.peers ≡ map peer nodes → number n ≡ p → p < length nodes → n ≡ get_or nodes p n
-    → peer new ≡ updated (number n) x op (peer n) → size_of (content_at (updated (number n) x op (peer n)).contents x) ≤ row_limit
-    → checked_update c p x run (updated p x op (peer_at (map peer nodes) p)) ≡ Ok (with_peers run (map peer (slice_set nodes p new)))
-update-done number peer run nodes c p x op n new peers same within found is small =
-    let expected : updated (number n) x op (peer n) ≡ updated p x op (peer_at (map peer nodes) p) = same-updated number peer nodes p x op n same within found in
-    let few : size_of (content_at (peer new).contents x) ≤ row_limit = subst (λ (r : Peer). size_of (content_at r.contents x) ≤ row_limit) (sym is) small in
-    subst (λ (r : Peer). checked_update c p x run r ≡ Ok (with_peer run p (peer new))) (is ∙ expected)
-    (ap (λ (b : Bool). checked_by c p x run (peer new) b) (le-ltb row_limit (size_of (content_at (peer new).contents x)) few))
-    ∙ ap (λ (next : Run). Ok next) (peers-set peer run nodes p new peers)
+pub update-done : (run : Run) (nodes : List NodeView) (c p x : ℕ) (op : Op) (n new : NodeView) → run.peers ≡ peers_of nodes → n.number ≡ p → slice_get nodes p ≡ Some n
+    → new.peer ≡ updated n.number x op n.peer → size_of (content_at (updated n.number x op n.peer).contents x) ≤ row_limit
+    → checked_update c p x run (updated p x op (peer_at (peers_of nodes) p)) ≡ Ok (with_peers run (peers_of (slice_set nodes p new)))
+update-done run nodes c p x op n new peers same at is small =
+    let expected : updated n.number x op n.peer ≡ updated p x op (peer_at (peers_of nodes) p) = same-updated nodes p x op n same at in
+    let few : size_of (content_at new.peer.contents x) ≤ row_limit = subst (λ (r : Peer). size_of (content_at r.contents x) ≤ row_limit) (sym is) small in
+    subst (λ (r : Peer). checked_update c p x run r ≡ Ok (with_peer run p new.peer)) (is ∙ expected)
+    (ap (λ (b : Bool). checked_by c p x run new.peer b) (le-ltb row_limit (size_of (content_at new.peer.contents x)) few))
+    ∙ ap (λ (next : Run). Ok next) (peers-set run nodes p new peers)
 
 -- a node that stopped at a variable has too many rows there
 pub stopped-large : (expected new : Peer) (x : ℕ) (stop : NodeStop) (y : ℕ) → stop ≡ node.TooLarge y → Updates {A = Unit {0}} expected x (Err stop) new → row_limit < size_of (content_at expected.contents x)
@@ -117,31 +150,31 @@ stopped-large expected new x (node.TooLarge z) y e h = h.1
 stopped-large expected new x node.Memory y e h = absurd cc
 
 -- an update that makes the variable too large stops the world
-pub update-stops : {N : Type 0} (number : N → ℕ) (peer : N → Peer) (run : Run) (nodes : List N) (c p x : ℕ) (op : Op) (n : N) → number n ≡ p → p < length nodes → n ≡ get_or nodes p n
-    → row_limit < size_of (content_at (updated (number n) x op (peer n)).contents x) → checked_update c p x run (updated p x op (peer_at (map peer nodes) p)) ≡ Err (TooLarge c p x)
-update-stops number peer run nodes c p x op n same within found large =
-    subst (λ (r : Peer). checked_update c p x run r ≡ Err (TooLarge c p x)) (same-updated number peer nodes p x op n same within found)
-    (ap (λ (b : Bool). checked_by c p x run (updated (number n) x op (peer n)) b) (lt-ltb row_limit (size_of (content_at (updated (number n) x op (peer n)).contents x)) large))
+pub update-stops : (run : Run) (nodes : List NodeView) (c p x : ℕ) (op : Op) (n : NodeView) → n.number ≡ p → slice_get nodes p ≡ Some n
+    → row_limit < size_of (content_at (updated n.number x op n.peer).contents x) → checked_update c p x run (updated p x op (peer_at (peers_of nodes) p)) ≡ Err (TooLarge c p x)
+update-stops run nodes c p x op n same at large =
+    subst (λ (r : Peer). checked_update c p x run r ≡ Err (TooLarge c p x)) (same-updated nodes p x op n same at)
+    (ap (λ (b : Bool). checked_by c p x run (updated n.number x op n.peer) b) (lt-ltb row_limit (size_of (content_at (updated n.number x op n.peer).contents x)) large))
 
 -- ---- deliveries
 
-same-delivered : {N : Type 0} (decls : N → List Decl) (peer : N → Peer) (g : List Decl) (m sent : Message) (nodes : List N) (p : ℕ) (n : N) → decls n ≡ g → m ≡ sent → p < length nodes → n ≡ get_or nodes p n
-    → delivered (decls n) m (peer n) ≡ delivered g sent (peer_at (map peer nodes) p)
-same-delivered decls peer g m sent nodes p n graph same within found =
-    ap (λ (h : List Decl). delivered h m (peer n)) graph ∙ ap (λ (k : Message). delivered g k (peer n)) same ∙ ap (delivered g sent) (sym (peer-here peer nodes p n within found))
+same-delivered : (g : List Decl) (m sent : Message) (nodes : List NodeView) (p : ℕ) (n : NodeView) → n.decls ≡ g → m ≡ sent → slice_get nodes p ≡ Some n
+    → delivered n.decls m n.peer ≡ delivered g sent (peer_at (peers_of nodes) p)
+same-delivered g m sent nodes p n graph same at =
+    ap (λ (h : List Decl). delivered h m n.peer) graph ∙ ap (λ (k : Message). delivered g k n.peer) same ∙ ap (delivered g sent) (sym (peer-here nodes p n at))
 
 abbrev delivered_by : ℕ → ℕ → Run → Peer → Option ℕ → Result Run Stop
 delivered_by c p run r large = stop_from large c p (Ok (with_peer run p r))
 
 -- a delivery that its node did, the world did
-pub deliver-done : {N : Type 0} (decls : N → List Decl) (peer : N → Peer) (run : Run) (m sent : Message) (nodes : List N) (c p : ℕ) (n new : N) → run.peers ≡ map peer nodes → decls n ≡ run.graph → m ≡ sent → p < length nodes → n ≡ get_or nodes p n
-    → peer new ≡ delivered (decls n) m (peer n) → first_large 0 (delivered (decls n) m (peer n)).contents ≡ None
-    → checked_delivery c p run (delivered run.graph sent (peer_at (map peer nodes) p)) ≡ Ok (with_peers run (map peer (slice_set nodes p new)))
-deliver-done decls peer run m sent nodes c p n new peers graph same within found is small =
-    let expected : delivered (decls n) m (peer n) ≡ delivered run.graph sent (peer_at (map peer nodes) p) = same-delivered decls peer run.graph m sent nodes p n graph same within found in
-    subst (λ (r : Peer). checked_delivery c p run r ≡ Ok (with_peer run p (peer new))) (is ∙ expected)
-    (ap (λ (large : Option ℕ). delivered_by c p run (peer new) large) (subst (λ (r : Peer). first_large 0 r.contents ≡ None) (sym is) small))
-    ∙ ap (λ (next : Run). Ok next) (peers-set peer run nodes p new peers)
+pub deliver-done : (run : Run) (m sent : Message) (nodes : List NodeView) (c p : ℕ) (n new : NodeView) → run.peers ≡ peers_of nodes → n.decls ≡ run.graph → m ≡ sent → slice_get nodes p ≡ Some n
+    → new.peer ≡ delivered n.decls m n.peer → first_large 0 (delivered n.decls m n.peer).contents ≡ None
+    → checked_delivery c p run (delivered run.graph sent (peer_at (peers_of nodes) p)) ≡ Ok (with_peers run (peers_of (slice_set nodes p new)))
+deliver-done run m sent nodes c p n new peers graph same at is small =
+    let expected : delivered n.decls m n.peer ≡ delivered run.graph sent (peer_at (peers_of nodes) p) = same-delivered run.graph m sent nodes p n graph same at in
+    subst (λ (r : Peer). checked_delivery c p run r ≡ Ok (with_peer run p new.peer)) (is ∙ expected)
+    (ap (λ (large : Option ℕ). delivered_by c p run new.peer large) (subst (λ (r : Peer). first_large 0 r.contents ≡ None) (sym is) small))
+    ∙ ap (λ (next : Run). Ok next) (peers-set run nodes p new peers)
 
 -- the variable that a node stopped at is the first that is too large
 pub stopped-delivery : (expected new : Peer) (stop : NodeStop) (y : ℕ) → stop ≡ node.TooLarge y → Delivers {A = Unit {0}} expected (Err stop) new → first_large 0 expected.contents ≡ Some y
@@ -149,21 +182,23 @@ stopped-delivery expected new (node.TooLarge z) y e h = h ∙ ap (λ (k : ℕ). 
 stopped-delivery expected new node.Memory y e h = absurd cc
 
 -- a delivery that makes a variable too large stops the world
-pub deliver-stops : {N : Type 0} (decls : N → List Decl) (peer : N → Peer) (run : Run) (m sent : Message) (nodes : List N) (c p x : ℕ) (n : N) → decls n ≡ run.graph → m ≡ sent → p < length nodes → n ≡ get_or nodes p n
-    → first_large 0 (delivered (decls n) m (peer n)).contents ≡ Some x
-    → checked_delivery c p run (delivered run.graph sent (peer_at (map peer nodes) p)) ≡ Err (TooLarge c p x)
-deliver-stops decls peer run m sent nodes c p x n graph same within found large =
-    subst (λ (r : Peer). checked_delivery c p run r ≡ Err (TooLarge c p x)) (same-delivered decls peer run.graph m sent nodes p n graph same within found)
-    (ap (λ (o : Option ℕ). delivered_by c p run (delivered (decls n) m (peer n)) o) large)
+pub deliver-stops : (run : Run) (m sent : Message) (nodes : List NodeView) (c p x : ℕ) (n : NodeView) → n.decls ≡ run.graph → m ≡ sent → slice_get nodes p ≡ Some n
+    → first_large 0 (delivered n.decls m n.peer).contents ≡ Some x
+    → checked_delivery c p run (delivered run.graph sent (peer_at (peers_of nodes) p)) ≡ Err (TooLarge c p x)
+deliver-stops run m sent nodes c p x n graph same at large =
+    subst (λ (r : Peer). checked_delivery c p run r ≡ Err (TooLarge c p x)) (same-delivered run.graph m sent nodes p n graph same at)
+    (ap (λ (o : Option ℕ). delivered_by c p run (delivered n.decls m n.peer) o) large)
 
 -- what is sent to a graph's replicas is sent to its node
-pub sent-here : {N : Type 0} (decls : N → List Decl) (number among : N → ℕ) (g : List Decl) (many p : ℕ) (n : N) (m : Message) → IsNode decls number among g many p n → IsSentTo many g m → IsSentTo (among n) (decls n) m
-sent-here decls number among g many p n m here sent =
-    subst (λ (k : ℕ). IsSentTo k (decls n) m) (sym here.nodes) (subst (λ (h : List Decl). IsSentTo many h m) (sym here.graph) sent)
+pub sent-here : (g : List Decl) (many p : ℕ) (n : NodeView) (m : Message) → IsNode g many p n → IsSentTo many g m → IsSentTo n.among n.decls m
+sent-here g many p n m here sent =
+    subst (λ (k : ℕ). IsSentTo k n.decls m) (sym here.nodes) (subst (λ (h : List Decl). IsSentTo many h m) (sym here.graph) sent)
+
+-- ---- sends
 
 -- what a node sends, the world sends
-pub message-here : {N : Type 0} (decls : N → List Decl) (peer : N → Peer) (g : List Decl) (nodes : List N) (p : ℕ) (n : N) → decls n ≡ g → p < length nodes → n ≡ get_or nodes p n → message_at (decls n) (peer n) ≡ message_at g (peer_at (map peer nodes) p)
-message-here decls peer g nodes p n graph within found = ap (λ (h : List Decl). message_at h (peer n)) graph ∙ ap (message_at g) (sym (peer-here peer nodes p n within found))
+pub message-here : (g : List Decl) (nodes : List NodeView) (p : ℕ) (n : NodeView) → n.decls ≡ g → slice_get nodes p ≡ Some n → message_at n.decls n.peer ≡ message_at g (peer_at (peers_of nodes) p)
+message-here g nodes p n graph at = ap (λ (h : List Decl). message_at h n.peer) graph ∙ ap (message_at g) (sym (peer-here nodes p n at))
 
 -- the message under a number
 pub sent-read : (sent : List Message) (i : ℕ) (m : Message) → slice_get sent i ≡ Some m → m ≡ sent_number sent i
@@ -184,20 +219,6 @@ pub post-stops : (run : Run) (c : ℕ) (m expected : Message) → m ≡ expected
 post-stops run c m expected same full =
     subst (λ (k : Message). checked_send c run (run.sent ++ k ∷ []) ≡ Err (NetworkFull c)) same
     (ap (λ (b : Bool). posted_by c run (run.sent ++ m ∷ []) b) (lt-ltb network_limit (network_size (run.sent ++ m ∷ [])) (omega (arith, size_more run.sent m, full))))
-
--- ---- what else is there at a node
-
-pub member-here : {N : Type 0} (decls : N → List Decl) (number among : N → ℕ) (g : List Decl) (many p : ℕ) (n : N) → IsNode decls number among g many p n → p < many → number n < among n
-member-here decls number among g many p n here within = omega (arith, here.replica, here.nodes, within)
-
-pub var-here : {N : Type 0} (decls : N → List Decl) (g : List Decl) (x : ℕ) (n : N) → decls n ≡ g → x < length g → x < length (decls n)
-var-here decls g x n graph within = subst (λ (h : List Decl). x < length h) (sym graph) within
-
--- a threshold that suits a variable suits it at the node
-pub suited-here : {N : Type 0} (decls : N → List Decl) (number among : N → ℕ) (g : List Decl) (many p x : ℕ) (n : N) (t : Threshold) → IsNode decls number among g many p n → IsTrue (suits t (shape_of many (kind_at g x)))
-    → IsTrue (suits t (shape_of (among n) (kind_at (decls n) x)))
-suited-here decls number among g many p x n t here suited =
-    subst (λ (k : ℕ). IsTrue (suits t (shape_of k (kind_at (decls n) x)))) (sym here.nodes) (subst (λ (h : List Decl). IsTrue (suits t (shape_of many (kind_at h x)))) (sym here.graph) suited)
 
 -- counts below a command's number are within the format
 pub below-limit : (c : ℕ) (counts : List ℕ) → c ≤ 100000 → AreBelow c counts → AreBelow 100001 counts

@@ -1,33 +1,28 @@
--- Laws of points, declarations and reads: what the nodes of a run do and show.
+-- Laws of points and declarations: what the nodes of a run do and show.
 use Rattle.std.proofs.Common.{zero, suc, refl, sym, ap, subst, ◌∙◌, arith, get_or, drop, take}
-use Rattle.std.specs.Prelude.{◌≡◌, ℕ, ◌+◌, ◌<◌, ◌≤◌, List, [], ◌∷◌, ◌++◌, map, length, Option, Some, None, slice_get, slice_set, replicate, Result, Ok, Err, OnOk, Bool, true, false, if◌then◌else◌}
-use Rattle.std.specs.Arc.{arc_value}
-use Rattle.std.proofs.lemmas.List.{map-append, map-set, get_or-map, length-map, drop_more}
-use Rattle.std.proofs.lemmas.Option.{slice_get_read, slice_get_within, get_or_from_slice_get}
-use Rattle.model_states.specs.Content.{Content}
-use Rattle.model_states.specs.Threshold.{Threshold, meets}
+use Rattle.std.specs.Prelude.{◌≡◌, ℕ, ◌+◌, ◌<◌, ◌≤◌, List, [], ◌∷◌, ◌++◌, map, length, Option, Some, None, slice_get, slice_set, replicate, Ok, Err}
+use Rattle.std.proofs.lemmas.List.{map-append, map-set, length-map, length-set, drop_more}
+use Rattle.std.proofs.lemmas.Option.{slice_get_within, get_or_from_slice_get}
+use Rattle.model_functions.specs.Library.{Library}
 use Rattle.model_graph.specs.Graph.{Decl}
-use Rattle.model_graph.specs.Evaluation.{content_at, first_large}
-use Rattle.model_world.specs.Command.{Until}
-use Rattle.model_world.specs.World.{Peer, Run, Reach, act, peer_at, shown_at, shown_content_at, threshold_of, point_from, stop_from, extended, with_decl}
-use Rattle.model_world.specs.declared.stop.Stop.{Stop}
-use Rattle.model_world.specs.declared.stop.Stop.TheVariants.{TooLarge, NotReached}
-use Rattle.lasp_drive.specs.Node.{Awaited, awaits, Settles, IsNode, AreNodes, AreSettled, AreSettledBelow}
-use Rattle.lasp_drive.specs.Reads.{Reads}
-use Rattle.lasp_drive.specs.Waiting.{AreWaiting}
+use Rattle.model_graph.specs.Evaluation.{first_large}
+use Rattle.model_readings.specs.Lawful.{FitsAll}
+use Rattle.model_world.specs.World.{Peer, Run, peer_at, fresh_peer, extended, shown_at, point_from, stop_from}
+use Rattle.model_world.specs.declared.stop.Stop.TheVariants.{TooLarge}
+use Rattle.model_journal.specs.Entry as model
+use Rattle.model_runs.specs.Calls.{fed}
+use Rattle.model_runs.specs.Held.{IsHeld}
+use Rattle.lasp_drive.specs.Node.{NodeView, Settles, IsNode, IsSettled, AreNodes, AreSettled, IsFresh, AreFresh, Grew, HoldsLittle, OnlyGrew, Extends, ShowsNoMore}
+use Rattle.lasp_drive.specs.Nodes.{peers_of, calls_of, KeepReads, MaySettle, AllSettled, AllExtend}
+use Rattle.lasp_drive.specs.Reads.{Reads, no_reads, releases}
 use Rattle.lasp_drive.specs.declared.node.NodeStop.{NodeStop}
 use Rattle.lasp_drive.specs.declared.node.NodeStop.TheVariants as node
-use Rattle.std.specs.declared.vec.Vec.{Vec}
-use Rattle.std.specs.declared.alloc.Global.{Global}
-use Rattle.model_runs.specs.Sound.{IsSound, IsOpened, no_read, read_at}
-use Rattle.lasp_drive.specs.declared.driver.OpenRead.{OpenRead}
-use Rattle.model_runs.proofs.SoundLaws.{sound-extend}
-use Rattle.std.specs.declared.sync.Arc.{Arc}
-use Rattle.lasp_graph.specs.declared.graph.Graph.{Graph}
-use Rattle.lasp_drive.specs.Driver.{opened_of, run_of, stage_of, AreOpened, IsReady}
-use Rattle.lasp_drive.specs.declared.driver.Driver.{Driver}
-use Rattle.lasp_drive.proofs.NodeLaws.{at-set, peer-here, with_peers}
-use Rattle.lasp_drive.proofs.DriverLaws.{opened}
+use Rattle.lasp_drive.proofs.NodeLaws.{at-set, mapped-at, same-set, nodes-set, node-stays, held-here}
+use Rattle.lasp_drive.proofs.WaitLaws.{all-called}
+
+-- the nodes below a number are settled
+abbrev pub AreSettledBelow : ℕ → List NodeView → Type 0
+AreSettledBelow many nodes = (p : ℕ) (n : NodeView) → slice_get nodes p ≡ Some n → p < many → IsSettled n
 
 -- a node that stopped at a variable is too large there first
 pub stopped-first : (large : Option ℕ) (stop : NodeStop) (y : ℕ) → stop ≡ node.TooLarge y → Settles {A = Unit {0}} large (Err stop) → large ≡ Some y
@@ -35,47 +30,31 @@ stopped-first large (node.TooLarge z) y e h = h ∙ ap (λ (n : ℕ). Some n) (l
 stopped-first large node.Memory y e h = absurd cc
 
 -- the node at a place: what the point does there
-point-here : {N : Type 0} (decls : N → List Decl) (peer : N → Peer) (run : Run) (c p : ℕ) (nodes : List N) (n : N) → p < length nodes → n ≡ get_or nodes p n → decls n ≡ run.graph
-    → point_from c p (drop p (map peer nodes)) run ≡ stop_from (first_large 0 (shown_at (decls n) (peer n))) c p (point_from c (p + 1) (drop (p + 1) (map peer nodes)) run)
-point-here decls peer run c p nodes n within found graph =
+point-here : (run : Run) (c p : ℕ) (nodes : List NodeView) (n : NodeView) → slice_get nodes p ≡ Some n → n.decls ≡ run.graph
+    → point_from c p (drop p (peers_of nodes)) run ≡ stop_from (first_large 0 (shown_at n.decls n.peer)) c p (point_from c (p + 1) (drop (p + 1) (peers_of nodes)) run)
+point-here run c p nodes n at graph =
     ap (λ (rs : List Peer). point_from c p rs run)
-    (drop_more (map peer nodes) p (peer n) (subst (λ (k : ℕ). p < k) (sym (length-map nodes peer)) within)
-    ∙ ap (λ (r : Peer). r ∷ drop (p + 1) (map peer nodes)) (get_or-map peer nodes p n (peer n) within ∙ ap peer (sym found)))
-    ∙ ap (λ (g : List Decl). stop_from (first_large 0 (shown_at g (peer n))) c p (point_from c (p + 1) (drop (p + 1) (map peer nodes)) run)) (sym graph)
+    (drop_more (peers_of nodes) p n.peer (subst (λ (k : ℕ). p < k) (sym (length-map nodes (λ (n : NodeView). n.peer))) (slice_get_within nodes p n at))
+    ∙ ap (λ (r : Peer). r ∷ drop (p + 1) (peers_of nodes)) (get_or_from_slice_get (peers_of nodes) p n.peer n.peer (mapped-at (λ (n : NodeView). n.peer) nodes p n at)))
+    ∙ ap (λ (g : List Decl). stop_from (first_large 0 (shown_at g n.peer)) c p (point_from c (p + 1) (drop (p + 1) (peers_of nodes)) run)) (sym graph)
 
 -- a node that shows too many rows stops the point
-pub point-stops : {N : Type 0} (decls : N → List Decl) (peer : N → Peer) (run : Run) (c p : ℕ) (nodes : List N) (n : N) (x : ℕ) → p < length nodes → n ≡ get_or nodes p n → decls n ≡ run.graph
-    → first_large 0 (shown_at (decls n) (peer n)) ≡ Some x → point_from c p (drop p (map peer nodes)) run ≡ Err (TooLarge c p x)
-point-stops decls peer run c p nodes n x within found graph large =
-    point-here decls peer run c p nodes n within found graph
-    ∙ ap (λ (o : Option ℕ). stop_from o c p (point_from c (p + 1) (drop (p + 1) (map peer nodes)) run)) large
+pub point-stops : (run : Run) (c p : ℕ) (nodes : List NodeView) (n : NodeView) (x : ℕ) → slice_get nodes p ≡ Some n → n.decls ≡ run.graph
+    → first_large 0 (shown_at n.decls n.peer) ≡ Some x → point_from c p (drop p (peers_of nodes)) run ≡ Err (TooLarge c p x)
+point-stops run c p nodes n x at graph large =
+    point-here run c p nodes n at graph ∙ ap (λ (o : Option ℕ). stop_from o c p (point_from c (p + 1) (drop (p + 1) (peers_of nodes)) run)) large
 
 -- a node that doesn't leaves the point to the nodes behind it
-pub point-passes : {N : Type 0} (decls : N → List Decl) (peer : N → Peer) (run : Run) (c p : ℕ) (nodes : List N) (n new : N) → p < length nodes → n ≡ get_or nodes p n → decls n ≡ run.graph → peer new ≡ peer n
-    → first_large 0 (shown_at (decls n) (peer n)) ≡ None → point_from c p (drop p (map peer nodes)) run ≡ point_from c (p + 1) (drop (p + 1) (map peer (slice_set nodes p new))) run
-point-passes decls peer run c p nodes n new within found graph same few =
-    point-here decls peer run c p nodes n within found graph
-    ∙ ap (λ (o : Option ℕ). stop_from o c p (point_from c (p + 1) (drop (p + 1) (map peer nodes)) run)) few
-    ∙ ap (λ (rs : List Peer). point_from c (p + 1) (drop (p + 1) rs) run) (sym (same-peers peer nodes p n new found same))
-  where
-    same-peers : {N : Type 0} (peer : N → Peer) (nodes : List N) (p : ℕ) (n new : N) → n ≡ get_or nodes p n → peer new ≡ peer n → map peer (slice_set nodes p new) ≡ map peer nodes
-    same-peers peer [] p n new found same = refl
-    same-peers peer (m ∷ nodes) zero n new found same = ap (λ (r : Peer). r ∷ map peer nodes) (same ∙ ap peer found)
-    same-peers peer (m ∷ nodes) (suc p) n new found same = ap (λ (rs : List Peer). peer m ∷ rs) (same-peers peer nodes p n new found same)
-
--- what the nodes have is as before
-pub all-stay : {N X : Type 0} (of : N → X) (nodes : List N) (p : ℕ) (n new : N) → n ≡ get_or nodes p n → of new ≡ of n → map of (slice_set nodes p new) ≡ map of nodes
-all-stay of [] p n new found same = refl
-all-stay {N} {X} of (m ∷ nodes) zero n new found same = ap (λ (r : X). r ∷ map of nodes) (same ∙ ap of found)
-all-stay {N} {X} of (m ∷ nodes) (suc p) n new found same = ap (λ (rs : List X). of m ∷ rs) (all-stay of nodes p n new found same)
-
--- the replicas are as before
-pub peers-stay : {N : Type 0} (peer : N → Peer) (nodes : List N) (p : ℕ) (n new : N) → n ≡ get_or nodes p n → peer new ≡ peer n → map peer (slice_set nodes p new) ≡ map peer nodes
-peers-stay peer nodes p n new found same = all-stay peer nodes p n new found same
+pub point-passes : (run : Run) (c p : ℕ) (nodes : List NodeView) (n new : NodeView) → slice_get nodes p ≡ Some n → n.decls ≡ run.graph → new.peer ≡ n.peer
+    → first_large 0 (shown_at n.decls n.peer) ≡ None → point_from c p (drop p (peers_of nodes)) run ≡ point_from c (p + 1) (drop (p + 1) (peers_of (slice_set nodes p new))) run
+point-passes run c p nodes n new at graph same few =
+    point-here run c p nodes n at graph
+    ∙ ap (λ (o : Option ℕ). stop_from o c p (point_from c (p + 1) (drop (p + 1) (peers_of nodes)) run)) few
+    ∙ ap (λ (rs : List Peer). point_from c (p + 1) (drop (p + 1) rs) run) (sym (same-set (λ (n : NodeView). n.peer) nodes p n new at same))
 
 -- past all nodes the point changes nothing
-pub point-end : {N : Type 0} (peer : N → Peer) (run : Run) (c p : ℕ) (nodes : List N) → length nodes ≤ p → point_from c p (drop p (map peer nodes)) run ≡ Ok run
-point-end peer run c p nodes past = ap (λ (rs : List Peer). point_from c p rs run) (drop-past (map peer nodes) p (omega (arith, past, length-map nodes peer))) where
+pub point-end : (run : Run) (c p : ℕ) (nodes : List NodeView) → length nodes ≤ p → point_from c p (drop p (peers_of nodes)) run ≡ Ok run
+point-end run c p nodes past = ap (λ (rs : List Peer). point_from c p rs run) (drop-past (peers_of nodes) p (omega (arith, past, length-map nodes (λ (n : NodeView). n.peer)))) where
   drop-past : (rs : List Peer) (k : ℕ) → length rs ≤ k → drop k rs ≡ []
   drop-past [] zero h = refl
   drop-past [] (suc k) h = refl
@@ -83,29 +62,25 @@ point-end peer run c p nodes past = ap (λ (rs : List Peer). point_from c p rs r
   drop-past (r ∷ rs) (suc k) h = drop-past rs k (omega (arith, h))
 
 -- one node more is settled
-pub settled-next : {N : Type 0} (decls : N → List Decl) (peer : N → Peer) (shown : N → List Content) (nodes : List N) (p : ℕ) (n new : N) → AreSettledBelow decls peer shown p nodes
-    → shown new ≡ shown_at (decls n) (peer n) → decls new ≡ decls n → peer new ≡ peer n → AreSettledBelow decls peer shown (p + 1) (slice_set nodes p new)
-settled-next decls peer shown nodes p n new below is graph same =
-    at-set (λ q m. q < p + 1 → shown m ≡ shown_at (decls m) (peer m)) nodes p new
-    (λ q m other at low. below q m at (omega (arith, low, other)))
-    (λ _. is ∙ ap (λ (g : List Decl). shown_at g (peer n)) (sym graph) ∙ ap (shown_at (decls new)) (sym same))
+pub settled-next : (nodes : List NodeView) (p : ℕ) (new : NodeView) → AreSettledBelow p nodes → IsSettled new → AreSettledBelow (p + 1) (slice_set nodes p new)
+settled-next nodes p new below is = at-set (λ q m. q < p + 1 → IsSettled m) nodes p new (λ q m other at low. below q m at (omega (arith, low, other))) (λ _. is)
 
-pub all-settled : {N : Type 0} (decls : N → List Decl) (peer : N → Peer) (shown : N → List Content) (nodes : List N) (p : ℕ) → length nodes ≤ p → AreSettledBelow decls peer shown p nodes → AreSettled decls peer shown nodes
-all-settled decls peer shown nodes p past below q n at = below q n at (omega (arith, past, slice_get_within nodes q n at))
+pub all-settled : (nodes : List NodeView) (p : ℕ) → length nodes ≤ p → AreSettledBelow p nodes → AreSettled nodes
+all-settled nodes p past below q n at = below q n at (omega (arith, past, slice_get_within nodes q n at))
 
 -- ---- a declaration
 
 -- the nodes before this one went on, and so did it
-pub grown-next : {N : Type 0} (decls : N → List Decl) (number among : N → ℕ) (g : List Decl) (many p : ℕ) (nodes : List N) (new : N) → ((q : ℕ) (n : N) → slice_get nodes q ≡ Some n → q < p → IsNode decls number among g many q n) → IsNode decls number among g many p new
-    → (q : ℕ) (n : N) → slice_get (slice_set nodes p new) q ≡ Some n → q < p + 1 → IsNode decls number among g many q n
-grown-next decls number among g many p nodes new grown here =
-    at-set (λ q n. q < p + 1 → IsNode decls number among g many q n) nodes p new (λ q n other at low. grown q n at (omega (arith, low, other))) (λ _. here)
+pub grown-next : (g : List Decl) (many p : ℕ) (nodes : List NodeView) (new : NodeView) → ((q : ℕ) (n : NodeView) → slice_get nodes q ≡ Some n → q < p → IsNode g many q n) → IsNode g many p new
+    → (q : ℕ) (n : NodeView) → slice_get (slice_set nodes p new) q ≡ Some n → q < p + 1 → IsNode g many q n
+grown-next g many p nodes new grown here =
+    at-set (λ q n. q < p + 1 → IsNode g many q n) nodes p new (λ q n other at low. grown q n at (omega (arith, low, other))) (λ _. here)
 
 -- the nodes behind it are as before
-pub nodes-rest : {N : Type 0} (decls : N → List Decl) (number among : N → ℕ) (g : List Decl) (many p : ℕ) (nodes : List N) (new : N) → ((q : ℕ) (n : N) → slice_get nodes q ≡ Some n → p ≤ q → IsNode decls number among g many q n)
-    → (q : ℕ) (n : N) → slice_get (slice_set nodes p new) q ≡ Some n → p + 1 ≤ q → IsNode decls number among g many q n
-nodes-rest decls number among g many p nodes new rest =
-    at-set (λ q n. p + 1 ≤ q → IsNode decls number among g many q n) nodes p new (λ q n other at low. rest q n at (omega (arith, low))) (λ low. absurd (omega (arith, low)))
+pub nodes-rest : (g : List Decl) (many p : ℕ) (nodes : List NodeView) (new : NodeView) → ((q : ℕ) (n : NodeView) → slice_get nodes q ≡ Some n → p ≤ q → IsNode g many q n)
+    → (q : ℕ) (n : NodeView) → slice_get (slice_set nodes p new) q ≡ Some n → p + 1 ≤ q → IsNode g many q n
+nodes-rest g many p nodes new rest =
+    at-set (λ q n. p + 1 ≤ q → IsNode g many q n) nodes p new (λ q n other at low. rest q n at (omega (arith, low))) (λ low. absurd (omega (arith, low)))
 
 -- what stands at a place among what went on and what didn't
 extend-at : {X : Type 0} (f : X → X) (rs : List X) (p : ℕ) (r : X) → p < length rs → r ≡ f (get_or rs p r) → slice_set (map f (take p rs) ++ drop p rs) p r ≡ map f (take (suc p) rs) ++ drop (suc p) rs
@@ -118,18 +93,14 @@ here-at f [] p d within = absurd (omega (arith, within))
 here-at f (s ∷ rs) zero d within = refl
 here-at f (s ∷ rs) (suc p) d within = here-at f rs p d (omega (arith, within))
 
-pub extend-next : {N X : Type 0} (of : N → X) (f : X → X) (rs : List X) (nodes : List N) (p : ℕ) (n new : N) → p < length rs → p < length nodes → n ≡ get_or nodes p n → map of nodes ≡ map f (take p rs) ++ drop p rs → of new ≡ f (of n)
+pub extend-next : {X : Type 0} (of : NodeView → X) (f : X → X) (rs : List X) (nodes : List NodeView) (p : ℕ) (n new : NodeView) → p < length rs → slice_get nodes p ≡ Some n → map of nodes ≡ map f (take p rs) ++ drop p rs → of new ≡ f (of n)
     → map of (slice_set nodes p new) ≡ map f (take (p + 1) rs) ++ drop (p + 1) rs
-extend-next {N} {X} of f rs nodes p n new within inside found before is =
+extend-next {X} of f rs nodes p n new within at before is =
     let old : of n ≡ get_or rs p (of new) =
-    ap of found ∙ sym (get_or-map of nodes p n (of new) inside) ∙ ap (λ (ts : List X). get_or ts p (of new)) before ∙ here-at f rs p (of new) within in
+    sym (get_or_from_slice_get (map of nodes) p (of n) (of new) (mapped-at of nodes p n at)) ∙ ap (λ (ts : List X). get_or ts p (of new)) before ∙ here-at f rs p (of new) within in
     map-set of nodes p new ∙ ap (λ (ts : List X). slice_set ts p (of new)) before
     ∙ extend-at f rs p (of new) within (is ∙ ap f old)
     ∙ ap (λ (k : ℕ). map f (take k rs) ++ drop k rs) (let next : suc p ≡ p + 1 = omega arith in next)
-
--- a node that went on with a larger graph
-pub node-grown : {N : Type 0} (decls : N → List Decl) (number among : N → ℕ) (before g : List Decl) (many p : ℕ) (n new : N) → IsNode decls number among before many p n → IsNode decls number among g (among n) (number n) new → IsNode decls number among g many p new
-node-grown decls number among before g many p n new old stays = record { graph = stays.graph; replica = stays.replica ∙ old.replica; nodes = stays.nodes ∙ old.nodes }
 
 -- ---- the first nodes
 
@@ -145,105 +116,138 @@ length-push xs y p size = omega (arith, more xs y, size) where
   more [] y = refl
   more (x ∷ xs) y = omega (arith, more xs y)
 
-pub nodes-push : {N : Type 0} (decls : N → List Decl) (number among : N → ℕ) (g : List Decl) (many p : ℕ) (nodes : List N) (new : N) → length nodes ≡ p → AreNodes decls number among g many nodes → IsNode decls number among g many p new → AreNodes decls number among g many (nodes ++ new ∷ [])
-nodes-push decls number among g many p nodes new size each here = at-push (IsNode decls number among g many) nodes new each (subst (λ (q : ℕ). IsNode decls number among g many q new) (sym size) here)
+pub nodes-push : (g : List Decl) (many p : ℕ) (nodes : List NodeView) (new : NodeView) → length nodes ≡ p → AreNodes g many nodes → IsNode g many p new → AreNodes g many (nodes ++ new ∷ [])
+nodes-push g many p nodes new size each here = at-push (IsNode g many) nodes new each (subst (λ (q : ℕ). IsNode g many q new) (sym size) here)
 
 replicate-push : {X : Type 0} (n : ℕ) (x : X) → replicate (suc n) x ≡ replicate n x ++ x ∷ []
 replicate-push zero x = refl
 replicate-push (suc n) x = ap (λ (xs : List _). x ∷ xs) (replicate-push n x)
 
 -- what they have
-pub fresh-push : {N X : Type 0} (of : N → X) (p : ℕ) (fresh : X) (nodes : List N) (new : N) → map of nodes ≡ replicate p fresh → of new ≡ fresh → map of (nodes ++ new ∷ []) ≡ replicate (p + 1) fresh
-fresh-push {N} {X} of p fresh nodes new all is =
+pub fresh-push : {X : Type 0} (of : NodeView → X) (p : ℕ) (fresh : X) (nodes : List NodeView) (new : NodeView) → map of nodes ≡ replicate p fresh → of new ≡ fresh → map of (nodes ++ new ∷ []) ≡ replicate (p + 1) fresh
+fresh-push {X} of p fresh nodes new all is =
     map-append of nodes (new ∷ []) ∙ ap (λ (rs : List X). rs ++ of new ∷ []) all ∙ ap (λ (r : X). replicate p fresh ++ r ∷ []) is ∙ sym (ap (λ (n : ℕ). replicate n fresh) (let next : p + 1 ≡ suc p = omega arith in next) ∙ replicate-push p fresh)
 
--- ---- the run after a point
-
--- other nodes with the same replicas
-pub settled-ready : {N R A E : Type 0} (decls : N → List Decl) (number among : N → ℕ) (peer : N → Peer) (awaited : R → Awaited) (number_of : R → ℕ) (shown : N → List Content) (reads : N → Reads) (many c : ℕ) (d : Driver N R) (nodes : Vec N Global) (result : Result A E) → IsReady decls number among peer awaited number_of shown reads many c d → length nodes.items ≡ length d.nodes.items → AreNodes decls number among (arc_value d.graph) many nodes.items
-    → map peer nodes.items ≡ map peer d.nodes.items → AreWaiting awaited number_of shown reads c nodes.items d.reads.items → OnOk result (IsReady decls number among peer awaited number_of shown reads many c (record { graph = d.graph; nodes = nodes; network = d.network; marks = d.marks; reads = d.reads; text = d.text }))
-settled-ready decls number among peer awaited number_of shown reads many c d nodes (Err e) ready size each same waiting = tt
-settled-ready decls number among peer awaited number_of shown reads many c d nodes (Ok done) ready size each same waiting = record {
-  some = ready.some;
-  few = ready.few;
-  size = size ∙ ready.size;
-  nodes = each;
-  limit = ready.limit;
-  sound = subst (λ (rs : List Peer). IsSound many c (stage_of d) (with_peers (run_of peer awaited d) rs)) (sym same) ready.sound;
-  waiting = waiting;
+pub fresh-next : (g : List Decl) (many p : ℕ) (nodes : List NodeView) (new : NodeView) → AreFresh g many p nodes → IsFresh g many p new → AreFresh g many (p + 1) (nodes ++ new ∷ [])
+fresh-next g many p nodes new all is = record {
+  size = length-push nodes new p all.size;
+  nodes_are = nodes-push g many p nodes new all.size all.nodes_are is.node;
+  peers = fresh-push (λ (n : NodeView). n.peer) p (fresh_peer g many) nodes new all.peers is.peer;
+  calls = fresh-push (λ (n : NodeView). n.calls) p [] nodes new all.calls is.calls;
+  reads = fresh-push (λ (n : NodeView). n.reads) p no_reads nodes new all.reads is.reads;
 }
 
--- ---- the run after a declaration
+-- ---- all nodes of a run, one after the other
 
-done_with : Run → Result Run Stop
-done_with run = Ok run
-
--- the nodes went on with the larger graph
-pub extended-ready : {N R : Type 0} (decls : N → List Decl) (number among : N → ℕ) (peer : N → Peer) (awaited : R → Awaited) (number_of : R → ℕ) (shown : N → List Content) (reads : N → Reads) (many c : ℕ) (d : Driver N R) (decl : Decl) (graph : Arc Graph Global) (nodes : Vec N Global) → IsReady decls number among peer awaited number_of shown reads many c d → arc_value graph ≡ arc_value d.graph ++ decl ∷ [] → length d.nodes.items ≡ many
-    → length nodes.items ≡ length d.nodes.items → AreNodes decls number among (arc_value graph) many nodes.items → map peer nodes.items ≡ map (extended many decl) (map peer d.nodes.items)
-    → AreWaiting awaited number_of shown reads c nodes.items d.reads.items → IsReady decls number among peer awaited number_of shown reads many c (record { graph = graph; nodes = nodes; network = d.network; marks = d.marks; reads = d.reads; text = d.text })
-extended-ready decls number among peer awaited number_of shown reads many c d decl graph nodes ready is known size each same waiting = record {
-  some = ready.some;
-  few = ready.few;
-  size = size ∙ known;
-  nodes = each;
-  limit = ready.limit;
-  sound =
-      let run = run_of peer awaited d in
-      let count : length (map peer d.nodes.items) ≡ many = length-map d.nodes.items peer ∙ known in
-      let next : Run = with_decl run decl in
-      let sound = sound-extend many c (stage_of d) decl run next ready.sound refl in
-      subst (λ (g : List Decl). IsSound many c (record { graph = g; marked = (stage_of d).marked; sent = (stage_of d).sent }) (record { graph = g; peers = map peer nodes.items; sent = run.sent; marks = run.marks; reads = run.reads; text = run.text })) (sym is)
-      (subst (λ (rs : List Peer). IsSound many c (record { graph = run.graph ++ decl ∷ []; marked = (stage_of d).marked; sent = (stage_of d).sent }) (record { graph = run.graph ++ decl ∷ []; peers = rs; sent = run.sent; marks = run.marks; reads = run.reads; text = run.text }))
-      (ap (λ (k : ℕ). map (extended k decl) (map peer d.nodes.items)) count ∙ sym same) sound);
-  waiting = waiting;
+-- a node that opened no read leaves the reads of all
+keep-reads : (old now : List NodeView) (p : ℕ) (n new : NodeView) → KeepReads old now → slice_get now p ≡ Some n → Grew n new → KeepReads old (slice_set now p new)
+keep-reads old now p n new kept at grew = record {
+  counts = same-set (λ (n : NodeView). n.reads.opened) now p n new at (ap (λ (s : Reads). s.opened) grew.released) ∙ kept.counts;
+  waiting = λ c opened all. all-called c p now opened n new at grew (kept.waiting c opened all);
 }
 
--- ---- the reads of a run
+-- command number c settled the nodes below p
+pub record IsSettling (c p : ℕ) (g : List Decl) (old now : List NodeView) : Type 0 where
+  pub size : length now ≡ length old
+  pub nodes_are : AreNodes g (length old) now
+  pub settled : AreSettledBelow p now
+  pub peers : peers_of now ≡ peers_of old
+  pub calls : calls_of now ≡ calls_of old
+  pub reads : KeepReads old now
+  pub rest : (run : Run) → run.graph ≡ g → point_from c p (drop p (peers_of now)) run ≡ point_from c 0 (peers_of old) run
 
--- a call that leaves a node's replica as it was leaves the run as it was
-pub called-same : {N R : Type 0} (peer : N → Peer) (awaited : R → Awaited) (d : Driver N R) (p : ℕ) (n new : N) → n ≡ get_or d.nodes.items p n → peer new ≡ peer n → with_peers (run_of peer awaited d) (map peer (slice_set d.nodes.items p new)) ≡ run_of peer awaited d
-called-same peer awaited d p n new found same = ap (with_peers (run_of peer awaited d)) (peers-stay peer d.nodes.items p n new found same)
+pub settling-begins : (c : ℕ) (g : List Decl) (nodes : List NodeView) → AreNodes g (length nodes) nodes → IsSettling c 0 g nodes nodes
+settling-begins c g nodes each = record {
+  size = refl;
+  nodes_are = each;
+  settled = λ q n at low. absurd (omega (arith, low));
+  peers = refl;
+  calls = refl;
+  reads = record { counts = refl; waiting = λ c opened all. all };
+  rest = λ run graph. refl;
+}
 
-pub called-sound : {N R : Type 0} (peer : N → Peer) (awaited : R → Awaited) (many c : ℕ) (d : Driver N R) (p : ℕ) (n new : N) → n ≡ get_or d.nodes.items p n → peer new ≡ peer n → IsSound many c (stage_of d) (run_of peer awaited d)
-    → IsSound many c (stage_of d) (with_peers (run_of peer awaited d) (map peer (slice_set d.nodes.items p new)))
-called-sound peer awaited many c d p n new found same sound = subst (λ (run : Run). IsSound many c (stage_of d) run) (sym (called-same peer awaited d p n new found same)) sound
+-- a node of a run may be settled in its turn
+pub held-in-turn : (lib : Library) (c p : ℕ) (g : List Decl) (old now : List NodeView) (n : NodeView) → MaySettle lib g old → IsSettling c p g old now → slice_get now p ≡ Some n → HoldsLittle n
+held-in-turn lib c p g old now n may so_far at =
+    held-here g (length old) now p n (so_far.nodes_are p n at) at
+    (subst (λ (rs : List Peer). IsHeld (length old) g (peer_at rs p)) (sym so_far.peers) (may.held p (omega (arith, slice_get_within now p n at, so_far.size))))
 
--- what a settled node shows of a variable, the run shows
-pub shown-here : {N : Type 0} (decls : N → List Decl) (peer : N → Peer) (shown : N → List Content) (g : List Decl) (nodes : List N) (p x : ℕ) (n : N) → AreSettled decls peer shown nodes → p < length nodes → n ≡ get_or nodes p n → decls n ≡ g
-    → content_at (shown n) x ≡ content_at (shown_at g (peer_at (map peer nodes) p)) x
-shown-here decls peer shown g nodes p x n settled within found graph =
-    ap (λ (cs : List Content). content_at cs x)
-    (settled p n (slice_get_read nodes (length nodes) p n refl within found) ∙ ap (λ (h : List Decl). shown_at h (peer n)) graph ∙ ap (shown_at g) (sym (peer-here peer nodes p n within found)))
+pub fits-in-turn : (lib : Library) (c p : ℕ) (g : List Decl) (old now : List NodeView) (n : NodeView) → MaySettle lib g old → IsSettling c p g old now → slice_get now p ≡ Some n → FitsAll lib n.decls
+fits-in-turn lib c p g old now n may so_far at = subst (λ (h : List Decl). FitsAll lib h) (sym (so_far.nodes_are p n at).graph) may.fits
 
--- whether the node there is at a threshold
-pub reached-there : {N : Type 0} (shown : N → List Content) (nodes : List N) (p x : ℕ) (n m : N) (t : Threshold) → n ≡ get_or nodes p n → slice_get nodes p ≡ Some m → meets t (content_at (shown m) x) ≡ meets t (content_at (shown n) x)
-reached-there shown nodes p x n m t found at = ap (λ k. meets t (content_at (shown k) x)) (sym (found ∙ get_or_from_slice_get nodes p m n at))
+pub settling-next : (c p : ℕ) (g : List Decl) (old now : List NodeView) (n new : NodeView) → IsSettling c p g old now → slice_get now p ≡ Some n → OnlyGrew n new → IsSettled new → first_large 0 (shown_at n.decls n.peer) ≡ None → IsSettling c (p + 1) g old (slice_set now p new)
+settling-next c p g old now n new so_far at grew settled few =
+    let here = so_far.nodes_are p n at in
+    record {
+      size = length-set now p new ∙ so_far.size;
+      nodes_are = nodes-set g (length old) now p new so_far.nodes_are (node-stays g (length old) p n new here grew.still);
+      settled = settled-next now p new so_far.settled settled;
+      peers = same-set (λ (n : NodeView). n.peer) now p n new at grew.peer ∙ so_far.peers;
+      calls = same-set (λ (n : NodeView). n.calls) now p n new at grew.calls ∙ so_far.calls;
+      reads = keep-reads old now p n new so_far.reads at grew.grew;
+      rest = λ run graph. sym (point-passes run c p now n new at (here.graph ∙ sym graph) grew.peer few) ∙ so_far.rest run graph;
+    }
 
--- a read that was opened of a variable
-pub opened-here : {R : Type 0} (awaited : R → Awaited) (p x : ℕ) (r : R) (t : Threshold) → awaited r ≡ awaits x t → opened p (awaited r).var (awaited r).threshold ≡ opened p x t
-opened-here awaited p x r t e = ap (λ (a : Awaited). opened p a.var a.threshold) e
+pub settling-stops : (c p : ℕ) (g : List Decl) (old now : List NodeView) (n : NodeView) (x : ℕ) → IsSettling c p g old now → slice_get now p ≡ Some n → first_large 0 (shown_at n.decls n.peer) ≡ Some x → (run : Run) → run.graph ≡ g → point_from c 0 (peers_of old) run ≡ Err (TooLarge c p x)
+settling-stops c p g old now n x so_far at large run graph = sym (so_far.rest run graph) ∙ point-stops run c p now n x at ((so_far.nodes_are p n at).graph ∙ sym graph) large
 
-abbrev reached_by : ℕ → Run → Bool → Result Run Stop
-reached_by c run met = if met then Ok run else Err (NotReached c)
+pub settling-ends : (c p : ℕ) (g : List Decl) (old now : List NodeView) → length now ≤ p → IsSettling c p g old now → AllSettled g old now × ((run : Run) → run.graph ≡ g → point_from c 0 (peers_of old) run ≡ Ok run)
+settling-ends c p g old now past so_far = (
+  record {
+    size = so_far.size;
+    nodes_are = so_far.nodes_are;
+    settled = all-settled now p past so_far.settled;
+    peers = so_far.peers;
+    calls = so_far.calls;
+    reads = so_far.reads;
+  },
+  λ run graph. sym (so_far.rest run graph) ∙ point-end run c p now past,
+)
 
--- a variable that is at its threshold lets the run go on
-pub reach-done : (c p x : ℕ) (run next : Run) (until : Until) (t : Threshold) (s : Content) (met : Bool) → met ≡ meets t s → met ≡ true → t ≡ threshold_of run.marks until → s ≡ shown_content_at run p x → next ≡ run
-    → act c run (Reach p x until) ≡ Ok next
-reach-done c p x run next until t s met is true_here same shown e =
-    ap (reached_by c run) (sym (sym true_here ∙ is ∙ ap (λ (u : Threshold). meets u s) same ∙ ap (meets (threshold_of run.marks until)) shown)) ∙ ap (λ (r : Run). Ok r) (sym e)
+-- the nodes below p went on with one declaration more
+pub record IsExtending (p : ℕ) (before g : List Decl) (d : Decl) (old now : List NodeView) : Type 0 where
+  pub size : length now ≡ length old
+  pub grown : (q : ℕ) (n : NodeView) → slice_get now q ≡ Some n → q < p → IsNode g (length old) q n
+  pub behind : (q : ℕ) (n : NodeView) → slice_get now q ≡ Some n → p ≤ q → IsNode before (length old) q n
+  pub peers : peers_of now ≡ map (extended (length old) d) (take p (peers_of old)) ++ drop p (peers_of old)
+  pub calls : calls_of now ≡ map (λ h. h ++ fed (model.Extend d) ∷ []) (take p (calls_of old)) ++ drop p (calls_of old)
+  pub reads : KeepReads old now
 
--- one that isn't stops it
-pub reach-stops : (c p x : ℕ) (run : Run) (until : Until) (t : Threshold) (s : Content) (met : Bool) → met ≡ meets t s → met ≡ false → t ≡ threshold_of run.marks until → s ≡ shown_content_at run p x
-    → act c run (Reach p x until) ≡ Err (NotReached c)
-reach-stops c p x run until t s met is false_here same shown =
-    ap (reached_by c run) (sym (sym false_here ∙ is ∙ ap (λ (u : Threshold). meets u s) same ∙ ap (meets (threshold_of run.marks until)) shown))
+pub extending-begins : (before g : List Decl) (d : Decl) (nodes : List NodeView) → AreNodes before (length nodes) nodes → IsExtending 0 before g d nodes nodes
+extending-begins before g d nodes each = record {
+  size = refl;
+  grown = λ q n at low. absurd (omega (arith, low));
+  behind = λ q n at low. each q n at;
+  peers = refl;
+  calls = refl;
+  reads = record { counts = refl; waiting = λ c opened all. all };
+}
 
-pub opened-ready : {N R : Type 0} (decls : N → List Decl) (number among : N → ℕ) (peer : N → Peer) (awaited : R → Awaited) (number_of : R → ℕ) (shown : N → List Content) (reads : N → Reads) (c : ℕ) (d : Driver N R) → IsReady decls number among peer awaited number_of shown reads (length d.nodes.items) c d → AreOpened decls number among peer awaited d.nodes.items d.reads.items
-opened-ready {N} {R} decls number among peer awaited number_of shown reads c d ready = (run_of peer awaited d, refl, ready.nodes, λ k read at. subst (IsOpened (length d.nodes.items) (arc_value d.graph)) (read-here k read at) (ready.sound.reads k (omega (arith, slice_get_within d.reads.items k read at, length-map d.reads.items (opened_of awaited))))) where
-  read-here : (k : ℕ) (read : OpenRead R) → slice_get d.reads.items k ≡ Some read → read_at (map (opened_of awaited) d.reads.items) k ≡ opened_of awaited read
-  read-here k read at = get_or_from_slice_get (map (opened_of awaited) d.reads.items) k (opened_of awaited read) no_read (mapped d.reads.items k read at) where
-    mapped : (reads : List (OpenRead R)) (k : ℕ) (read : OpenRead R) → slice_get reads k ≡ Some read → slice_get (map (opened_of awaited) reads) k ≡ Some (opened_of awaited read)
-    mapped [] k read at = absurd cc
-    mapped (r ∷ reads) zero read at = ap (λ (o : OpenRead R). Some (opened_of awaited o)) (let same : r ≡ read = cc in same)
-    mapped (r ∷ reads) (suc k) read at = mapped reads k read at
+pub extending-next : (p : ℕ) (before g : List Decl) (d : Decl) (old now : List NodeView) (n new : NodeView) → g ≡ before ++ d ∷ [] → IsExtending p before g d old now → slice_get now p ≡ Some n → Extends d n new → ShowsNoMore new → IsExtending (p + 1) before g d old (slice_set now p new)
+extending-next p before g d old now n new is so_far at done shows =
+    let here = so_far.behind p n at (omega arith) in
+    let low : p < length old = omega (arith, slice_get_within now p n at, so_far.size) in
+    record {
+      size = length-set now p new ∙ so_far.size;
+      grown = grown-next g (length old) p now new so_far.grown (record { graph = done.node.graph ∙ ap (λ (h : List Decl). h ++ d ∷ []) here.graph ∙ sym is; replica = done.node.replica ∙ here.replica; nodes = done.node.nodes ∙ here.nodes });
+      behind = nodes-rest before (length old) p now new so_far.behind;
+      peers = extend-next (λ (n : NodeView). n.peer) (extended (length old) d) (peers_of old) now p n new (omega (arith, low, length-map old (λ (n : NodeView). n.peer))) at so_far.peers
+          (done.peer ∙ ap (λ (k : ℕ). extended k d n.peer) here.nodes);
+      calls = extend-next (λ (n : NodeView). n.calls) (λ h. h ++ fed (model.Extend d) ∷ []) (calls_of old) now p n new (omega (arith, low, length-map old (λ (n : NodeView). n.calls))) at so_far.calls done.calls;
+      reads = keep-reads old now p n new so_far.reads at (record { more = done.more; released = shows.unmet ∙ ap (releases new.shown) done.reads });
+    }
+
+pub extending-ends : (p : ℕ) (before g : List Decl) (d : Decl) (old now : List NodeView) → length now ≤ p → IsExtending p before g d old now → AllExtend g d old now
+extending-ends p before g d old now past so_far = record {
+  size = so_far.size;
+  nodes_are = λ q n at. so_far.grown q n at (omega (arith, past, slice_get_within now q n at));
+  peers = so_far.peers ∙ all-of (extended (length old) d) (peers_of old) p (omega (arith, past, so_far.size, length-map old (λ (n : NodeView). n.peer)));
+  calls = so_far.calls ∙ all-of (λ h. h ++ fed (model.Extend d) ∷ []) (calls_of old) p (omega (arith, past, so_far.size, length-map old (λ (n : NodeView). n.calls)));
+  reads = so_far.reads;
+} where
+  all-of : {X : Type 0} (f : X → X) (xs : List X) (p : ℕ) → length xs ≤ p → map f (take p xs) ++ drop p xs ≡ map f xs
+  all-of f [] zero past = refl
+  all-of f [] (suc p) past = refl
+  all-of f (x ∷ xs) zero past = absurd (omega (arith, past))
+  all-of {X} f (x ∷ xs) (suc p) past = ap (λ (ys : List X). f x ∷ ys) (all-of f xs p (omega (arith, past)))

@@ -1,79 +1,80 @@
--- The driver as a run of the world, and what its acts leave.
-use Rattle.std.specs.Prelude.{◌≡◌, ℕ, ◌≤◌, Bool, IsTrue, IsFalse, List, map, length, slice_get, Some, string_bytes, Result, Ok, Err}
+-- What contracts see of a driver: a run of the world, and the nodes that do it.
+use Rattle.std.specs.Prelude.{◌≡◌, ℕ, ◌≤◌, [], List, map, length, replicate, string_bytes}
 use Rattle.std.specs.Arc.{arc_value}
-use Rattle.model_states.specs.Content.{Content}
 use Rattle.model_graph.specs.Graph.{Decl}
-use Rattle.model_world.specs.Lawful.{Stage}
-use Rattle.model_world.specs.World.{Peer, Marked, Opened, Run, network_limit}
-use Rattle.model_world.specs.declared.stop.Stop.{Stop}
-use Rattle.model_world.specs.declared.stop.Stop.TheVariants as stop
-use Rattle.model_runs.specs.Sound.{IsSound, IsOpened}
+use Rattle.model_messages.specs.Message.{Message}
+use Rattle.model_world.specs.Lawful.{Stage, opening_stage}
+use Rattle.model_world.specs.World.{Marked, Opened, Run, start, network_limit}
+use Rattle.model_core.specs.Core.{Read}
+use Rattle.model_runs.specs.Sound.{IsSound}
 use Rattle.lasp_state.specs.State.{content_of, shape_of}
-use Rattle.lasp_drive.specs.Node.{Awaited, AreNodes}
-use Rattle.lasp_drive.specs.Reads.{Reads}
+use Rattle.lasp_drive.specs.Node.{NodeView, AreNodes}
+use Rattle.lasp_drive.specs.Reads.{no_reads}
 use Rattle.lasp_drive.specs.Waiting.{AreWaiting}
-use Rattle.lasp_drive.specs.declared.halt.Halt.{Halt}
-use Rattle.lasp_drive.specs.declared.halt.Halt.TheVariants as halt
 use Rattle.lasp_drive.specs.declared.driver.Mark.{Mark}
 use Rattle.lasp_drive.specs.declared.driver.OpenRead.{OpenRead}
 use Rattle.lasp_drive.specs.declared.driver.Driver.{Driver}
+
+-- a driver: its graph so far, its nodes, what was sent and how many bytes that may have, the marks, the reads, and the printed lines
+pub record DriverView : Type 0 where
+  pub graph : List Decl
+  pub nodes : List NodeView
+  pub sent : List Message
+  pub limit : ℕ
+  pub marks : List Mark
+  pub reads : List (OpenRead Read)
+  pub text : List ℕ
+
+-- a read of a node, as its node has it
+abbrev pub read_seen : {R : Type 0} → (R → Read) → OpenRead R → OpenRead Read
+read_seen read r = record { node = r.node; read = read r.read }
+
+-- a driver whose nodes and reads are seen so
+abbrev pub seen : {N R : Type 0} → (N → NodeView) → (R → Read) → Driver N R → DriverView
+seen view read d = record {
+  graph = arc_value d.graph;
+  nodes = map view d.nodes.items;
+  sent = d.network.sent;
+  limit = d.network.limit;
+  marks = d.marks.items;
+  reads = map (read_seen read) d.reads.items;
+  text = string_bytes d.text;
+}
 
 -- what a mark keeps
 abbrev pub marked_of : Mark → Marked
 marked_of m = record { shape = shape_of (arc_value m.state); content = content_of (arc_value m.state) }
 
 -- a read that was opened
-abbrev pub opened_of : {R : Type 0} → (R → Awaited) → OpenRead R → Opened
-opened_of awaited r = record { node = r.node; var = (awaited r.read).var; threshold = (awaited r.read).threshold }
+abbrev pub opened_of : OpenRead Read → Opened
+opened_of r = record { node = r.node; var = r.read.var; threshold = r.read.threshold }
 
 -- the run that a driver has come to
-abbrev pub run_of : {N R : Type 0} → (N → Peer) → (R → Awaited) → Driver N R → Run
-run_of peer awaited d = record { graph = arc_value d.graph; peers = map peer d.nodes.items; sent = d.network.sent; marks = map marked_of d.marks.items; reads = map (opened_of awaited) d.reads.items; text = string_bytes d.text }
+abbrev pub run_of : DriverView → Run
+run_of d = record { graph = d.graph; peers = map (λ (n : NodeView). n.peer) d.nodes; sent = d.sent; marks = map marked_of d.marks; reads = map opened_of d.reads; text = d.text }
 
 -- what stands there by the commands alone
-abbrev pub stage_of : {N R : Type 0} → Driver N R → Stage
-stage_of d = record { graph = arc_value d.graph; marked = map (λ (m : Mark). m.var) d.marks.items; sent = length d.network.sent }
-
--- nodes of one run, and reads of it that their variables' thresholds suit
-abbrev pub AreOpened : {N R : Type 0} → (N → List Decl) → (N → ℕ) → (N → ℕ) → (N → Peer) → (R → Awaited) → List N → List (OpenRead R) → Type 0
-AreOpened {N} {R} decls number among peer awaited nodes reads =
-    (run : Run) × (map peer nodes ≡ run.peers) × AreNodes decls number among run.graph (length nodes) nodes
-    × ((k : ℕ) (read : OpenRead R) → slice_get reads k ≡ Some read → IsOpened (length nodes) run.graph (opened_of awaited read))
+abbrev pub stage_of : DriverView → Stage
+stage_of d = record { graph = d.graph; marked = map (λ (m : Mark). m.var) d.marks; sent = length d.sent }
 
 -- before command number c: the nodes are those of one run, which is sound; and of its reads those wait that aren't met
-pub record IsReady {N R : Type 0} (decls : N → List Decl) (number among : N → ℕ) (peer : N → Peer) (awaited : R → Awaited) (number_of : R → ℕ) (shown : N → List Content) (reads : N → Reads) (many c : ℕ) (d : Driver N R) : Type 0 where
-  pub some : 1 ≤ many
-  pub few : many ≤ 8
-  pub size : length d.nodes.items ≡ many
-  pub nodes : AreNodes decls number among (arc_value d.graph) many d.nodes.items
-  pub limit : d.network.limit ≡ network_limit
-  pub sound : IsSound many c (stage_of d) (run_of peer awaited d)
-  pub waiting : AreWaiting awaited number_of shown reads c d.nodes.items d.reads.items
+pub record Stands (c : ℕ) (d : DriverView) : Type 0 where
+  pub some : 1 ≤ length d.nodes
+  pub few : length d.nodes ≤ 8
+  pub nodes : AreNodes d.graph (length d.nodes) d.nodes
+  pub limit : d.limit ≡ network_limit
+  pub sound : IsSound (length d.nodes) c (stage_of d) (run_of d)
+  pub waiting : AreWaiting c d.nodes d.reads
 
--- a run that didn't go on stopped where the world stops, or memory was wanting
-abbrev pub Halts : {B : Type 0} → Result B Stop → Halt → Type 0
-Halts expected (halt.TooLarge c p x) = expected ≡ Err (stop.TooLarge c p x)
-Halts expected (halt.NetworkFull c) = expected ≡ Err (stop.NetworkFull c)
-Halts expected (halt.NotReached c) = expected ≡ Err (stop.NotReached c)
-Halts expected halt.Memory = Unit {0}
+-- the driver stands there
+abbrev pub IsReady : {N R : Type 0} → (N → NodeView) → (R → Read) → ℕ → Driver N R → Type 0
+IsReady view read c d = Stands c (seen view read d)
 
--- what is done is what the world does, or it stops where the world stops, or memory was wanting
-abbrev pub Does : {A B : Type 0} → Result B Stop → Result A Halt → B → Type 0
-Does expected (Ok done) new = expected ≡ Ok new
-Does expected (Err why) new = Halts expected why
-
--- the run went on because its threshold was met, or stopped at command number c because it wasn't, or memory was wanting
-abbrev pub Reaches : {A : Type 0} → ℕ → Bool → Result A Halt → Type 0
-Reaches c met (Ok done) = IsTrue met
-Reaches c met (Err (halt.NotReached k)) = (k ≡ c) × IsFalse met
-Reaches c met (Err halt.Memory) = Unit {0}
-Reaches c met (Err (halt.TooLarge k p x)) = ⊥
-Reaches c met (Err (halt.NetworkFull k)) = ⊥
-
--- whether it was done or refused, unless memory was wanting
-abbrev pub UnlessMemory : {A : Type 0} → Result A Halt → Type 0 → Type 0
-UnlessMemory (Ok done) P = P
-UnlessMemory (Err halt.Memory) P = Unit {0}
-UnlessMemory (Err (halt.TooLarge k p x)) P = P
-UnlessMemory (Err (halt.NetworkFull k)) P = P
-UnlessMemory (Err (halt.NotReached k)) P = P
+-- the run is before its first command, with so many nodes to which nothing has happened
+pub record Starts (g : List Decl) (many : ℕ) (d : DriverView) : Type 0 where
+  pub size : length d.nodes ≡ many
+  pub ready : Stands 1 d
+  pub run : run_of d ≡ start g many
+  pub stage : stage_of d ≡ opening_stage g
+  pub calls : map (λ (n : NodeView). n.calls) d.nodes ≡ replicate many []
+  pub reads : map (λ (n : NodeView). n.reads) d.nodes ≡ replicate many no_reads

@@ -1,5 +1,12 @@
+pub mod Reads
 pub mod Node
+pub mod NodePrelude
 pub mod Driver
 pub mod Calls
-pub mod Reads
 pub mod Waiting
+pub mod Acts
+pub mod Nodes
+pub mod Play
+pub mod Run
+pub mod Prelude
+pub mod Report

@@ -1,22 +1,112 @@
--- What the calls of a node mean for its replica, what its reads wait for, and which nodes are those of one run.
-use Rattle.std.specs.Prelude.{◌≡◌, ℕ, ◌<◌, ◌≤◌, List, slice_get, Option, Some, None, Result, Ok, Err}
+-- What contracts see of a node, what its calls mean for its replica, and which nodes are those of one run.
+use Rattle.std.specs.Prelude.{◌≡◌, ℕ, ◌<◌, ◌≤◌, ◌++◌, ◌∷◌, [], List, slice_get, Option, Some, None, Result, Ok, Err, OnOk, OnErr, IfSome, IsTrue, length, map, replicate, is_some}
+use Rattle.std.specs.Arc.{arc_value}
+use Rattle.std.specs.declared.sync.Arc.{Arc}
 use Rattle.model_states.specs.Content.{Content, size_of, row_limit}
-use Rattle.model_states.specs.Threshold.{Threshold}
-use Rattle.model_graph.specs.Graph.{Decl}
+use Rattle.model_states.specs.Counts.{count_at}
+use Rattle.model_states.specs.Threshold.{Threshold, suits, meets}
+use Rattle.model_graph.specs.Graph.{Decl, is_source, kind_at}
 use Rattle.model_graph.specs.Evaluation.{content_at, first_large}
-use Rattle.model_world.specs.World.{Peer, shown_at}
+use Rattle.model_graph.specs.Lawful.{shape_of}
+use Rattle.model_graph.specs.Order.{ContentsAtMost}
+use Rattle.model_world.specs.Line.{shown_content}
+use Rattle.model_world.specs.World.{Peer, fresh_peer, extended, shown_at}
+use Rattle.model_journal.specs.Entry as model
 use Rattle.model_journal.specs.Entry.{Entry}
-use Rattle.lasp_drive.specs.Reads.{Reads}
+use Rattle.model_core.specs.Core.{Read}
+use Rattle.model_runs.specs.Calls.{fed}
+use Rattle.model_runs.specs.Held.{IsHeld, IsUpdate}
+use Rattle.lasp_state.specs.State as state
+use Rattle.lasp_state.specs.State.{op_of, IsOpOf, shown_state}
+use Rattle.lasp_state.specs.declared.op.Op as rust
+use Rattle.lasp_state.specs.declared.state.State.{State}
+use Rattle.lasp_drive.specs.Reads.{Reads, no_reads, next_read, opens, closes, releases, Grows}
 use Rattle.lasp_drive.specs.declared.node.NodeStop.{NodeStop}
 use Rattle.lasp_drive.specs.declared.node.NodeStop.TheVariants as node
 
--- what a read waits for: a variable, and how far it has to have come
-pub record Awaited : Type 0 where
-  pub var : ℕ
-  pub threshold : Threshold
+-- a node: its graph, its number, how many nodes there are, its sources and counts, its calls (the entries of its journal that are no results), what its variables hold, and its reads
+pub record NodeView : Type 0 where
+  pub decls : List Decl
+  pub number : ℕ
+  pub among : ℕ
+  pub peer : Peer
+  pub calls : List Entry
+  pub shown : List Content
+  pub reads : Reads
 
-abbrev pub awaits : ℕ → Threshold → Awaited
-awaits x threshold = record { var = x; threshold = threshold }
+-- the node with other reads
+abbrev pub with_reads : NodeView → Reads → NodeView
+with_reads n reads = record { decls = n.decls; number = n.number; among = n.among; peer = n.peer; calls = n.calls; shown = n.shown; reads = reads }
+
+-- its reads after one more was opened, of this variable
+abbrev pub opens_next : NodeView → ℕ → Threshold → Reads
+opens_next n x threshold = opens (next_read n.reads x threshold) (meets threshold (content_at n.shown x)) n.reads
+
+-- ---- what a node is
+
+-- node p of a run of so many nodes over a graph
+pub record IsNode (g : List Decl) (many p : ℕ) (n : NodeView) : Type 0 where
+  pub graph : n.decls ≡ g
+  pub replica : n.number ≡ p
+  pub nodes : n.among ≡ many
+
+-- a node is the node that it was, over the same graph
+abbrev pub IsStill : NodeView → NodeView → Type 0
+IsStill old new = IsNode old.decls old.among old.number new
+
+-- each is the node with its number
+abbrev pub AreNodes : List Decl → ℕ → List NodeView → Type 0
+AreNodes g many nodes = (p : ℕ) (n : NodeView) → slice_get nodes p ≡ Some n → IsNode g many p n
+
+-- nothing has happened to the node
+pub record IsFresh (g : List Decl) (many p : ℕ) (n : NodeView) : Type 0 where
+  pub node : IsNode g many p n
+  pub peer : n.peer ≡ fresh_peer g many
+  pub calls : n.calls ≡ []
+  pub reads : n.reads ≡ no_reads
+
+-- the first so many nodes of a run, to which nothing has happened
+pub record AreFresh (g : List Decl) (many p : ℕ) (nodes : List NodeView) : Type 0 where
+  pub size : length nodes ≡ p
+  pub nodes_are : AreNodes g many nodes
+  pub peers : map (λ (n : NodeView). n.peer) nodes ≡ replicate p (fresh_peer g many)
+  pub calls : map (λ (n : NodeView). n.calls) nodes ≡ replicate p []
+  pub reads : map (λ (n : NodeView). n.reads) nodes ≡ replicate p no_reads
+
+-- what always holds of a node: it shows of a source what its replica holds, of no variable more than the graph gives on the sources, and no read waits whose variable has come to its threshold
+pub record ShowsNoMore (n : NodeView) : Type 0 where
+  pub sources : (x : ℕ) → x < length n.decls → IsTrue (is_source (kind_at n.decls x)) → content_at n.shown x ≡ content_at n.peer.contents x
+  pub bounded : ContentsAtMost n.shown (shown_at n.decls n.peer)
+  pub unmet : n.reads ≡ releases n.shown n.reads
+
+-- its sources and counts are within the ranges of the message format
+abbrev pub HoldsLittle : NodeView → Type 0
+HoldsLittle n = IsHeld n.among n.decls n.peer
+
+-- it shows what its graph gives on its sources
+abbrev pub IsSettled : NodeView → Type 0
+IsSettled n = n.shown ≡ shown_at n.decls n.peer
+
+abbrev pub AreSettled : List NodeView → Type 0
+AreSettled nodes = (p : ℕ) (n : NodeView) → slice_get nodes p ≡ Some n → IsSettled n
+
+-- ---- what it may be asked for
+
+-- an update that it may do
+pub record MayUpdate (n : NodeView) (x : ℕ) (op : rust.Op) : Type 0 where
+  pub held : HoldsLittle n
+  pub member : n.number < n.among
+  pub var : x < length n.decls
+  pub may : IsUpdate n.among n.decls x (op_of op)
+  pub suits_it : IsOpOf op n.number (shape_of n.among (kind_at n.decls x))
+  pub room : count_at n.peer.counts n.number < 100000
+
+-- a read of a variable that its threshold suits
+pub record MayRead (n : NodeView) (x : ℕ) (threshold : Threshold) : Type 0 where
+  pub var : x < length n.decls
+  pub suits_it : IsTrue (suits threshold (shape_of n.among (kind_at n.decls x)))
+
+-- ---- what its calls do
 
 -- a node was updated: it is as it should be and within the limit; or the variable is too large; or memory was wanting
 abbrev pub Updates : {A : Type 0} → Peer → ℕ → Result A NodeStop → Peer → Type 0
@@ -36,28 +126,40 @@ Settles large (Ok done) = large ≡ None
 Settles large (Err (node.TooLarge x)) = large ≡ Some x
 Settles large (Err node.Memory) = Unit {0}
 
--- a call that was refused has left the node as it was
-pub record IsUnchanged {N : Type 0} (decls : N → List Decl) (peer : N → Peer) (calls : N → List Entry) (shown : N → List Content) (reads : N → Reads) (old new : N) : Type 0 where
-  pub graph : decls new ≡ decls old
-  pub peer_is : peer new ≡ peer old
-  pub calls_are : calls new ≡ calls old
-  pub shown_is : shown new ≡ shown old
-  pub reads_are : reads new ≡ reads old
+-- each variable holds at least what it held, and the reads that so came to be met wait no more
+pub record Grew (old new : NodeView) : Type 0 where
+  pub more : Grows old.shown new.shown
+  pub released : new.reads ≡ releases new.shown old.reads
 
--- node p of a run of so many nodes over a graph
-pub record IsNode {N : Type 0} (decls : N → List Decl) (number among : N → ℕ) (g : List Decl) (many p : ℕ) (n : N) : Type 0 where
-  pub graph : decls n ≡ g
-  pub replica : number n ≡ p
-  pub nodes : among n ≡ many
+-- a call that was done is the last of the node's calls, and what it shows grew; one that was refused has left the node as it was
+pub record TakesIn {A E : Type 0} (a : model.Act) (old : NodeView) (result : Result A E) (new : NodeView) : Type 0 where
+  pub still : IsStill old new
+  pub calls : OnOk result (new.calls ≡ old.calls ++ fed a ∷ [])
+  pub grew : OnOk result (Grew old new)
+  pub unchanged : OnErr result (new ≡ old)
 
--- each is the node with its number
-abbrev pub AreNodes : {N : Type 0} → (N → List Decl) → (N → ℕ) → (N → ℕ) → List Decl → ℕ → List N → Type 0
-AreNodes {N} decls number among g many nodes = (p : ℕ) (n : N) → slice_get nodes p ≡ Some n → IsNode decls number among g many p n
+-- the node went on with one declaration more, of which nothing has happened
+pub record Extends (d : Decl) (old new : NodeView) : Type 0 where
+  pub node : IsNode (old.decls ++ d ∷ []) old.among old.number new
+  pub peer : new.peer ≡ extended old.among d old.peer
+  pub calls : new.calls ≡ old.calls ++ fed (model.Extend d) ∷ []
+  pub reads : new.reads ≡ old.reads
+  pub more : Grows old.shown new.shown
 
--- every node shows what its graph gives on its sources
-abbrev pub AreSettled : {N : Type 0} → (N → List Decl) → (N → Peer) → (N → List Content) → List N → Type 0
-AreSettled {N} decls peer shown nodes = (p : ℕ) (n : N) → slice_get nodes p ≡ Some n → shown n ≡ shown_at (decls n) (peer n)
+-- only what is shown of derived variables changed, and with it which reads wait
+pub record OnlyGrew (old new : NodeView) : Type 0 where
+  pub still : IsStill old new
+  pub peer : new.peer ≡ old.peer
+  pub calls : new.calls ≡ old.calls
+  pub grew : Grew old new
 
--- the same of the nodes below a number
-abbrev pub AreSettledBelow : {N : Type 0} → (N → List Decl) → (N → Peer) → (N → List Content) → ℕ → List N → Type 0
-AreSettledBelow {N} decls peer shown many nodes = (p : ℕ) (n : N) → slice_get nodes p ≡ Some n → p < many → shown n ≡ shown_at (decls n) (peer n)
+-- a state is what the node shows of a variable
+pub record Shows (n : NodeView) (x : ℕ) (s : State) : Type 0 where
+  pub content : state.content_of s ≡ content_at n.shown x
+  pub shape : state.shape_of s ≡ shape_of n.among (kind_at n.decls x)
+  pub text : shown_state s ≡ shown_content (kind_at n.decls x) (content_at n.shown x)
+
+-- the state of a read's variable exactly where it is at the threshold
+pub record Polls {A : Type 0} (n : NodeView) (r : Read) (found : Option (Arc State A)) : Type 0 where
+  pub met : is_some found ≡ meets r.threshold (content_at n.shown r.var)
+  pub state : IfSome found (λ s. Shows n r.var (arc_value s))

@@ -1,5 +1,5 @@
 -- The reads of a node: which of them wait, and how many were opened.
-use Rattle.std.specs.Prelude.{◌≡◌, ℕ, ◌+◌, ◌-◌, ◌^◌, ◌==◌, min, Bool, not, if◌then◌else◌, IsTrue, List, [], ◌∷◌, ◌++◌, map, filter, slice_get, slice_set, slice_index_or, Some}
+use Rattle.std.specs.Prelude.{ℕ, ◌+◌, ◌-◌, ◌^◌, ◌==◌, min, Bool, not, if◌then◌else◌, IsTrue, List, [], ◌∷◌, ◌++◌, filter}
 use Rattle.model_states.specs.Content.{Content}
 use Rattle.model_states.specs.Threshold.{Threshold, meets}
 use Rattle.model_graph.specs.Evaluation.{content_at}
@@ -44,16 +44,3 @@ Grows old new = (x : ℕ) (threshold : Threshold) → IsTrue (meets threshold (c
 -- a read was opened and closed again
 abbrev pub looks : Reads → Reads
 looks s = record { waiting = filter (λ r. not (r.number == s.opened)) s.waiting; opened = opened_more s.opened }
-
--- the reads of node p
-abbrev pub reads_at : {N : Type 0} → (N → Reads) → List N → ℕ → Reads
-reads_at reads nodes p = slice_index_or (map reads nodes) p no_reads
-
--- a read of variable x was opened at node p, and the reads of all other nodes are as before
-abbrev pub OpensAt : {N : Type 0} → (N → List Content) → (N → Reads) → List N → ℕ → ℕ → Threshold → List N → Type 0
-OpensAt {N} shown reads old p x threshold new =
-    (n : N) → slice_get old p ≡ Some n → map reads new ≡ slice_set (map reads old) p (opens (next_read (reads n) x threshold) (meets threshold (content_at (shown n) x)) (reads n))
-
--- a read was opened and closed again at node p, and the reads of all other nodes are as before
-abbrev pub LooksAt : {N : Type 0} → (N → Reads) → List N → ℕ → List N → Type 0
-LooksAt reads old p new = map reads new ≡ slice_set (map reads old) p (looks (reads_at reads old p))

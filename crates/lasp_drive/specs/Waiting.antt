@@ -1,43 +1,46 @@
--- Which reads of a run wait at its nodes.
-use Rattle.std.specs.Prelude.{◌≡◌, ℕ, ◌<◌, ◌==◌, List, [], ◌∷◌, ◌++◌, map, filter, slice_get, Some}
+-- Which reads of a run wait at its nodes, and how many were opened there.
+use Rattle.std.specs.Prelude.{◌≡◌, ℕ, ◌+◌, ◌<◌, ◌==◌, List, length, map, filter, slice_get, slice_index_or, slice_set, Some}
 use Rattle.std.specs.List.{AllByRecursion}
-use Rattle.model_states.specs.Content.{Content}
 use Rattle.model_states.specs.Threshold.{Threshold}
 use Rattle.model_core.specs.Core.{Read}
-use Rattle.lasp_drive.specs.Node.{Awaited}
-use Rattle.lasp_drive.specs.Reads.{Reads, unmet, reads_at}
+use Rattle.lasp_drive.specs.Node.{NodeView, with_reads, opens_next}
+use Rattle.lasp_drive.specs.Reads.{Reads, no_reads, unmet, looks}
 use Rattle.lasp_drive.specs.declared.driver.OpenRead.{OpenRead}
-use Rattle.lasp_drive.specs.declared.driver.Driver.{Driver}
-
--- a read as its node has it
-abbrev pub read_of : {R : Type 0} → (R → Awaited) → (R → ℕ) → R → Read
-read_of awaited number_of r = record { number = number_of r; var = (awaited r).var; threshold = (awaited r).threshold }
 
 -- the reads that a run opened at node p
-abbrev pub opened_at : {R : Type 0} → (R → Awaited) → (R → ℕ) → ℕ → List (OpenRead R) → List Read
-opened_at {R} awaited number_of p opened = map (λ (r : OpenRead R). read_of awaited number_of r.read) (filter (λ (r : OpenRead R). r.node == p) opened)
+abbrev pub opened_at : ℕ → List (OpenRead Read) → List Read
+opened_at p opened = map (λ (r : OpenRead Read). r.read) (filter (λ (r : OpenRead Read). r.node == p) opened)
 
 -- at node p, before command number c: of the reads that the run opened there those wait whose variables haven't come to their thresholds. Each has its number from before the next one, and fewer were opened than c.
-pub record IsWaiting {N R : Type 0} (awaited : R → Awaited) (number_of : R → ℕ) (shown : N → List Content) (reads : N → Reads) (c p : ℕ) (opened : List (OpenRead R)) (n : N) : Type 0 where
-  pub waiting : (reads n).waiting ≡ unmet (shown n) (opened_at awaited number_of p opened)
-  pub before : AllByRecursion (λ r. r.number < (reads n).opened) (opened_at awaited number_of p opened)
-  pub counted : (reads n).opened < c
+pub record IsWaiting (c p : ℕ) (opened : List (OpenRead Read)) (n : NodeView) : Type 0 where
+  pub waiting : n.reads.waiting ≡ unmet n.shown (opened_at p opened)
+  pub before : AllByRecursion (λ r. r.number < n.reads.opened) (opened_at p opened)
+  pub counted : n.reads.opened < c
 
 -- the same at each node
-abbrev pub AreWaiting : {N R : Type 0} → (R → Awaited) → (R → ℕ) → (N → List Content) → (N → Reads) → ℕ → List N → List (OpenRead R) → Type 0
-AreWaiting {N} awaited number_of shown reads c nodes opened = (p : ℕ) (n : N) → slice_get nodes p ≡ Some n → IsWaiting awaited number_of shown reads c p opened n
+abbrev pub AreWaiting : ℕ → List NodeView → List (OpenRead Read) → Type 0
+AreWaiting c nodes opened = (p : ℕ) (n : NodeView) → slice_get nodes p ≡ Some n → IsWaiting c p opened n
+
+-- the reads of node p
+abbrev pub reads_at : List NodeView → ℕ → Reads
+reads_at nodes p = slice_index_or (map (λ (n : NodeView). n.reads) nodes) p no_reads
 
 -- how many reads each node opened
-abbrev pub opened_counts : {N : Type 0} → (N → Reads) → List N → List ℕ
-opened_counts reads nodes = map (λ n. (reads n).opened) nodes
+abbrev pub opened_counts : List NodeView → List ℕ
+opened_counts nodes = map (λ (n : NodeView). n.reads.opened) nodes
 
--- no read was opened
-pub record OpensNone {N R : Type 0} (reads : N → Reads) (old new : Driver N R) : Type 0 where
-  pub counts : opened_counts reads new.nodes.items ≡ opened_counts reads old.nodes.items
-  pub reads_are : new.reads.items ≡ old.reads.items
+-- how many reads node p has opened
+abbrev pub opened_by : List NodeView → ℕ → ℕ
+opened_by nodes p = slice_index_or (opened_counts nodes) p 0
 
--- the run has one read more: it waits for variable x of node p, under that node's next number
-pub record HasOpened {N R : Type 0} (awaited : R → Awaited) (number_of : R → ℕ) (reads : N → Reads) (p x : ℕ) (threshold : Threshold) (old new : Driver N R) : Type 0 where
-  pub read : R
-  pub reads_are : new.reads.items ≡ old.reads.items ++ record { node = p; read = read } ∷ []
-  pub is : read_of awaited number_of read ≡ record { number = (reads_at reads old.nodes.items p).opened; var = x; threshold = threshold }
+-- each node opened so many reads more
+abbrev pub GoOnByReads : List NodeView → List NodeView → (ℕ → ℕ) → Type 0
+GoOnByReads old new more = (p : ℕ) → p < length old → opened_by new p ≡ opened_by old p + more p
+
+-- a read of variable x was opened at node p, and all else is as before
+abbrev pub OpensAt : List NodeView → ℕ → ℕ → Threshold → List NodeView → Type 0
+OpensAt old p x threshold new = (n : NodeView) → slice_get old p ≡ Some n → new ≡ slice_set old p (with_reads n (opens_next n x threshold))
+
+-- a read was opened and closed again at node p, and all else is as before
+abbrev pub LooksAt : List NodeView → ℕ → List NodeView → Type 0
+LooksAt old p new = (n : NodeView) → slice_get old p ≡ Some n → new ≡ slice_set old p (with_reads n (looks n.reads))

@@ -6,4 +6,5 @@ mod message;
 mod point;
 mod show;
 mod sync;
+mod threshold;
 mod update;

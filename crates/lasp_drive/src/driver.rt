@@ -1,12 +1,9 @@
 //! The driver: the nodes of a run, what they sent, marked and are to read, and the lines that were printed.
 
-ghost use Rattle.std.specs.Prelude.{◌≡◌, ◌≤◌, ◌<◌, [], List, ℕ, IfOk, length, map, replicate};
+ghost use Rattle.std.specs.Prelude.{◌≤◌, IfOk, map};
 ghost use Rattle.std.specs.Arc.{arc_value};
-ghost use Rattle.model_world.specs.Lawful.{opening_stage};
-ghost use Rattle.model_world.specs.World.{start, fresh_peer};
-ghost use Rattle.lasp_drive.specs.Node.{AreNodes};
-ghost use Rattle.lasp_drive.specs.Driver.{run_of, stage_of, IsReady};
-ghost use Rattle.lasp_drive.specs.Reads.{no_reads};
+ghost use Rattle.lasp_drive.specs.Node.{AreFresh};
+ghost use Rattle.lasp_drive.specs.Driver.{seen, Starts};
 
 use super::node::Node;
 use lasp_gossip::Network;
@@ -56,11 +53,7 @@ pub struct Driver<N: Node> {
 /// So many nodes to which nothing has happened.
 fn fresh_nodes<N: Node>(alloc: Global, graph: &Arc<Graph>, nodes: u8) -> Result<Vec<N>, AllocError>
     requires { nodes ≤ 8 }
-    ensures size { IfOk result (λ all. length all.items ≡ nodes) }
-    ensures nodes { IfOk result (λ all. AreNodes N.decls N.number N.among (arc_value graph.now) nodes all.items) }
-    ensures peers { IfOk result (λ all. map N.peer all.items ≡ replicate nodes (fresh_peer (arc_value graph.now) nodes)) }
-    ensures calls { IfOk result (λ all. map N.calls all.items ≡ replicate nodes []) }
-    ensures reads { IfOk result (λ all. map N.reads all.items ≡ replicate nodes no_reads) }
+    ensures { IfOk result (λ all. AreFresh (arc_value graph.now) nodes nodes (map N.view all.items)) }
 {
     let mut all = Vec::new(alloc);
     for p in 0..nodes {
@@ -74,11 +67,7 @@ impl<N: Node> Driver<N> {
     pub fn new(alloc: Global, graph: &Arc<Graph>, nodes: u8) -> Result<Driver<N>, AllocError>
         requires some { 1 ≤ nodes }
         requires few { nodes ≤ 8 }
-        ensures ready { IfOk result (IsReady N.decls N.number N.among N.peer N.awaited N.number_of N.shown N.reads nodes 1) }
-        ensures start { IfOk result (λ d. run_of N.peer N.awaited d ≡ start (arc_value graph.now) nodes) }
-        ensures stage { IfOk result (λ d. stage_of d ≡ opening_stage (arc_value graph.now)) }
-        ensures calls { IfOk result (λ d. map N.calls d.nodes.items ≡ replicate nodes []) }
-        ensures reads { IfOk result (λ d. map N.reads d.nodes.items ≡ replicate nodes no_reads) }
+        ensures { IfOk result (λ d. Starts (arc_value graph.now) nodes (seen N.view N.read d)) }
     {
         Ok(Driver {
             graph: Arc::try_clone(graph)?,

@@ -14,10 +14,13 @@ use Rattle.model_core.proofs.ReadLaws.{meets-grows}
 use Rattle.model_core.proofs.ValidLaws.{val-ordered}
 use Rattle.model_runs.specs.Calls.{fed, is_bind, unbound}
 use Rattle.model_runs.proofs.MatchLaws.{append-nothing}
-use Rattle.lasp_core.specs.Core.{declared}
-use Rattle.lasp_drive.specs.Node.{IsUnchanged}
+use Rattle.model_core.proofs.PeerLaws.{peer-fresh}
+use Rattle.model_world.specs.World.{shown_at}
+use Rattle.lasp_core.specs.Core.{fresh_core, declared}
+use Rattle.lasp_drive.specs.Node.{TakesIn, OnlyGrew, IsFresh, IsSettled}
 use Rattle.lasp_drive.specs.Reads.{releases, unmet, Grows}
-use Rattle.lasp_node.specs.Reads.{reads_of}
+use Rattle.lasp_drive.specs.declared.node.NodeStop.{NodeStop}
+use Rattle.lasp_node.specs.View.{node_of, reads_of}
 use Rattle.lasp_node.specs.Settling.{AreBinds, HasBound}
 
 -- what is no result in one list and in another behind it
@@ -40,6 +43,9 @@ declared-calls old new e d same is =
 
 pub entered-reads : (old new : Core) (e : Entry) → new ≡ entered e old → reads_of new ≡ releases (vals new.frame new.entries) (reads_of old)
 entered-reads old new e is = subst (λ (c : Core). reads_of c ≡ releases (vals c.frame c.entries) (reads_of old)) (sym is) refl
+
+pub declared-reads : (old new : Core) (e : Entry) → new ≡ declared e old → reads_of new ≡ reads_of old
+declared-reads old new e is = ap reads_of is
 
 -- results alone
 none-called : (low high place : ℕ) (more : List Entry) → AreBinds low high place more → unbound more ≡ []
@@ -82,20 +88,56 @@ parked-unmet X h [] all = refl
 parked-unmet X h (r ∷ rs) all =
     ap (λ (more : List Read). r ∷ more) (parked-unmet X h rs all.1) ∙ sym (ap (λ (b : Bool). if not b then r ∷ unmet (vals X h) rs else unmet (vals X h) rs) all.0.unmet)
 
--- a core that is as it was leaves its node as it was
-pub same-core : {N : Type 0} (core : N → Core) (old new : N) → core new ≡ core old
-    → IsUnchanged (λ n. graph (core n).frame (core n).entries) (λ n. peer_of (core n).frame (core n).entries) (λ n. unbound (core n).entries) (λ n. vals (core n).frame (core n).entries) (λ n. reads_of (core n)) old new
-same-core core old new same = record {
-  graph = ap (λ (c : Core). graph c.frame c.entries) same;
-  peer_is = ap (λ (c : Core). peer_of c.frame c.entries) same;
-  calls_are = ap (λ (c : Core). unbound c.entries) same;
-  shown_is = ap (λ (c : Core). vals c.frame c.entries) same;
-  reads_are = ap reads_of same;
+-- ---- a node after a call
+
+-- one entry more, which leaves the graph
+pub takes-ok : (old new : Core) (a : Act) → is_bind a ≡ false → graph old.frame (old.entries ++ entry 0 a ∷ []) ≡ graph old.frame old.entries → new ≡ entered (entry 0 a) old → IsLegal new.frame new.entries
+    → TakesIn {A = Unit {0}} {E = NodeStop} a (node_of old) (Ok tt) (node_of new)
+takes-ok old new a free kept is legal = record {
+  still = record {
+    graph = ap (λ (c : Core). graph c.frame c.entries) is ∙ kept;
+    replica = ap (λ (c : Core). c.frame.replica) is;
+    nodes = ap (λ (c : Core). c.frame.nodes) is;
+  };
+  calls = entered-calls old new a free is;
+  grew = record { more = entered-grows old new (entry 0 a) is legal; released = entered-reads old new (entry 0 a) is };
+  unchanged = tt;
 }
+
+-- a core that is as it was
+pub takes-none : (old new : Core) (a : Act) (why : NodeStop) → new ≡ old → TakesIn {A = Unit {0}} {E = NodeStop} a (node_of old) (Err why) (node_of new)
+takes-none old new a why same = record {
+  still = record {
+    graph = ap (λ (c : Core). graph c.frame c.entries) same;
+    replica = ap (λ (c : Core). c.frame.replica) same;
+    nodes = ap (λ (c : Core). c.frame.nodes) same;
+  };
+  calls = tt;
+  grew = tt;
+  unchanged = ap node_of same;
+}
+
+pub settled-grew : (old new : Core) → HasBound old new → IsLegal new.frame new.entries → OnlyGrew (node_of old) (node_of new)
+settled-grew old new bound legal = record {
+  still = record { graph = bound.graph_is; replica = ap (λ (X : Frame). X.replica) bound.frame; nodes = ap (λ (X : Frame). X.nodes) bound.frame };
+  peer = bound.peer;
+  calls = settled-calls old new bound;
+  grew = record { more = settled-grows old new bound legal; released = settled-reads old new bound };
+}
+
+-- what it shows is what its graph gives on its sources as they are
+pub settled-shown : (old new : Core) → HasBound old new → vals new.frame new.entries ≡ shown_at (graph old.frame old.entries) (peer_of old.frame old.entries) → IsSettled (node_of new)
+settled-shown old new bound shown =
+    shown ∙ ap (λ (g : List Decl). shown_at g (peer_of old.frame old.entries)) (sym bound.graph_is) ∙ ap (shown_at (graph new.frame new.entries)) (sym bound.peer)
+
+pub fresh-node : (g : List Decl) (me nodes : ℕ) (c : Core) → c ≡ fresh_core g me nodes → IsFresh g nodes me (node_of c)
+fresh-node g me nodes c is = subst (λ (k : Core). IsFresh g nodes me (node_of k)) (sym is) (record {
+  node = record { graph = refl; replica = refl; nodes = refl };
+  peer = peer-fresh (record { opening = g; replica = me; nodes = nodes });
+  calls = refl;
+  reads = refl;
+})
 
 pub on-err : {A E P Q : Type 0} (r : Result A E) → (P → Q) → OnErr r P → OnErr r Q
 on-err (Ok a) f p = tt
 on-err (Err e) f p = f p
-
-pub as-err : {A E : Type 0} (P : Type 0) (r s : Result A E) → r ≡ s → OnErr s P → OnErr r P
-as-err {A} {E} P r s same p = subst (λ (t : Result A E). OnErr t P) (sym same) p

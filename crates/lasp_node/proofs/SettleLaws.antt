@@ -1,13 +1,11 @@
 -- Which job is next in an idle core, what it stands for, and what its result leaves clean.
 use Rattle.std.proofs.Common.{zero, suc, ℕ, ◌≡◌, ◌+◌, ◌-◌, ◌≤◌, ◌<◌, ◌⊎◌, inl, inr, Bool, true, false, not, cond, IsTrue, nat_lt, filter, refl, sym, ap, subst, ◌∙◌, append-nil, append_assoc, arith}
-use Rattle.std.specs.Prelude.{List, [], ◌∷◌, ◌++◌, length, take, drop, slice_set, slice_index_or, Some, None}
-use Rattle.std.specs.Arc.{arc_value}
-use Rattle.std.proofs.Math.Seq.{take-length}
+use Rattle.std.specs.Prelude.{List, [], ◌∷◌, ◌++◌, length, drop, slice_set, slice_index_or, Some, None}
 use Rattle.std.proofs.lemmas.List.{length-append}
 use Rattle.std.specs.List.{AllByRecursion}
 use Rattle.std.proofs.lemmas.Bool.Decides.{nat_tests}
 use Rattle.model_states.specs.Content.{Content, size_of, row_limit}
-use Rattle.model_graph.specs.Graph.{Decl, kind_at}
+use Rattle.model_graph.specs.Graph.{Decl}
 use Rattle.model_graph.specs.Evaluation.{eval, equation, first_large}
 use Rattle.model_graph.specs.Lawful.{IsDerived}
 use Rattle.model_journal.specs.Entry.{Bind, Entry, Frame, entry}
@@ -16,18 +14,16 @@ use Rattle.model_journal.specs.Clean.{IsClean, applied, version}
 use Rattle.model_journal.specs.Legal.{IsLegal}
 use Rattle.model_world.specs.World.{Peer}
 use Rattle.model_core.specs.Core.{Core, IsCore, IsParked, Read, is_met, entered}
-use Rattle.model_core.proofs.BaseLaws.{derived-take}
 use Rattle.model_core.proofs.CleanLaws.{clean-before, clean-after-bind, large-first, settled-all, settled-small}
 use Rattle.model_core.proofs.LegalLaws.{legal-bind-now}
 use Rattle.model_core.proofs.PeerLaws.{graph-bound, peer-bound}
 use Rattle.model_core.proofs.ReadLaws.{all-kept, met-stays}
-use Rattle.lasp_replica.proofs.KindLaws.{equation-process}
 use Rattle.lasp_replica.proofs.OneLaws.{same-or-apart}
-use Rattle.lasp_state.specs.State.{content_of}
-use Rattle.lasp_graph.specs.Evaluated.{process, second_of}
 use Rattle.lasp_job.specs.declared.job.Job.{Job}
 use Rattle.lasp_replica.specs.Jobs.{IsUnclean, IsFirst, IsNext, IsJobNow, greatest_count, counted_up, unread_rows}
 use Rattle.lasp_core.specs.Core.{taken, returned, IsSettled}
+use Rattle.lasp_core.specs.Evaluated.{evaluated}
+use Rattle.lasp_core.proofs.JobLaws.{job-derived, job-equation}
 use Rattle.lasp_node.specs.Settling.{IsIdle, IsIdleBut, AreCleanBelow, AreBinds, HasBoundIn, HasBound, rows_behind, rows_bound, rows_since}
 
 -- ---- which job is next
@@ -85,35 +81,16 @@ turn-taken old out n y rows idle clean next is =
 -- ---- what a job stands for
 
 module _ (X : Frame) (h : List Entry) (y : ℕ) (job : Job) (now : IsJobNow X h y job) where
-  all-entries : take job.n h ≡ h
-  all-entries = ap (λ (n : ℕ). take n h) now.now ∙ take-length h
-
-  pub job-graph : arc_value job.graph ≡ graph X h
-  job-graph = now.own.graph_is ∙ ap (λ (k : List Entry). graph X k) all-entries
-
-  pub job-derived : IsDerived (graph X h) job.var
-  job-derived = derived-take X h job.n job.var now.is.derived
-
-  -- its process on its inputs is the variable's equation
-  pub job-equation : equation (kind_at (graph X h) job.var) (vals X h) ≡ process (kind_at (arc_value job.graph) job.var) (content_of (arc_value job.inputs.first)) (content_of (second_of job.inputs))
-  job-equation =
-      let k = kind_at (graph X h) job.var in
-      ap (λ (l : List Entry). equation k (vals X l)) (sym all-entries)
-      ∙ equation-process k (vals X (take job.n h))
-      ∙ (λ i. process (kind_at (sym job-graph i) job.var) (sym now.is.inputs.first i) (sym now.is.inputs.second i))
-
   -- a result that is too large is the first
-  pub job-large : IsLegal X h → ((z : ℕ) → z < job.var → IsDerived (graph X h) z → IsClean X h z)
-      → row_limit < size_of (process (kind_at (arc_value job.graph) job.var) (content_of (arc_value job.inputs.first)) (content_of (second_of job.inputs)))
-      → first_large 0 (eval (graph X h) (sources X h)) ≡ Some job.var
-  job-large legal below large = large-first X h legal job.var below job-derived (subst (λ (s : Content). row_limit < size_of s) (sym job-equation) large)
+  pub job-large : IsLegal X h → ((z : ℕ) → z < job.var → IsDerived (graph X h) z → IsClean X h z) → row_limit < size_of (evaluated job) → first_large 0 (eval (graph X h) (sources X h)) ≡ Some job.var
+  job-large legal below large = large-first X h legal job.var below (job-derived X h y job now) (subst (λ (s : Content). row_limit < size_of s) (sym (job-equation X h y job now)) large)
 
   -- a result that isn't may be taken in
-  pub job-legal : IsLegal X h → (by : ℕ) (s : Content) → process (kind_at (arc_value job.graph) job.var) (content_of (arc_value job.inputs.first)) (content_of (second_of job.inputs)) ≡ s → size_of s ≤ row_limit
+  pub job-legal : IsLegal X h → (by : ℕ) (s : Content) → evaluated job ≡ s → size_of s ≤ row_limit
       → IsLegal X (h ++ entry by (Bind job.var job.n) ∷ [])
   job-legal legal by s is small =
-      legal-bind-now X h legal (entry by (Bind job.var job.n)) job.var (ap (λ (n : ℕ). Bind job.var n) now.now) job-derived
-      (subst (λ (t : Content). size_of t ≤ row_limit) (sym (job-equation ∙ is)) small)
+      legal-bind-now X h legal (entry by (Bind job.var job.n)) job.var (ap (λ (n : ℕ). Bind job.var n) now.now) (job-derived X h y job now)
+      (subst (λ (t : Content). size_of t ≤ row_limit) (sym (job-equation X h y job now ∙ is)) small)
 
 -- ---- what a core is after a job
 

@@ -2,13 +2,9 @@
 
 ghost use Rattle.std.specs.Prelude.{◌≡◌};
 ghost use Rattle.std.specs.Coded.{Coded-set, Π_prop, coded_ℕ};
-ghost use Rattle.model_journal.specs.Journal as journal;
-ghost use Rattle.model_core.specs.Peer.{peer_of};
-ghost use Rattle.model_runs.specs.Calls.{unbound};
-ghost use Rattle.lasp_drive.specs.Node.{awaits};
 ghost use Rattle.lasp_core.specs.Reads.{read_of};
 ghost use Rattle.lasp_node.specs.Settling.{IsIdle};
-ghost use Rattle.lasp_node.specs.Reads.{reads_of};
+ghost use Rattle.lasp_node.specs.View.{node_of};
 
 use super::message::message_of;
 use super::settling::settle;
@@ -31,23 +27,9 @@ pub struct CoreNode {
 impl Node for CoreNode {
     type Read = ReadNo;
 
-    ghost decls = { λ n. journal.graph n.core.frame n.core.entries };
+    ghost view = { λ n. node_of n.core };
 
-    ghost number = { λ n. n.core.frame.replica };
-
-    ghost among = { λ n. n.core.frame.nodes };
-
-    ghost peer = { λ n. peer_of n.core.frame n.core.entries };
-
-    ghost calls = { λ n. unbound n.core.entries };
-
-    ghost reads = { λ n. reads_of n.core };
-
-    ghost shown = { λ n. journal.vals n.core.frame n.core.entries };
-
-    ghost awaited = { λ r. awaits (read_of r).var (read_of r).threshold };
-
-    ghost number_of = { λ r. (read_of r).number };
+    ghost read = { read_of };
 
     fn new(
         alloc: Global,

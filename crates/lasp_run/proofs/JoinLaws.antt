@@ -23,7 +23,7 @@ use Rattle.model_program.specs.declared.state_why.StateWhy.TheVariants.{WrongGra
 use Rattle.model_program.specs.declared.failure.Failure.{Failure}
 use Rattle.model_program.specs.declared.failure.Failure.TheVariants.{Refused, ReadFault, Memory}
 use Rattle.lasp_replica.specs.Replica.{IsBeginning}
-use Rattle.lasp_drive.specs.Node.{IsNode}
+use Rattle.lasp_drive.specs.Node.{NodeView, IsNode, IsStill, IsFresh}
 use Rattle.lasp_run.specs.Merge.{IsReplica, IsRefusal}
 
 -- ---- messages to a graph
@@ -91,66 +91,68 @@ file-refused shown told g i r bytes Memory h = tt
 
 -- ---- the node
 
-module _ {N : Type 0} (decls : N → List Decl) (number among : N → ℕ) (peer : N → Peer) where
-  -- a node to which nothing has happened
-  pub replica-fresh : (g : List Decl) (nodes : ℕ) (n : N) → IsNode decls number among g nodes 0 n → peer n ≡ fresh_peer g nodes → IsReplica decls number among peer g n
-  replica-fresh g nodes n node fresh = record {
-    graph = node.graph;
-    replica = node.replica;
-    nodes = node.nodes ∙ sym long;
-    held = subst (λ (r : Peer). IsHeld (length r.counts) g r) (sym fresh) (subst (λ (k : ℕ). IsHeld k g (fresh_peer g nodes)) (sym (length-zeros nodes)) (held-fresh nodes g));
-  } where
-    long : length (peer n).counts ≡ nodes
-    long = ap (λ (r : Peer). length r.counts) fresh ∙ length-zeros nodes
+-- a node to which nothing has happened
+replica-fresh : (g : List Decl) (nodes : ℕ) (n : NodeView) → IsNode g nodes 0 n → n.peer ≡ fresh_peer g nodes → IsReplica g n
+replica-fresh g nodes n node fresh = record {
+  graph = node.graph;
+  replica = node.replica;
+  nodes = node.nodes ∙ sym long;
+  held = subst (λ (r : Peer). IsHeld (length r.counts) g r) (sym fresh) (subst (λ (k : ℕ). IsHeld k g (fresh_peer g nodes)) (sym (length-zeros nodes)) (held-fresh nodes g));
+} where
+  long : length n.peer.counts ≡ nodes
+  long = ap (λ (r : Peer). length r.counts) fresh ∙ length-zeros nodes
 
-  -- what the node has to have for what it does
-  pub replica-held : (g : List Decl) (n : N) → IsReplica decls number among peer g n → IsHeld (among n) (decls n) (peer n)
-  replica-held g n h = subst (λ (ds : List Decl). IsHeld (among n) ds (peer n)) (sym h.graph) (subst (λ (k : ℕ). IsHeld k g (peer n)) (sym h.nodes) h.held)
+pub replica-new : (g : List Decl) (nodes : ℕ) (n : NodeView) → IsFresh g nodes 0 n → IsReplica g n
+replica-new g nodes n fresh = replica-fresh g nodes n fresh.node fresh.peer
 
-  pub replica-sent : (g : List Decl) (n : N) (m : Message) → IsReplica decls number among peer g n → may_take g (peer n) m ≡ true → IsMessage m → IsSentTo (among n) (decls n) m
-  replica-sent g n m h taken lawful =
-      subst (λ (ds : List Decl). IsSentTo (among n) ds m) (sym h.graph) (subst (λ (k : ℕ). IsSentTo k g m) (sym h.nodes) (taken-sent g (peer n) m taken lawful))
+-- what the node has to have for what it does
+pub replica-held : (g : List Decl) (n : NodeView) → IsReplica g n → IsHeld n.among n.decls n.peer
+replica-held g n h = subst (λ (ds : List Decl). IsHeld n.among ds n.peer) (sym h.graph) (subst (λ (k : ℕ). IsHeld k g n.peer) (sym h.nodes) h.held)
 
-  -- the node after a message
-  pub replica-joined : (g : List Decl) (n new : N) (m : Message) → IsReplica decls number among peer g n → may_take g (peer n) m ≡ true → IsMessage m
-      → IsNode decls number among (decls n) (among n) (number n) new → peer new ≡ delivered (decls n) m (peer n) → first_large 0 (delivered (decls n) m (peer n)).contents ≡ None
-      → IsReplica decls number among peer g new
-  replica-joined g n new m h taken lawful node is small = record {
-    graph = node.graph ∙ h.graph;
-    replica = node.replica ∙ h.replica;
-    nodes = node.nodes ∙ h.nodes ∙ sym long;
-    held = subst (λ (k : ℕ). IsHeld k g (peer new)) (sym long) (subst (IsHeld (length (peer n).counts) g) (sym same) after);
-  } where
-    same : peer new ≡ delivered g m (peer n)
-    same = is ∙ ap (λ (ds : List Decl). delivered ds m (peer n)) h.graph
+pub replica-sent : (g : List Decl) (n : NodeView) (m : Message) → IsReplica g n → may_take g n.peer m ≡ true → IsMessage m → IsSentTo n.among n.decls m
+replica-sent g n m h taken lawful =
+    subst (λ (ds : List Decl). IsSentTo n.among ds m) (sym h.graph) (subst (λ (k : ℕ). IsSentTo k g m) (sym h.nodes) (taken-sent g n.peer m taken lawful))
 
-    sent : IsSentTo (length (peer n).counts) g m
-    sent = taken-sent g (peer n) m taken lawful
+-- the node after a message
+pub replica-joined : (g : List Decl) (n new : NodeView) (m : Message) → IsReplica g n → may_take g n.peer m ≡ true → IsMessage m
+    → IsStill n new → new.peer ≡ delivered n.decls m n.peer → first_large 0 (delivered n.decls m n.peer).contents ≡ None
+    → IsReplica g new
+replica-joined g n new m h taken lawful node is small = record {
+  graph = node.graph ∙ h.graph;
+  replica = node.replica ∙ h.replica;
+  nodes = node.nodes ∙ h.nodes ∙ sym long;
+  held = subst (λ (k : ℕ). IsHeld k g new.peer) (sym long) (subst (IsHeld (length n.peer.counts) g) (sym same) after);
+} where
+  same : new.peer ≡ delivered g m n.peer
+  same = is ∙ ap (λ (ds : List Decl). delivered ds m n.peer) h.graph
 
-    long : length (peer new).counts ≡ length (peer n).counts
-    long = ap (λ (r : Peer). length r.counts) same ∙ (let wide = sent.wide in omega (arith, length-larger (peer n).counts m.counts, wide))
+  sent : IsSentTo (length n.peer.counts) g m
+  sent = taken-sent g n.peer m taken lawful
 
-    after : IsHeld (length (peer n).counts) g (delivered g m (peer n))
-    after = held-delivered (length (peer n).counts) g m (peer n) h.held sent (ap (λ (ds : List Decl). first_large 0 (delivered ds m (peer n)).contents) (sym h.graph) ∙ small)
+  long : length new.peer.counts ≡ length n.peer.counts
+  long = ap (λ (r : Peer). length r.counts) same ∙ (let wide = sent.wide in omega (arith, length-larger n.peer.counts m.counts, wide))
 
-  -- a variable that comes to be too large is one of the graph
-  pub large-low : (g : List Decl) (n : N) (m : Message) (x : ℕ) → IsReplica decls number among peer g n → first_large 0 (delivered (decls n) m (peer n)).contents ≡ Some x → x < length g
-  large-low g n m x h large =
-      let long = h.held.long in
-      omega (arith, first-low 0 (delivered (decls n) m (peer n)).contents x large, gained-length (brought (decls n) m) 0 (peer n).contents, long)
+  after : IsHeld (length n.peer.counts) g (delivered g m n.peer)
+  after = held-delivered (length n.peer.counts) g m n.peer h.held sent (ap (λ (ds : List Decl). first_large 0 (delivered ds m n.peer).contents) (sym h.graph) ∙ small)
 
-  -- ---- what is answered of the node
+-- a variable that comes to be too large is one of the graph
+pub large-low : (g : List Decl) (n : NodeView) (m : Message) (x : ℕ) → IsReplica g n → first_large 0 (delivered n.decls m n.peer).contents ≡ Some x → x < length g
+large-low g n m x h large =
+    let long = h.held.long in
+    omega (arith, first-low 0 (delivered n.decls m n.peer).contents x large, gained-length (brought n.decls m) 0 n.peer.contents, long)
 
-  pub joined-taken : (g : List Decl) (i : ℕ) (n new : N) (m : Message) → IsReplica decls number among peer g n → may_take g (peer n) m ≡ true
-      → peer new ≡ delivered (decls n) m (peer n) → first_large 0 (delivered (decls n) m (peer n)).contents ≡ None → message_joined g i (peer n) m ≡ Ok (peer new)
-  joined-taken g i n new m h taken is small =
-      message-taken g i (peer n) m taken (ap (λ (ds : List Decl). first_large 0 (delivered ds m (peer n)).contents) (sym h.graph) ∙ small)
-      ∙ ap (λ (r : Peer). Ok r) (sym (is ∙ ap (λ (ds : List Decl). delivered ds m (peer n)) h.graph))
+-- ---- what is answered of the node
 
-  pub joined-large : {A : Type 0} (shown : A → Peer) (g : List Decl) (i x : ℕ) (n : N) (m : Message) (failure : Failure) → IsReplica decls number among peer g n → may_take g (peer n) m ≡ true
-      → first_large 0 (delivered (decls n) m (peer n)).contents ≡ Some x → IsRefusal (refusal.TooLarge i 0 (name_at g x)) failure → Gives shown (message_joined g i (peer n) m) (Err failure)
-  joined-large shown g i x n m failure h taken large is =
-      refusal-given shown (message_joined g i (peer n) m) (refusal.TooLarge i 0 (name_at g x)) failure
-      (message-large g i x (peer n) m taken (ap (λ (ds : List Decl). first_large 0 (delivered ds m (peer n)).contents) (sym h.graph) ∙ large)) is
+pub joined-taken : (g : List Decl) (i : ℕ) (n new : NodeView) (m : Message) → IsReplica g n → may_take g n.peer m ≡ true
+    → new.peer ≡ delivered n.decls m n.peer → first_large 0 (delivered n.decls m n.peer).contents ≡ None → message_joined g i n.peer m ≡ Ok new.peer
+joined-taken g i n new m h taken is small =
+    message-taken g i n.peer m taken (ap (λ (ds : List Decl). first_large 0 (delivered ds m n.peer).contents) (sym h.graph) ∙ small)
+    ∙ ap (λ (r : Peer). Ok r) (sym (is ∙ ap (λ (ds : List Decl). delivered ds m n.peer) h.graph))
 
-pub ruleset replicas = (replica-fresh, replica-held, replica-sent, replica-joined, large-low, joined-taken, joined-large, joined-wrong)
+pub joined-large : {A : Type 0} (shown : A → Peer) (g : List Decl) (i x : ℕ) (n : NodeView) (m : Message) (failure : Failure) → IsReplica g n → may_take g n.peer m ≡ true
+    → first_large 0 (delivered n.decls m n.peer).contents ≡ Some x → IsRefusal (refusal.TooLarge i 0 (name_at g x)) failure → Gives shown (message_joined g i n.peer m) (Err failure)
+joined-large shown g i x n m failure h taken large is =
+    refusal-given shown (message_joined g i n.peer m) (refusal.TooLarge i 0 (name_at g x)) failure
+    (message-large g i x n.peer m taken (ap (λ (ds : List Decl). first_large 0 (delivered ds m n.peer).contents) (sym h.graph) ∙ large)) is
+
+pub ruleset replicas = (replica-new, replica-held, replica-sent, replica-joined, large-low, joined-taken, joined-large, joined-wrong)

@@ -1,12 +1,8 @@
-pub mod CallLaws
-pub mod OpenLaws
 pub mod CheckLaws
-pub mod DirectLaws
 pub mod JoinLaws
 pub mod MergeLaws
 pub mod NameLaws
 pub mod PartLaws
-pub mod PlayLaws
-pub mod StepLaws
 pub mod TellLaws
 pub mod TextLaws
+pub mod DotLaws

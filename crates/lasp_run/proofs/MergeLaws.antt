@@ -3,7 +3,7 @@ use Rattle.std.proofs.Common.{◌≡◌, ℕ, suc, ◌+◌, ◌-◌, ◌≤◌, 
 use Rattle.model_graph.specs.Chain.{refusing}
 use Rattle.model_graph.specs.Graph.{Decl}
 use Rattle.model_world.specs.World.{Peer}
-use Rattle.model_program.specs.Plan.{Plan, Says, reading}
+use Rattle.model_program.specs.Plan.{Plan, Says, exactly, reading}
 use Rattle.model_program.specs.Follows.{View, Gives, Follows, IsPartOf, Passes, Stops, Performs}
 use Rattle.model_program.specs.Merge.{file_at, file_joined, merging_file, merging_more, merge_answer}
 use Rattle.model_program.specs.declared.refusal.Refusal.{Refusal}
@@ -47,8 +47,8 @@ ends-file words u v w start g i more r failure early late some before stops whol
     (subst (λ (p : Plan). Follows words whole p (Err failure)) (sym (next-file g i more r some)) (stops whole (part-of-part v w whole late part) (λ after. merging_more g (i + 1) (more - 1) after)))
 
 -- no file is left
-pub leads-end : (words : List (List ℕ)) (v : View) (start : Plan) (g : List Decl) (i many left : ℕ) (r : Peer) → left ≡ 0 → i ≡ many → Leads words v start (merging_more g i left r) → Leads words v start (Says (merge_answer g many r))
+pub leads-end : (words : List (List ℕ)) (v : View) (start : Plan) (g : List Decl) (i many left : ℕ) (r : Peer) → left ≡ 0 → i ≡ many → Leads words v start (merging_more g i left r) → Leads words v start (Says (exactly (merge_answer g many r)))
 leads-end words v start g i many left r none is before w part result h =
     before w part result
     (subst (λ (p : Plan). Follows words w p result)
-    (sym (ap (λ (n : ℕ). merging_more g i n r) none ∙ more-none g i r ∙ ap (λ (n : ℕ). Says (merge_answer g n r)) is)) h)
+    (sym (ap (λ (n : ℕ). merging_more g i n r) none ∙ more-none g i r ∙ ap (λ (n : ℕ). Says (exactly (merge_answer g n r))) is)) h)

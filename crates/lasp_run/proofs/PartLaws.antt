@@ -8,7 +8,7 @@ use Rattle.model_world.specs.Command.{Script}
 use Rattle.model_world.specs.World.{Run, ended}
 use Rattle.model_world.specs.declared.stop.Stop.{Stop}
 use Rattle.model_scripts.specs.Progress.{grown}
-use Rattle.model_program.specs.Plan.{Answer, Plan, Says}
+use Rattle.model_program.specs.Plan.{Plan, Says, exactly}
 use Rattle.model_program.specs.Follows.{View, Gives, Follows, IsPartOf, Part, Passes, Stops}
 use Rattle.model_program.specs.Program.{stopped, run_answer}
 use Rattle.model_program.specs.declared.refusal.Refusal.{Refusal}
@@ -19,7 +19,7 @@ use Rattle.lasp_run.specs.Words.{answered}
 use Rattle.lasp_run.specs.Run.{IsStop}
 
 -- a result gives the answer exactly where its text does
-pub gives-answered : {A : Type 0} (answer : Answer) (r : Result (Vec ℕ A) Failure) → Gives (λ (text : Vec ℕ A). text.items) answer r → Gives (λ (t : List ℕ). t) answer (answered r)
+pub gives-answered : {A : Type 0} (answer : Result (List ℕ) Refusal) (r : Result (Vec ℕ A) Failure) → Gives (λ (text : Vec ℕ A). text.items) answer r → Gives (λ (t : List ℕ). t) answer (answered r)
 gives-answered answer (Ok text) h = h
 gives-answered answer (Err (Refused e)) h = h
 gives-answered answer (Err (ReadFault f)) h = h
@@ -58,13 +58,13 @@ pub stops-memory : {B : Type 0} (words : List (List ℕ)) (v : View) (part : Par
 stops-memory words v part w within next = follows-memory words w (part next)
 
 -- a call did a part, and gave what is answered after it
-pub follows-part : {B A : Type 0} (words : List (List ℕ)) (v : View) (part : Part B) (b : B) (answer : B → Answer) (r : Result (Vec ℕ A) Failure)
-    → Passes words v part b → Gives (λ (text : Vec ℕ A). text.items) (answer b) r → Follows words v (part (λ x. Says (answer x))) (answered r)
+pub follows-part : {B A : Type 0} (words : List (List ℕ)) (v : View) (part : Part B) (b : B) (answer : B → Result (List ℕ) Refusal) (r : Result (Vec ℕ A) Failure)
+    → Passes words v part b → Gives (λ (text : Vec ℕ A). text.items) (answer b) r → Follows words v (part (λ x. Says (exactly (answer x)))) (answered r)
 follows-part words v part b answer r h gives =
-    h v (part-itself v) (λ x. Says (answer x)) (answered r) (follows-says words v (answer b) (answered r) (gives-answered (answer b) r gives))
+    h v (part-itself v) (λ x. Says (exactly (answer x))) (answered r) (follows-says words v (answer b) (answered r) (gives-answered (answer b) r gives))
 
-pub follows-stop : {B : Type 0} (words : List (List ℕ)) (v : View) (part : Part B) (answer : B → Answer) (failure : Failure) → Stops words v part failure → Follows words v (part (λ x. Says (answer x))) (Err failure)
-follows-stop words v part answer failure h = h v (part-itself v) (λ x. Says (answer x))
+pub follows-stop : {B : Type 0} (words : List (List ℕ)) (v : View) (part : Part B) (answer : B → Result (List ℕ) Refusal) (failure : Failure) → Stops words v part failure → Follows words v (part (λ x. Says (exactly (answer x)))) (Err failure)
+follows-stop words v part answer failure h = h v (part-itself v) (λ x. Says (exactly (answer x)))
 
 -- ---- runs
 

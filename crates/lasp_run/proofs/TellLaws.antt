@@ -1,7 +1,10 @@
 -- Laws of what is appended piece by piece.
-use Rattle.std.proofs.Common.{sym, ap, subst, ◌∙◌, append_assoc}
-use Rattle.std.specs.Prelude.{◌≡◌, ℕ, List, ◌∷◌, ◌++◌, Option, Some, None, Result, Ok, Err, OnErr}
+use Rattle.std.proofs.Common.{refl, sym, ap, subst, ◌∙◌, append_assoc, append-nil, arith}
+use Rattle.std.specs.Prelude.{◌≡◌, ◌≢◌, ◌==◌, true, false, length, ℕ, List, [], ◌∷◌, ◌++◌, Option, Some, None, Result, Ok, Err, OnErr}
+use mathlib.Core.Logic.{inl}
+use Rattle.std.proofs.lemmas.Bool.Decides.{Decides-eqb}
 use Rattle.model_values.specs.Told.{Appends, AppendsPrefix}
+use Rattle.model_program.specs.Ends.{writing, Ends}
 use Rattle.model_world.specs.Line.{line_rest}
 
 -- one piece after the other
@@ -36,5 +39,25 @@ pub rest-first : (old new : Option (List ℕ)) (word : List ℕ) (others words :
     → AppendsPrefix old (32 ∷ word) new → AppendsPrefix old (line_rest words) new
 rest-first old new word others words e first =
     subst (λ (ws : List (List ℕ)). AppendsPrefix old (line_rest ws) new) (sym e) (prefix-first old new (32 ∷ word) (line_rest others) first)
+
+-- ---- how a text ends
+
+-- nothing is appended
+appends-nothing : (old : Option (List ℕ)) → Appends old [] old
+appends-nothing None = refl
+appends-nothing (Some old) = ap (λ (bytes : List ℕ). Some bytes) (sym (append-nil old))
+
+-- an empty text was written, by no write
+pub ends-empty : (words : List (List ℕ)) (text : List ℕ) (out err : Option (List ℕ)) (f g : ℕ) → (length text == 0) ≡ true → Ends words (Ok text) (writing out out f f) (writing err err g g) 0
+unfolding Ends
+ends-empty words [] out err f g empty = inl (refl, appends-nothing out, refl)
+ends-empty words (b ∷ text) out err f g empty = absurd (omega (arith, (Decides-eqb (length (b ∷ text)) 0).0 empty))
+
+-- there is something to write
+pub some-bytes : (text : List ℕ) → (length text == 0) ≡ false → text ≢ []
+some-bytes [] h = absurd cc
+some-bytes (b ∷ text) h = λ e. absurd cc
+
+pub ruleset texts = (ends-empty, some-bytes)
 
 pub ruleset appending = (appends-then, prefix-first, prefix-then, part-then)

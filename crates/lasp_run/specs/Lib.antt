@@ -1,5 +1,3 @@
 pub mod Words
 pub mod Run
-pub mod Play
 pub mod Merge
-pub mod Told

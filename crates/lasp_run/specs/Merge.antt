@@ -3,6 +3,7 @@ use Rattle.std.specs.Prelude.{◌≡◌, ℕ, List, length, Result, Ok, Err}
 use Rattle.model_graph.specs.Graph.{Decl}
 use Rattle.model_world.specs.World.{Peer}
 use Rattle.model_runs.specs.Held.{IsHeld}
+use Rattle.lasp_drive.specs.Node.{NodeView}
 use Rattle.model_program.specs.Plan.{Plan}
 use Rattle.model_program.specs.Follows.{View, IsPartOf, Follows}
 use Rattle.model_program.specs.declared.refusal.Refusal.{Refusal}
@@ -10,11 +11,15 @@ use Rattle.model_program.specs.declared.failure.Failure.{Failure}
 use Rattle.model_program.specs.declared.failure.Failure.TheVariants.{Refused, ReadFault, Memory}
 
 -- the first node of a graph, among as many as it has counts, within the ranges of the message format
-pub record IsReplica {N : Type 0} (decls : N → List Decl) (number among : N → ℕ) (peer : N → Peer) (g : List Decl) (n : N) : Type 0 where
-  pub graph : decls n ≡ g
-  pub replica : number n ≡ 0
-  pub nodes : among n ≡ length (peer n).counts
-  pub held : IsHeld (length (peer n).counts) g (peer n)
+pub record IsReplica (g : List Decl) (n : NodeView) : Type 0 where
+  pub graph : n.decls ≡ g
+  pub replica : n.number ≡ 0
+  pub nodes : n.among ≡ length n.peer.counts
+  pub held : IsHeld (length n.peer.counts) g n.peer
+
+-- the sources and counts of a node
+abbrev pub peer_by : {N : Type 0} → (N → NodeView) → N → Peer
+peer_by view n = (view n).peer
 
 -- the failure is this refusal, or memory was wanting
 abbrev pub IsRefusal : Refusal → Failure → Type 0

@@ -1,12 +1,13 @@
 //! `check`: what a graph's variables are, as a text.
 
-ghost use Rattle.std.specs.Prelude.{◌≡◌, ◌<◌, ◌≤◌, ◌++◌, ◌∷◌, [], ℕ, List, length, OnOk, IfOk, Ok, string_bytes};
+ghost use Rattle.std.specs.Prelude.{◌≡◌, ◌<◌, ◌++◌, ◌∷◌, [], length, OnOk, IfOk, Ok, string_bytes};
 ghost use Rattle.std.specs.Fmt.{decimal};
 ghost use Rattle.model_graph.specs.Lawful.{widths, width_at};
 ghost use Rattle.model_world.specs.Line.{line};
 ghost use Rattle.model_program.specs.Check.{kind_word, check_line, check_text};
-ghost use Rattle.model_program.specs.Follows.{view, Gives, Follows};
+ghost use Rattle.model_program.specs.Follows.{Gives, Follows};
 ghost use Rattle.model_program.specs.Program.{checking};
+ghost use Rattle.model_program.specs.Call.{AreUnchanged, AreLater, seen};
 ghost use Rattle.lasp_graph.specs.Kind.{kind_of};
 ghost use Rattle.lasp_graph.specs.Decl.{decl_of};
 ghost use Rattle.lasp_graph.specs.Library.{library_of};
@@ -49,8 +50,8 @@ fn push_variable(text: &mut String, decl: &Decl, width: u8) -> Result<(), AllocE
     text.push('\n')
 }
 
-#[tactic(auto, using(crate::proofs::CheckLaws::checking))]
 /// A line for each variable of a graph.
+#[tactic(auto, using(crate::proofs::CheckLaws::checking))]
 fn graph_text(alloc: Global, graph: &Graph) -> Result<Vec<u8>, AllocError>
     ensures { IfOk result (λ text. text.items ≡ check_text graph.now) }
 {
@@ -78,9 +79,9 @@ pub fn run_check<F: Files>(
     lib: &Library,
 ) -> Result<Vec<u8>, Failure>
     requires { 1 < length words.now }
-    ensures same { (name : List ℕ) → F.content files.new name ≡ F.content files.old name }
-    ensures later { (name : List ℕ) → F.faults files.old name ≤ F.faults files.new name }
-    ensures follows { Follows (words_of words.now) (view (F.content files.old) (F.faults files.old) (F.faults files.new)) (checking (library_of lib.now)) (answered result) }
+    ensures same { AreUnchanged F.content files.old files.new }
+    ensures later { AreLater F.faults files.old files.new }
+    ensures follows { Follows (words_of words.now) (seen F.content F.faults files.old files.new) (checking (library_of lib.now)) (answered result) }
 {
     match open_graph(alloc, words, files, lib) {
         Ok(graph) => text_of(alloc, &graph),

@@ -1,9 +1,9 @@
 //! How a call ends: its text on `out`, or its one line on `err`, and its status.
 
-ghost use Rattle.std.specs.Prelude.{◌≡◌, ◌≤◌, ◌∷◌, [], codes};
+ghost use Rattle.std.specs.Prelude.{◌≤◌};
 ghost use Rattle.lasp_run.specs.Words.{words_of, answered};
-ghost use Rattle.model_program.specs.Line.{status_of};
-ghost use Rattle.model_program.specs.Ends.{Ends, writing};
+ghost use Rattle.model_program.specs.Ends.{Ends};
+ghost use Rattle.model_program.specs.Call.{writing_of};
 
 mod line;
 mod status;
@@ -14,13 +14,17 @@ use crate::ending::tell::{tell, tell_failure};
 use lasp_edge::Sink;
 use model_program::Failure;
 
-#[tactic(auto, unfolding(model_program::specs::Ends::Ends))]
+/// Writes the text by one `put`; an empty one by none, so no fault can come.
+#[tactic(auto, unfolding(model_program::specs::Ends::Ends), using(crate::proofs::TellLaws::texts))]
 fn end_with_text<O: Sink, E: Sink>(words: &[String], text: &[u8], out: &mut O, err: &mut E) -> u8
     ensures out_later { O.faults out.old ≤ O.faults out.new }
     ensures err_later { E.faults err.old ≤ E.faults err.new }
-    ensures ends { Ends (words_of words.now) (Ok text.now) (writing (O.written out.old) (O.written out.new) (O.faults out.old) (O.faults out.new))
-        (writing (E.written err.old) (E.written err.new) (E.faults err.old) (E.faults err.new)) result }
+    ensures ends { Ends (words_of words.now) (Ok text.now) (writing_of O.written O.faults out.old out.new)
+        (writing_of E.written E.faults err.old err.new) result }
 {
+    if text.is_empty() {
+        return 0;
+    }
     match out.put(text) {
         Ok(()) => 0,
         Err(_) => {
@@ -30,8 +34,8 @@ fn end_with_text<O: Sink, E: Sink>(words: &[String], text: &[u8], out: &mut O, e
     }
 }
 
-#[tactic(auto, unfolding(model_program::specs::Ends::Ends))]
 /// Writes the text, or says why there is none, and answers the status.
+#[tactic(auto, unfolding(model_program::specs::Ends::Ends))]
 pub fn end<O: Sink, E: Sink>(
     words: &[String],
     answer: Result<Vec<u8>, Failure>,
@@ -40,8 +44,8 @@ pub fn end<O: Sink, E: Sink>(
 ) -> u8
     ensures out_later { O.faults out.old ≤ O.faults out.new }
     ensures err_later { E.faults err.old ≤ E.faults err.new }
-    ensures ends { Ends (words_of words.now) (answered answer) (writing (O.written out.old) (O.written out.new) (O.faults out.old) (O.faults out.new))
-        (writing (E.written err.old) (E.written err.new) (E.faults err.old) (E.faults err.new)) result }
+    ensures ends { Ends (words_of words.now) (answered answer) (writing_of O.written O.faults out.old out.new)
+        (writing_of E.written E.faults err.old err.new) result }
 {
     match answer {
         Ok(text) => end_with_text(words, &text, out, err),

@@ -2,14 +2,14 @@
 #![tactic(auto)]
 
 mod check;
+mod dots;
 mod ending;
 mod form;
 mod merge;
 mod name;
+mod number;
 mod open;
-mod play;
 mod program;
 mod run;
 
-pub use play::{drive_on, export_on, run_on};
 pub use program::one_thread;

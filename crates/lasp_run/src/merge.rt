@@ -1,14 +1,15 @@
 //! `merge`: the graph, the messages of files, joined one after the other, and what the variables show of all of them.
 
-ghost use Rattle.std.specs.Prelude.{◌≡◌, ◌<◌, ◌≤◌, ◌+◌, ◌-◌, ℕ, List, Some, None, IfOk, length};
+ghost use Rattle.std.specs.Prelude.{◌<◌, ◌+◌, ◌-◌, Some, None, IfOk, length};
 ghost use Rattle.std.specs.Arc.{arc_value};
 ghost use Rattle.model_readings.specs.Lawful.{FitsAll};
-ghost use Rattle.model_program.specs.Plan.{Says};
-ghost use Rattle.model_program.specs.Follows.{view, Performs, Follows};
+ghost use Rattle.model_program.specs.Plan.{Says, exactly};
+ghost use Rattle.model_program.specs.Follows.{Performs, Follows};
 ghost use Rattle.model_program.specs.Merge.{merging_file, merging_more, merging_files, merge_answer};
 ghost use Rattle.model_program.specs.Program.{merging};
+ghost use Rattle.model_program.specs.Call.{AreUnchanged, AreLater, seen};
 ghost use Rattle.lasp_graph.specs.Library.{library_of};
-ghost use Rattle.lasp_run.specs.Merge.{IsReplica, ComesTo};
+ghost use Rattle.lasp_run.specs.Merge.{peer_by, IsReplica, ComesTo};
 ghost use Rattle.lasp_run.specs.Words.{words_of, answered};
 
 mod join;
@@ -33,10 +34,10 @@ fn merge_first<N: Node, F: Files>(
     files: &mut F,
 ) -> Result<N, Failure>
     requires { 2 < length words.now }
-    ensures same { (name : List ℕ) → F.content files.new name ≡ F.content files.old name }
-    ensures later { (name : List ℕ) → F.faults files.old name ≤ F.faults files.new name }
-    ensures part { Performs N.peer (words_of words.now) (view (F.content files.old) (F.faults files.old) (F.faults files.new)) (merging_file (arc_value graph.now) 0 None) result }
-    ensures node { IfOk result (IsReplica N.decls N.number N.among N.peer (arc_value graph.now)) }
+    ensures same { AreUnchanged F.content files.old files.new }
+    ensures later { AreLater F.faults files.old files.new }
+    ensures part { Performs (peer_by N.view) (words_of words.now) (seen F.content F.faults files.old files.new) (merging_file (arc_value graph.now) 0 None) result }
+    ensures node { IfOk result (λ node. IsReplica (arc_value graph.now) (N.view node)) }
 {
     match read_file(alloc, words, 2, files) {
         Ok(bytes) => join_first(alloc, graph, &bytes),
@@ -54,11 +55,11 @@ fn merge_next<N: Node, F: Files>(
     files: &mut F,
 ) -> Result<N, Failure>
     requires word { number + 2 < length words.now }
-    requires node { IsReplica N.decls N.number N.among N.peer graph.now node }
-    ensures same { (name : List ℕ) → F.content files.new name ≡ F.content files.old name }
-    ensures later { (name : List ℕ) → F.faults files.old name ≤ F.faults files.new name }
-    ensures part { Performs N.peer (words_of words.now) (view (F.content files.old) (F.faults files.old) (F.faults files.new)) (merging_file graph.now number (Some (N.peer node))) result }
-    ensures node { IfOk result (IsReplica N.decls N.number N.among N.peer graph.now) }
+    requires node { IsReplica graph.now (N.view node) }
+    ensures same { AreUnchanged F.content files.old files.new }
+    ensures later { AreLater F.faults files.old files.new }
+    ensures part { Performs (peer_by N.view) (words_of words.now) (seen F.content F.faults files.old files.new) (merging_file graph.now number (Some (N.view node).peer)) result }
+    ensures node { IfOk result (λ node. IsReplica graph.now (N.view node)) }
 {
     match read_file(alloc, words, usize::from(number) + 2, files) {
         Ok(bytes) => join_next(alloc, graph, number, node, &bytes),
@@ -76,11 +77,11 @@ fn merge_rest<N: Node, F: Files>(
 ) -> Result<N, Failure>
     requires some { 2 < length words.now }
     requires few { length words.now < 11 }
-    requires node { IsReplica N.decls N.number N.among N.peer graph.now first }
-    ensures same { (name : List ℕ) → F.content files.new name ≡ F.content files.old name }
-    ensures later { (name : List ℕ) → F.faults files.old name ≤ F.faults files.new name }
-    ensures rest { ComesTo N.peer (words_of words.now) (view (F.content files.old) (F.faults files.old) (F.faults files.new)) (merging_more graph.now 1 (length words.now - 3) (N.peer first)) (λ r. Says (merge_answer graph.now (length words.now - 2) r)) result }
-    ensures node { IfOk result (IsReplica N.decls N.number N.among N.peer graph.now) }
+    requires node { IsReplica graph.now (N.view first) }
+    ensures same { AreUnchanged F.content files.old files.new }
+    ensures later { AreLater F.faults files.old files.new }
+    ensures rest { ComesTo (peer_by N.view) (words_of words.now) (seen F.content F.faults files.old files.new) (merging_more graph.now 1 (length words.now - 3) (N.view first).peer) (λ r. Says (exactly (merge_answer graph.now (length words.now - 2) r))) result }
+    ensures node { IfOk result (λ node. IsReplica graph.now (N.view node)) }
 {
     let mut node = first;
     for number in 1..(words.len() - 2) as u8 {
@@ -103,11 +104,11 @@ fn merge_more<N: Node, F: Files>(
 ) -> Result<Vec<u8>, Failure>
     requires some { 2 < length words.now }
     requires few { length words.now < 11 }
-    requires node { IsReplica N.decls N.number N.among N.peer graph.now first }
+    requires node { IsReplica graph.now (N.view first) }
     requires fits { FitsAll (library_of lib.now) graph.now }
-    ensures same { (name : List ℕ) → F.content files.new name ≡ F.content files.old name }
-    ensures later { (name : List ℕ) → F.faults files.old name ≤ F.faults files.new name }
-    ensures follows { Follows (words_of words.now) (view (F.content files.old) (F.faults files.old) (F.faults files.new)) (merging_more graph.now 1 (length words.now - 3) (N.peer first)) (answered result) }
+    ensures same { AreUnchanged F.content files.old files.new }
+    ensures later { AreLater F.faults files.old files.new }
+    ensures follows { Follows (words_of words.now) (seen F.content F.faults files.old files.new) (merging_more graph.now 1 (length words.now - 3) (N.view first).peer) (answered result) }
 {
     match merge_rest(alloc, words, graph, first, files) {
         Ok(node) => merged_text(alloc, graph, (words.len() - 2) as u8, node, lib),
@@ -126,9 +127,9 @@ fn merge_files<N: Node, F: Files>(
     requires some { 2 < length words.now }
     requires few { length words.now < 11 }
     requires fits { FitsAll (library_of lib.now) (arc_value graph.now) }
-    ensures same { (name : List ℕ) → F.content files.new name ≡ F.content files.old name }
-    ensures later { (name : List ℕ) → F.faults files.old name ≤ F.faults files.new name }
-    ensures follows { Follows (words_of words.now) (view (F.content files.old) (F.faults files.old) (F.faults files.new)) (merging_files (arc_value graph.now) (length words.now - 3)) (answered result) }
+    ensures same { AreUnchanged F.content files.old files.new }
+    ensures later { AreLater F.faults files.old files.new }
+    ensures follows { Follows (words_of words.now) (seen F.content F.faults files.old files.new) (merging_files (arc_value graph.now) (length words.now - 3)) (answered result) }
 {
     match merge_first::<N, F>(alloc, words, graph, files) {
         Ok(node) => merge_more(alloc, words, graph, node, files, lib),
@@ -145,9 +146,9 @@ pub fn run_merge<N: Node, F: Files>(
 ) -> Result<Vec<u8>, Failure>
     requires some { 2 < length words.now }
     requires few { length words.now < 11 }
-    ensures same { (name : List ℕ) → F.content files.new name ≡ F.content files.old name }
-    ensures later { (name : List ℕ) → F.faults files.old name ≤ F.faults files.new name }
-    ensures follows { Follows (words_of words.now) (view (F.content files.old) (F.faults files.old) (F.faults files.new)) (merging (library_of lib.now) (length words.now - 3)) (answered result) }
+    ensures same { AreUnchanged F.content files.old files.new }
+    ensures later { AreLater F.faults files.old files.new }
+    ensures follows { Follows (words_of words.now) (seen F.content F.faults files.old files.new) (merging (library_of lib.now) (length words.now - 3)) (answered result) }
 {
     match open_shared(alloc, words, files, lib) {
         Ok(graph) => merge_files::<N, F>(alloc, words, &graph, files, lib),

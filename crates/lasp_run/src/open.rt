@@ -1,16 +1,18 @@
 //! The parts of the program that read files: the graph, and the script against it.
 
-ghost use Rattle.std.specs.Prelude.{◌≡◌, ◌<◌, ◌≤◌, ℕ, List, length, IfOk};
+ghost use Rattle.std.specs.Prelude.{◌≡◌, ◌<◌, length, IfOk};
 ghost use Rattle.std.specs.Arc.{arc_value};
 ghost use Rattle.model_graph.specs.Chain.{refusing};
 ghost use Rattle.model_readings.specs.Graph.{graph_of};
 ghost use Rattle.model_readings.specs.Lawful.{FitsAll};
 ghost use Rattle.model_scripts.specs.Script.{script_of};
 ghost use Rattle.model_program.specs.Plan.{reading, word_at};
-ghost use Rattle.model_program.specs.Follows.{view, Gives, Performs};
+ghost use Rattle.model_program.specs.Follows.{Gives, Performs};
 ghost use Rattle.model_program.specs.Program.{graph_refused, script_refused, opening, scripting};
+ghost use Rattle.model_program.specs.Call.{AreUnchanged, AreLater, seen};
 ghost use Rattle.lasp_graph.specs.Library.{library_of};
-ghost use Rattle.lasp_run.specs.Run.{IsRunnable, opened_of, opening_run};
+ghost use Rattle.lasp_drive.specs.Run.{IsRunnable};
+ghost use Rattle.lasp_run.specs.Run.{opened_of, opening_run};
 ghost use Rattle.lasp_run.specs.Words.{words_of};
 
 use lasp_edge::{Fetch, Files};
@@ -42,9 +44,9 @@ pub fn read_file<F: Files>(
     files: &mut F,
 ) -> Result<Vec<u8>, Failure>
     requires { file < length words.now }
-    ensures same { (name : List ℕ) → F.content files.new name ≡ F.content files.old name }
-    ensures later { (name : List ℕ) → F.faults files.old name ≤ F.faults files.new name }
-    ensures part { Performs (λ bytes. bytes.items) (words_of words.now) (view (F.content files.old) (F.faults files.old) (F.faults files.new)) (reading file) result }
+    ensures same { AreUnchanged F.content files.old files.new }
+    ensures later { AreLater F.faults files.old files.new }
+    ensures part { Performs (λ bytes. bytes.items) (words_of words.now) (seen F.content F.faults files.old files.new) (reading file) result }
 {
     match files.fetch(alloc, name_of(words, file), FILE_LIMIT) {
         Ok(bytes) => Ok(bytes),
@@ -66,7 +68,13 @@ fn graph_from(alloc: Global, bytes: &[u8], lib: &Library) -> Result<Graph, Failu
     }
 }
 
-fn script_from(alloc: Global, graph: &Graph, bytes: &[u8], lib: &Library) -> Result<Script, Failure>
+/// The script that the bytes of a file are against a graph.
+pub fn script_from(
+    alloc: Global,
+    graph: &Graph,
+    bytes: &[u8],
+    lib: &Library,
+) -> Result<Script, Failure>
     requires fits { FitsAll (library_of lib.now) graph.now }
     ensures exact { Gives (λ s. s) (refusing script_refused (script_of (library_of lib.now) graph.now bytes.now)) result }
     ensures runnable { IfOk result (λ s. IsRunnable (library_of lib.now) graph.now s) }
@@ -88,9 +96,9 @@ pub fn open_graph<F: Files>(
     lib: &Library,
 ) -> Result<Graph, Failure>
     requires { 1 < length words.now }
-    ensures same { (name : List ℕ) → F.content files.new name ≡ F.content files.old name }
-    ensures later { (name : List ℕ) → F.faults files.old name ≤ F.faults files.new name }
-    ensures part { Performs (λ g. g) (words_of words.now) (view (F.content files.old) (F.faults files.old) (F.faults files.new)) (opening (library_of lib.now)) result }
+    ensures same { AreUnchanged F.content files.old files.new }
+    ensures later { AreLater F.faults files.old files.new }
+    ensures part { Performs (λ g. g) (words_of words.now) (seen F.content F.faults files.old files.new) (opening (library_of lib.now)) result }
     ensures fits { IfOk result (λ g. FitsAll (library_of lib.now) g) }
 {
     match read_file(alloc, words, 1, files) {
@@ -107,9 +115,9 @@ pub fn open_shared<F: Files>(
     lib: &Library,
 ) -> Result<Arc<Graph>, Failure>
     requires { 1 < length words.now }
-    ensures same { (name : List ℕ) → F.content files.new name ≡ F.content files.old name }
-    ensures later { (name : List ℕ) → F.faults files.old name ≤ F.faults files.new name }
-    ensures part { Performs arc_value (words_of words.now) (view (F.content files.old) (F.faults files.old) (F.faults files.new)) (opening (library_of lib.now)) result }
+    ensures same { AreUnchanged F.content files.old files.new }
+    ensures later { AreLater F.faults files.old files.new }
+    ensures part { Performs arc_value (words_of words.now) (seen F.content F.faults files.old files.new) (opening (library_of lib.now)) result }
     ensures fits { IfOk result (λ g. FitsAll (library_of lib.now) (arc_value g)) }
 {
     match open_graph(alloc, words, files, lib) {
@@ -131,9 +139,9 @@ pub fn open_script<F: Files>(
 ) -> Result<Script, Failure>
     requires words { 2 < length words.now }
     requires fits { FitsAll (library_of lib.now) graph.now }
-    ensures same { (name : List ℕ) → F.content files.new name ≡ F.content files.old name }
-    ensures later { (name : List ℕ) → F.faults files.old name ≤ F.faults files.new name }
-    ensures part { Performs (λ s. s) (words_of words.now) (view (F.content files.old) (F.faults files.old) (F.faults files.new)) (scripting (library_of lib.now) graph.now) result }
+    ensures same { AreUnchanged F.content files.old files.new }
+    ensures later { AreLater F.faults files.old files.new }
+    ensures part { Performs (λ s. s) (words_of words.now) (seen F.content F.faults files.old files.new) (scripting (library_of lib.now) graph.now) result }
     ensures runnable { IfOk result (λ s. IsRunnable (library_of lib.now) graph.now s) }
 {
     match read_file(alloc, words, 2, files) {
@@ -159,9 +167,9 @@ pub fn open_run<F: Files>(
     lib: &Library,
 ) -> Result<Opened, Failure>
     requires { 2 < length words.now }
-    ensures same { (name : List ℕ) → F.content files.new name ≡ F.content files.old name }
-    ensures later { (name : List ℕ) → F.faults files.old name ≤ F.faults files.new name }
-    ensures part { Performs opened_of (words_of words.now) (view (F.content files.old) (F.faults files.old) (F.faults files.new)) (opening_run (library_of lib.now)) result }
+    ensures same { AreUnchanged F.content files.old files.new }
+    ensures later { AreLater F.faults files.old files.new }
+    ensures part { Performs opened_of (words_of words.now) (seen F.content F.faults files.old files.new) (opening_run (library_of lib.now)) result }
     ensures runnable { IfOk result (λ o. IsRunnable (library_of lib.now) (arc_value o.graph) o.script) }
 {
     match open_shared(alloc, words, files, lib) {

@@ -1,21 +1,22 @@
 //! `plain` and `export`: the graph, the script, its run, and a text of the run's last world.
 
-ghost use Rattle.std.specs.Prelude.{◌≡◌, ◌<◌, ◌≤◌, ℕ, List, length};
+ghost use Rattle.std.specs.Prelude.{◌<◌, length};
 ghost use Rattle.std.specs.Arc.{arc_value};
 ghost use Rattle.model_world.specs.Lawful.{IsLawful};
 ghost use Rattle.model_world.specs.Report.{report_of};
 ghost use Rattle.model_world.specs.World.{ended};
-ghost use Rattle.model_program.specs.Follows.{view, Gives, Follows};
+ghost use Rattle.model_program.specs.Follows.{Gives, Follows};
 ghost use Rattle.model_program.specs.Program.{running, run_answer, exporting, export_answer};
-ghost use Rattle.lasp_drive.specs.Driver.{Halts};
+ghost use Rattle.model_program.specs.Call.{AreUnchanged, AreLater, seen};
+ghost use Rattle.lasp_drive.specs.Acts.{Halts};
+ghost use Rattle.lasp_drive.specs.Run.{IsRunnable};
 ghost use Rattle.lasp_graph.specs.Library.{library_of};
-ghost use Rattle.lasp_run.specs.Run.{IsRunnable, IsStop};
+ghost use Rattle.lasp_run.specs.Run.{IsStop};
 ghost use Rattle.lasp_run.specs.Words.{words_of, answered};
 
 use crate::name::declared_name;
 use crate::open::open_run;
-use crate::play::{drive_on, export_on};
-use lasp_drive::{Halt, Node};
+use lasp_drive::{Halt, Node, drive_on, export_on};
 use lasp_edge::Files;
 use lasp_fns::Library;
 use lasp_graph::Graph;
@@ -92,9 +93,9 @@ pub fn run_plain<N: Node, F: Files>(
     lib: &Library,
 ) -> Result<Vec<u8>, Failure>
     requires { 2 < length words.now }
-    ensures same { (name : List ℕ) → F.content files.new name ≡ F.content files.old name }
-    ensures later { (name : List ℕ) → F.faults files.old name ≤ F.faults files.new name }
-    ensures follows { Follows (words_of words.now) (view (F.content files.old) (F.faults files.old) (F.faults files.new)) (running (library_of lib.now) report_of) (answered result) }
+    ensures same { AreUnchanged F.content files.old files.new }
+    ensures later { AreLater F.faults files.old files.new }
+    ensures follows { Follows (words_of words.now) (seen F.content F.faults files.old files.new) (running (library_of lib.now) report_of) (answered result) }
 {
     match open_run(alloc, words, files, lib) {
         Ok(opened) => report::<N>(alloc, &opened.graph, lib, &opened.script),
@@ -111,9 +112,9 @@ pub fn run_export<N: Node, F: Files>(
     lib: &Library,
 ) -> Result<Vec<u8>, Failure>
     requires { 2 < length words.now }
-    ensures same { (name : List ℕ) → F.content files.new name ≡ F.content files.old name }
-    ensures later { (name : List ℕ) → F.faults files.old name ≤ F.faults files.new name }
-    ensures follows { Follows (words_of words.now) (view (F.content files.old) (F.faults files.old) (F.faults files.new)) (exporting (library_of lib.now) node) (answered result) }
+    ensures same { AreUnchanged F.content files.old files.new }
+    ensures later { AreLater F.faults files.old files.new }
+    ensures follows { Follows (words_of words.now) (seen F.content F.faults files.old files.new) (exporting (library_of lib.now) node) (answered result) }
 {
     match open_run(alloc, words, files, lib) {
         Ok(opened) => message::<N>(alloc, &opened.graph, lib, &opened.script, node),

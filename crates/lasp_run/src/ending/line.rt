@@ -7,8 +7,8 @@ ghost use Rattle.model_world.specs.Line.{line, line_rest};
 
 use lasp_edge::{Failed, Sink};
 
-#[tactic(auto, using(crate::proofs::TellLaws::appending))]
 /// Writes two pieces, the second where the first was written whole.
+#[tactic(auto, using(crate::proofs::TellLaws::appending))]
 fn put_both<S: Sink>(sink: &mut S, first: &[u8], second: &[u8]) -> Result<(), Failed>
     ensures later { S.faults sink.old ≤ S.faults sink.new }
     ensures ok { OnOk result (Appends (S.written sink.old) (first.now ++ second.now) (S.written sink.new)) }
@@ -21,8 +21,8 @@ fn put_both<S: Sink>(sink: &mut S, first: &[u8], second: &[u8]) -> Result<(), Fa
     }
 }
 
-#[tactic(auto, using(crate::proofs::TellLaws::appending))]
 /// Writes each word after a space, and the line's end.
+#[tactic(auto, using(crate::proofs::TellLaws::appending))]
 fn put_rest<S: Sink>(sink: &mut S, words: &[&[u8]]) -> Result<(), Failed>
     ensures later { S.faults sink.old ≤ S.faults sink.new }
     ensures ok { OnOk result (Appends (S.written sink.old) (line_rest (map (λ w. w.now) words.now)) (S.written sink.new)) }
@@ -38,8 +38,8 @@ fn put_rest<S: Sink>(sink: &mut S, words: &[&[u8]]) -> Result<(), Failed>
     }
 }
 
-#[tactic(auto, using(crate::proofs::TellLaws::appending))]
 /// Writes a line of words, separated by one space each.
+#[tactic(auto, using(crate::proofs::TellLaws::appending))]
 pub fn put_line<S: Sink>(sink: &mut S, first: &[u8], rest: &[&[u8]]) -> Result<(), Failed>
     ensures later { S.faults sink.old ≤ S.faults sink.new }
     ensures ok { OnOk result (Appends (S.written sink.old) (line (first.now ∷ map (λ w. w.now) rest.now)) (S.written sink.new)) }

@@ -11,7 +11,7 @@ fn refusal_status(refusal: &Refusal) -> u8
     match refusal {
         Refusal::Usage => 1,
         Refusal::Graph(_, _) => 2,
-        Refusal::Script(_, _) => 3,
+        Refusal::Script(_, _) | Refusal::NotDots(_) => 3,
         Refusal::TooLong(_) => 4,
         Refusal::TooLarge(_, _, _) | Refusal::NetworkFull(_) => 6,
         Refusal::NotReached(_) => 8,

@@ -6,7 +6,8 @@ ghost use Rattle.lasp_run.specs.Words.{words_of};
 ghost use Rattle.model_world.specs.Line.{line};
 ghost use Rattle.model_program.specs.Plan.{word_at};
 ghost use Rattle.model_program.specs.Line.{graph_why_text, script_why_text, wire_why_text, state_why_text, refusal_words, line_of};
-ghost use Rattle.model_program.specs.Ends.{Tells, writing};
+ghost use Rattle.model_program.specs.Ends.{Tells};
+ghost use Rattle.model_program.specs.Call.{writing_of};
 
 use crate::ending::line::put_line;
 use itoa::Buffer;
@@ -91,14 +92,14 @@ fn state_why(why: StateWhy) -> &'static [u8]
 /// Writes one line of words.
 pub fn tell<E: Sink>(err: &mut E, first: &[u8], rest: &[&[u8]])
     ensures later { E.faults err.old ≤ E.faults err.new }
-    ensures told { Tells (writing (E.written err.old) (E.written err.new) (E.faults err.old) (E.faults err.new)) (line (first.now ∷ map (λ w. w.now) rest.now)) }
+    ensures told { Tells (writing_of E.written E.faults err.old err.new) (line (first.now ∷ map (λ w. w.now) rest.now)) }
 {
     let _ = put_line(err, first, rest);
 }
 
 fn tell_number<E: Sink>(err: &mut E, first: &[u8], number: u32)
     ensures later { E.faults err.old ≤ E.faults err.new }
-    ensures told { Tells (writing (E.written err.old) (E.written err.new) (E.faults err.old) (E.faults err.new)) (line (first.now ∷ decimal number ∷ [])) }
+    ensures told { Tells (writing_of E.written E.faults err.old err.new) (line (first.now ∷ decimal number ∷ [])) }
 {
     let mut digits = Buffer::new();
     tell(err, first, &[digits.format(number).as_bytes()]);
@@ -106,7 +107,7 @@ fn tell_number<E: Sink>(err: &mut E, first: &[u8], number: u32)
 
 fn tell_state<E: Sink>(err: &mut E, name: &[u8], place: u64, why: &[u8])
     ensures later { E.faults err.old ≤ E.faults err.new }
-    ensures told { Tells (writing (E.written err.old) (E.written err.new) (E.faults err.old) (E.faults err.new)) (line (codes "state" ∷ name.now ∷ decimal place ∷ why.now ∷ [])) }
+    ensures told { Tells (writing_of E.written E.faults err.old err.new) (line (codes "state" ∷ name.now ∷ decimal place ∷ why.now ∷ [])) }
 {
     let mut digits = Buffer::new();
     tell(err, b"state", &[name, digits.format(place).as_bytes(), why]);
@@ -114,7 +115,7 @@ fn tell_state<E: Sink>(err: &mut E, name: &[u8], place: u64, why: &[u8])
 
 fn tell_refusal<E: Sink>(words: &[String], refusal: &Refusal, err: &mut E)
     ensures later { E.faults err.old ≤ E.faults err.new }
-    ensures told { Tells (writing (E.written err.old) (E.written err.new) (E.faults err.old) (E.faults err.new)) (line (refusal_words (words_of words.now) refusal.now)) }
+    ensures told { Tells (writing_of E.written E.faults err.old err.new) (line (refusal_words (words_of words.now) refusal.now)) }
 {
     let mut first = Buffer::new();
     let mut second = Buffer::new();
@@ -130,6 +131,11 @@ fn tell_refusal<E: Sink>(words: &[String], refusal: &Refusal, err: &mut E)
             err,
             b"script",
             &[first.format(*number).as_bytes(), script_why(*why)],
+        ),
+        Refusal::NotDots(command) => tell(
+            err,
+            b"script",
+            &[first.format(*command).as_bytes(), b"NotDots"],
         ),
         Refusal::TooLarge(command, node, name) => tell(
             err,
@@ -151,7 +157,7 @@ fn tell_refusal<E: Sink>(words: &[String], refusal: &Refusal, err: &mut E)
 /// Writes the line of a failure.
 pub fn tell_failure<E: Sink>(words: &[String], failure: &Failure, err: &mut E)
     ensures later { E.faults err.old ≤ E.faults err.new }
-    ensures told { Tells (writing (E.written err.old) (E.written err.new) (E.faults err.old) (E.faults err.new)) (line_of (words_of words.now) failure.now) }
+    ensures told { Tells (writing_of E.written E.faults err.old err.new) (line_of (words_of words.now) failure.now) }
 {
     match failure {
         Failure::Refused(refusal) => tell_refusal(words, refusal, err),

@@ -9,7 +9,7 @@ ghost use Rattle.model_wire.specs.Message.{decoded};
 ghost use Rattle.model_program.specs.Follows.{Gives};
 ghost use Rattle.model_program.specs.Merge.{state_refused, may_take, message_joined, file_joined};
 ghost use Rattle.model_program.specs.declared.refusal.Refusal.TheVariants as refusal;
-ghost use Rattle.lasp_run.specs.Merge.{IsReplica, IsRefusal};
+ghost use Rattle.lasp_run.specs.Merge.{peer_by, IsReplica, IsRefusal};
 
 use lasp_core::begins;
 use lasp_drive::{Node, NodeStop};
@@ -58,7 +58,7 @@ pub fn too_large(graph: &Graph, number: u8, var: u8) -> Failure
 
 /// Whether a node may take a message: it is of the graph, and of as many nodes.
 fn may_take<N: Node>(graph: &Graph, node: &N, message: &Message) -> bool
-    ensures { result ≡ may_take graph.now (N.peer node.now) message.now }
+    ensures { result ≡ may_take graph.now (N.view node.now).peer message.now }
 {
     begins(graph, message) && message.counts().len() == node.counts().len() as u64
 }
@@ -72,10 +72,10 @@ fn join<N: Node>(
     mut node: N,
     message: &Arc<Message>,
 ) -> Result<N, Failure>
-    requires node { IsReplica N.decls N.number N.among N.peer graph.now node }
+    requires node { IsReplica graph.now (N.view node) }
     requires message { IsMessage (arc_value message.now) }
-    ensures exact { Gives N.peer (message_joined graph.now number (N.peer node) (arc_value message.now)) result }
-    ensures node { IfOk result (IsReplica N.decls N.number N.among N.peer graph.now) }
+    ensures exact { Gives (peer_by N.view) (message_joined graph.now number (N.view node).peer (arc_value message.now)) result }
+    ensures node { IfOk result (λ node. IsReplica graph.now (N.view node)) }
 {
     if !may_take(graph, &node, message) {
         return Err(Failure::Refused(Refusal::State(place_of(number), 0, StateWhy::WrongGraph)));
@@ -90,8 +90,8 @@ fn join<N: Node>(
 #[tactic(auto, using(crate::proofs::JoinLaws::replicas))]
 /// The node after the first file.
 pub fn join_first<N: Node>(alloc: Global, graph: &Arc<Graph>, bytes: &[u8]) -> Result<N, Failure>
-    ensures exact { Gives N.peer (file_joined (arc_value graph.now) 0 None bytes.now) result }
-    ensures node { IfOk result (IsReplica N.decls N.number N.among N.peer (arc_value graph.now)) }
+    ensures exact { Gives (peer_by N.view) (file_joined (arc_value graph.now) 0 None bytes.now) result }
+    ensures node { IfOk result (λ node. IsReplica (arc_value graph.now) (N.view node)) }
 {
     match read_message(alloc, 0, bytes) {
         Ok(message) => match N::new(alloc, graph, 0, message.counts().len() as u8) {
@@ -110,9 +110,9 @@ pub fn join_next<N: Node>(
     node: N,
     bytes: &[u8],
 ) -> Result<N, Failure>
-    requires node { IsReplica N.decls N.number N.among N.peer graph.now node }
-    ensures exact { Gives N.peer (file_joined graph.now number (Some (N.peer node)) bytes.now) result }
-    ensures node { IfOk result (IsReplica N.decls N.number N.among N.peer graph.now) }
+    requires node { IsReplica graph.now (N.view node) }
+    ensures exact { Gives (peer_by N.view) (file_joined graph.now number (Some (N.view node).peer) bytes.now) result }
+    ensures node { IfOk result (λ node. IsReplica graph.now (N.view node)) }
 {
     match read_message(alloc, number, bytes) {
         Ok(message) => join(alloc, graph, number, node, &message),

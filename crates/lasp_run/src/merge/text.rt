@@ -29,9 +29,9 @@ fn push_value(text: &mut String, name: &str, state: &State) -> Result<(), AllocE
 
 /// Appends a line for each variable of a settled node.
 fn push_values<N: Node>(text: &mut String, graph: &Graph, node: &N) -> Result<(), AllocError>
-    requires graph { N.decls node.now ≡ graph.now }
-    requires settled { N.shown node.now ≡ shown_at graph.now (N.peer node.now) }
-    ensures { OnOk result (string_bytes text.new ≡ string_bytes text.old ++ value_lines 0 graph.now (shown_at graph.now (N.peer node.now))) }
+    requires graph { (N.view node.now).decls ≡ graph.now }
+    requires settled { (N.view node.now).shown ≡ shown_at graph.now (N.view node.now).peer }
+    ensures { OnOk result (string_bytes text.new ≡ string_bytes text.old ++ value_lines 0 graph.now (shown_at graph.now (N.view node.now).peer)) }
 {
     for x in 0..graph.len() {
         push_value(text, graph.at(x).name.as_str(), node.state(x as u8))?;
@@ -48,9 +48,9 @@ fn push_known(text: &mut String, counts: &[u64]) -> Result<(), AllocError>
 }
 
 fn text_of<N: Node>(alloc: Global, graph: &Graph, node: &N) -> Result<Vec<u8>, AllocError>
-    requires graph { N.decls node.now ≡ graph.now }
-    requires settled { N.shown node.now ≡ shown_at graph.now (N.peer node.now) }
-    ensures { IfOk result (λ text. text.items ≡ merge_text graph.now (N.peer node.now)) }
+    requires graph { (N.view node.now).decls ≡ graph.now }
+    requires settled { (N.view node.now).shown ≡ shown_at graph.now (N.view node.now).peer }
+    ensures { IfOk result (λ text. text.items ≡ merge_text graph.now (N.view node.now).peer) }
 {
     let mut text = String::new(alloc);
     push_values(&mut text, graph, node)?;
@@ -66,9 +66,9 @@ pub fn merged_text<N: Node>(
     mut node: N,
     lib: &Library,
 ) -> Result<Vec<u8>, Failure>
-    requires node { IsReplica N.decls N.number N.among N.peer graph.now node }
+    requires node { IsReplica graph.now (N.view node) }
     requires fits { FitsAll (library_of lib.now) graph.now }
-    ensures { Gives (λ text. text.items) (merge_answer graph.now files (N.peer node)) result }
+    ensures { Gives (λ text. text.items) (merge_answer graph.now files (N.view node).peer) result }
 {
     match node.settle(alloc, lib) {
         Ok(()) => match text_of(alloc, graph, &node) {

@@ -1,6 +1,6 @@
 use Rattle.std.specs.Prelude.{List, Ok}
 use Rattle.model_graph.specs.Graph.{Decl}
-use Rattle.model_program.specs.Plan.{Says}
+use Rattle.model_program.specs.Plan.{Says, exactly}
 use Rattle.model_program.specs.Follows.{view}
 use Rattle.model_program.specs.Check.{check_text}
 use Rattle.model_program.proofs.PlanLaws.{part-itself, follows-says}
@@ -11,10 +11,10 @@ use Rattle.lasp_run.proofs.check.run_check.Goals as goal
 pub returns-in-Ok-clause-follows : goal.returns-in-Ok-clause-follows
 returns-in-Ok-clause-follows g c =
     let v = view (g.F.Files.content c.args.files.now) (g.F.Files.faults c.args.files.now) (g.F.Files.faults c.open_graph.new.files) in
-    c.in-Ok.ensures.part v (part-itself v) (λ (graph : List Decl). Says (Ok (check_text graph))) (answered c.text_of.result)
-    (follows-says (words_of c.args.words.now) v _ (answered c.text_of.result) (gives-answered _ c.text_of.result c.text_of.ensures))
+    c.in-Ok.ensures.part v (part-itself v) (λ (graph : List Decl). Says (exactly (Ok (check_text graph)))) (answered c.text_of.result)
+    (follows-says (words_of c.args.words.now) v (Ok (check_text c.in-Ok.graph)) (answered c.text_of.result) (gives-answered (Ok (check_text c.in-Ok.graph)) c.text_of.result c.text_of.ensures))
 
 pub returns-in-Err-clause-follows : goal.returns-in-Err-clause-follows
 returns-in-Err-clause-follows g c =
     let v = view (g.F.Files.content c.args.files.now) (g.F.Files.faults c.args.files.now) (g.F.Files.faults c.open_graph.new.files) in
-    c.in-Err.ensures.part v (part-itself v) (λ (graph : List Decl). Says (Ok (check_text graph)))
+    c.in-Err.ensures.part v (part-itself v) (λ (graph : List Decl). Says (exactly (Ok (check_text graph))))

@@ -17,7 +17,7 @@ returns-in-Ok-clause-follows g c =
     let early : IsPartOf first whole = record { content = λ n. refl; before = λ n. omega arith; after = λ n. c.merge_more.ensures.later n } in
     let late : IsPartOf rest whole = record { content = λ n. c.in-Ok.ensures.same n; before = λ n. c.in-Ok.ensures.later n; after = λ n. omega arith } in
     let next : Peer → Plan = λ r. merging_more (arc_value c.args.graph.now) 1 (length c.args.words.now - 3) r in
-    let more : Follows (words_of c.args.words.now) rest (merging_more (arc_value c.args.graph.now) 1 (length c.args.words.now - 3) (g.N.Node.peer c.in-Ok.node)) (answered c.merge_more.result) =
-    subst (λ (graph : List Decl). Follows (words_of c.args.words.now) rest (merging_more graph 1 (length c.args.words.now - 3) (g.N.Node.peer c.in-Ok.node)) (answered c.merge_more.result)) c.deref.ensures c.merge_more.ensures.follows in
+    let more : Follows (words_of c.args.words.now) rest (merging_more (arc_value c.args.graph.now) 1 (length c.args.words.now - 3) (g.N.Node.view c.in-Ok.node).peer) (answered c.merge_more.result) =
+    subst (λ (graph : List Decl). Follows (words_of c.args.words.now) rest (merging_more graph 1 (length c.args.words.now - 3) (g.N.Node.view c.in-Ok.node).peer) (answered c.merge_more.result)) c.deref.ensures c.merge_more.ensures.follows in
     c.in-Ok.ensures.part whole early next (answered c.merge_more.result)
-    (follows-wider (words_of c.args.words.now) rest whole (merging_more (arc_value c.args.graph.now) 1 (length c.args.words.now - 3) (g.N.Node.peer c.in-Ok.node)) (answered c.merge_more.result) late more)
+    (follows-wider (words_of c.args.words.now) rest whole (merging_more (arc_value c.args.graph.now) 1 (length c.args.words.now - 3) (g.N.Node.view c.in-Ok.node).peer) (answered c.merge_more.result) late more)

@@ -9,8 +9,8 @@ abbrev pub invariant-loop-number : goal.invariant-loop-number
 invariant-loop-number g l = record {
   some : 1 ≤ l.number;
   few : l.number + 2 ≤ length l.words;
-  node : IsReplica g.N.Node.decls g.N.Node.number g.N.Node.among g.N.Node.peer l.graph l.node;
+  node : IsReplica l.graph (g.N.Node.view l.node);
   same : (name : List ℕ) → g.F.Files.content l.files name ≡ g.F.Files.content l.fn.files name;
   later : (name : List ℕ) → g.F.Files.faults l.fn.files name ≤ g.F.Files.faults l.files name;
-  rest : Leads (words_of l.words) (view (g.F.Files.content l.fn.files) (g.F.Files.faults l.fn.files) (g.F.Files.faults l.files)) (merging_more l.graph 1 (length l.words - 3) (g.N.Node.peer l.fn.first)) (merging_more l.graph l.number (length l.words - 2 - l.number) (g.N.Node.peer l.node));
+  rest : Leads (words_of l.words) (view (g.F.Files.content l.fn.files) (g.F.Files.faults l.fn.files) (g.F.Files.faults l.files)) (merging_more l.graph 1 (length l.words - 3) (g.N.Node.view l.fn.first).peer) (merging_more l.graph l.number (length l.words - 2 - l.number) (g.N.Node.view l.node).peer);
 }

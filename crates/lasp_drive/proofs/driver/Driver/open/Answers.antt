@@ -1,82 +1,79 @@
-use Rattle.std.proofs.Common.{arith, ◌++◌, ◌∷◌, [], length, sym, ◌∙◌, subst, ap, map}
-use Rattle.std.specs.Prelude.{◌+◌, List, IsTrue, Ok, slice_set}
-use Rattle.std.specs.Arc.{arc_value}
-use Rattle.std.proofs.lemmas.List.{map-append, length-set}
-use Rattle.model_states.specs.Threshold.{Threshold, suits}
-use Rattle.model_graph.specs.Graph.{kind_at}
-use Rattle.model_graph.specs.Lawful.{shape_of}
-use Rattle.model_runs.proofs.SoundLaws.{sound-open, sound-later}
-use Rattle.model_world.specs.World.{Run, Opened, Open, act, with_read}
+use Rattle.std.proofs.Common.{rules, arith, ◌≡◌, ◌+◌, ◌++◌, ◌∷◌, [], map, length, sym, subst, ap, ◌∙◌}
+use Rattle.std.specs.Prelude.{List, slice_set}
+use Rattle.std.proofs.lemmas.List.{map-append, map-set}
+use Rattle.model_core.specs.Core.{Read}
+use Rattle.model_states.specs.Threshold.{Threshold}
 use Rattle.model_world.specs.World as world
+use Rattle.model_world.specs.World.{Open}
 use Rattle.lasp_state.specs.Threshold.{threshold_of}
-use Rattle.lasp_drive.specs.Driver.{opened_of, run_of, stage_of}
-use Rattle.lasp_drive.proofs.NodeLaws.{node-here, node-stays, nodes-set, suited-here, with_peers}
-use Rattle.lasp_drive.proofs.DriverLaws.{opened, open-done, with_reads}
-use Rattle.lasp_drive.proofs.PointLaws.{all-stay, called-same, called-sound, opened-here}
-use Rattle.lasp_drive.specs.Reads.{Reads}
-use Rattle.lasp_drive.specs.Waiting.{AreWaiting}
+use Rattle.lasp_script.specs.Command.{until_of}
+use Rattle.lasp_drive.specs.Node.{NodeView, with_reads, opens_next}
+use Rattle.lasp_drive.specs.Reads.{Reads, no_reads, next_read}
+use Rattle.lasp_drive.specs.Driver.{read_seen, seen, marked_of}
+use Rattle.lasp_drive.specs.Acts.{Acted}
+use Rattle.lasp_drive.specs.Play.{IsUntilWithin}
+use Rattle.lasp_drive.specs.declared.driver.Mark.{Mark}
 use Rattle.lasp_drive.specs.declared.driver.OpenRead.{OpenRead}
-use Rattle.lasp_drive.proofs.WaitLaws.{all-opened, read-is}
-use Rattle.lasp_drive.proofs.CallLaws.{calls-stay, opens-at, reads-here}
+use Rattle.lasp_drive.proofs.NodeLaws.{seen-at, seen-low, seen-set, mapped-or}
+use Rattle.lasp_drive.proofs.StepLaws.{with_both, open_read, may-read, until-within, acted-open, same-node}
 use Rattle.lasp_drive.proofs.driver.Driver.open.Goals as goal
 
-pub open_read-requires-clause-suits : goal.open_read-requires-clause-suits
-open_read-requires-clause-suits g c =
-    let graph = arc_value c.args.self.now.graph in
+pub threshold_of-requires : goal.threshold_of-requires
+threshold_of-requires g c =
+    let marks : c.deref.result.now ≡ c.args.self.now.marks.items = search rules in
+    subst (λ (ms : List Mark). IsUntilWithin (length ms) c.args.until.now) (sym marks) (until-within (seen g.N.Node.view g.N.Node.read c.args.self.now) c.args.x c.args.until.now c.requires.lawful.1)
+
+pub open_read-requires : goal.open_read-requires
+open_read-requires g c =
+    let d = seen g.N.Node.view g.N.Node.read c.args.self.now in
+    let marks : c.deref.result.now ≡ c.args.self.now.marks.items = search rules in
+    let at = seen-at g.N.Node.view c.args.self.now.nodes.items c.args.p c.index_mut.result.now (seen-low g.N.Node.view c.args.self.now.nodes.items c.args.p c.requires.lawful.0.0) c.index_mut.ensures.value in
+    may-read c.args.c c.args.p c.args.x (until_of c.args.until.now) d (g.N.Node.view c.index_mut.result.now) (threshold_of c.in_ok-threshold.threshold) c.requires.ready c.requires.lawful at
+    (c.in_ok-threshold.ensures ∙ ap (λ (ms : List Mark). world.threshold_of (map marked_of ms) (until_of c.args.until.now)) marks)
+
+pub returns-clause-acts : goal.returns-clause-acts
+returns-clause-acts g c =
+    let d = seen g.N.Node.view g.N.Node.read c.args.self.now in
     let nodes = c.args.self.now.nodes.items in
-    suited-here g.N.Node.decls g.N.Node.number g.N.Node.among graph (length nodes) c.args.p c.args.x c.index_mut.result.now (threshold_of c.args.threshold)
-    (node-here g.N.Node.decls g.N.Node.number g.N.Node.among graph (length nodes) nodes c.args.p c.index_mut.result.now c.requires.ready.nodes c.requires.node c.index_mut.ensures.value) c.requires.suits
-
-pub returns-clause-done : goal.returns-clause-done
-returns-clause-done g c until same =
-    let run = run_of g.N.Node.peer g.N.Node.awaited c.args.self.now in
-    let now = with_peers run (map g.N.Node.peer (slice_set c.args.self.now.nodes.items c.args.p c.open_read.new.self)) in
-    let reads = map (opened_of g.N.Node.awaited) c.push.new.self.items in
-    ap (λ (r : Run). Ok (with_read r (opened c.args.p c.args.x (world.threshold_of run.marks until)))) (sym (called-same g.N.Node.peer g.N.Node.awaited c.args.self.now c.args.p c.index_mut.result.now c.open_read.new.self c.index_mut.ensures.value c.open_read.ensures.peer))
-    ∙ open-done now reads _
-    (ap (map (opened_of g.N.Node.awaited)) c.in_ok-push.ensures.items ∙ map-append (opened_of g.N.Node.awaited) c.args.self.now.reads.items _
-    ∙ ap (λ (o : Opened). map (opened_of g.N.Node.awaited) c.args.self.now.reads.items ++ o ∷ []) (opened-here g.N.Node.awaited c.args.p c.args.x c.in_ok-read.read (threshold_of c.args.threshold) c.in_ok-read.ensures.read)
-    ∙ ap (λ (t : Threshold). map (opened_of g.N.Node.awaited) c.args.self.now.reads.items ++ opened c.args.p c.args.x t ∷ []) same)
-
-pub returns-clause-ready : goal.returns-clause-ready
-returns-clause-ready g c =
-    let graph = arc_value c.args.self.now.graph in
-    let nodes = c.args.self.now.nodes.items in
-    let run = run_of g.N.Node.peer g.N.Node.awaited c.args.self.now in
-    let now = with_peers run (map g.N.Node.peer (slice_set nodes c.args.p c.open_read.new.self)) in
-    let here = node-here g.N.Node.decls g.N.Node.number g.N.Node.among graph (length nodes) nodes c.args.p c.index_mut.result.now c.requires.ready.nodes c.requires.node c.index_mut.ensures.value in
-    let stays = node-stays g.N.Node.decls g.N.Node.number g.N.Node.among graph (length nodes) c.args.p c.index_mut.result.now c.open_read.new.self here c.open_read.ensures.node in
-    record {
-      some = c.requires.ready.some;
-      few = c.requires.ready.few;
-      size = length-set nodes c.args.p c.open_read.new.self;
-      nodes = nodes-set g.N.Node.decls g.N.Node.number g.N.Node.among graph (length nodes) nodes c.args.p c.open_read.new.self c.requires.ready.nodes stays;
-      limit = c.requires.ready.limit;
-      sound = sound-later (length nodes) c.args.c (stage_of c.args.self.now) (with_reads now (map (opened_of g.N.Node.awaited) c.push.new.self.items)) (sound-open (length nodes) c.args.c c.args.p c.args.x (stage_of c.args.self.now) c.requires.until.0 now (with_reads now (map (opened_of g.N.Node.awaited) c.push.new.self.items))
-          (called-sound g.N.Node.peer g.N.Node.awaited (length nodes) c.args.c c.args.self.now c.args.p c.index_mut.result.now c.open_read.new.self c.index_mut.ensures.value c.open_read.ensures.peer c.requires.ready.sound)
-          c.requires.node c.requires.var (subst (λ (t : Threshold). IsTrue (suits t (shape_of (length nodes) (kind_at graph c.args.x)))) c.requires.until.1 c.requires.suits)
-          (open-done now (map (opened_of g.N.Node.awaited) c.push.new.self.items) _
-          (ap (map (opened_of g.N.Node.awaited)) c.in_ok-push.ensures.items ∙ map-append (opened_of g.N.Node.awaited) c.args.self.now.reads.items _
-          ∙ ap (λ (o : Opened). map (opened_of g.N.Node.awaited) c.args.self.now.reads.items ++ o ∷ []) (opened-here g.N.Node.awaited c.args.p c.args.x c.in_ok-read.read (threshold_of c.args.threshold) c.in_ok-read.ensures.read)
-          ∙ ap (λ (t : Threshold). map (opened_of g.N.Node.awaited) c.args.self.now.reads.items ++ opened c.args.p c.args.x t ∷ []) c.requires.until.1)));
-      waiting = subst (λ (rs : List (OpenRead g.row.N-Read.Denot)). AreWaiting g.N.Node.awaited g.N.Node.number_of g.N.Node.shown g.N.Node.reads (c.args.c + 1) (slice_set nodes c.args.p c.open_read.new.self) rs) (sym c.in_ok-push.ensures.items)
-          (all-opened g.N.Node.awaited g.N.Node.number_of g.N.Node.shown g.N.Node.reads c.args.c c.args.p c.args.x (threshold_of c.args.threshold) nodes c.args.self.now.reads.items c.index_mut.result.now c.open_read.new.self c.in_ok-read.read (omega (arith)) c.requires.node c.index_mut.ensures.value c.open_read.ensures.shown c.in_ok-read.ensures.reads
-          (read-is g.N.Node.awaited g.N.Node.number_of c.in_ok-read.read (g.N.Node.reads c.index_mut.result.now).opened c.args.x (threshold_of c.args.threshold) c.in_ok-read.ensures.read c.in_ok-read.ensures.number) c.requires.ready.waiting);
-    }
-
-pub returns-clause-calls : goal.returns-clause-calls
-returns-clause-calls g c until =
-    calls-stay g.N.Node.calls c.args.self.now.nodes.items (slice_set c.args.self.now.nodes.items c.args.p c.open_read.new.self)
-    (all-stay g.N.Node.calls c.args.self.now.nodes.items c.args.p c.index_mut.result.now c.open_read.new.self c.index_mut.ensures.value c.open_read.ensures.calls)
+    let until = until_of c.args.until.now in
+    let t = world.threshold_of (map marked_of d.marks) until in
+    let n = g.N.Node.view c.index_mut.result.now in
+    let marks : c.deref.result.now ≡ c.args.self.now.marks.items = search rules in
+    let same : threshold_of c.in_ok-threshold.threshold ≡ t = c.in_ok-threshold.ensures ∙ ap (λ (ms : List Mark). world.threshold_of (map marked_of ms) until) marks in
+    let at = seen-at g.N.Node.view nodes c.args.p c.index_mut.result.now (seen-low g.N.Node.view nodes c.args.p c.requires.lawful.0.0) c.index_mut.ensures.value in
+    let reads : map (read_seen g.N.Node.read) c.push.new.self.items ≡ d.reads ++ open_read c.args.p (g.N.Node.read c.in_ok-read.read) ∷ [] =
+    ap (map (read_seen g.N.Node.read)) c.in_ok-push.ensures.items ∙ map-append (read_seen g.N.Node.read) c.args.self.now.reads.items _ in
+    subst (λ (rs : List (OpenRead Read)). Acted c.args.c (c.args.c + 1) d (Open c.args.p c.args.x until ∷ []) (with_both d (map g.N.Node.view (slice_set nodes c.args.p c.open_read.new.self)) rs)) (sym reads)
+    (seen-set g.N.Node.view nodes c.args.p c.open_read.new.self (λ ns. Acted c.args.c (c.args.c + 1) d (Open c.args.p c.args.x until ∷ []) (with_both d ns (d.reads ++ open_read c.args.p (g.N.Node.read c.in_ok-read.read) ∷ [])))
+    (subst (λ (m : NodeView). Acted c.args.c (c.args.c + 1) d (Open c.args.p c.args.x until ∷ []) (with_both d (slice_set d.nodes c.args.p m) (d.reads ++ open_read c.args.p (g.N.Node.read c.in_ok-read.read) ∷ [])))
+    (sym (c.in_ok-read.ensures.ok ∙ ap (λ (u : Threshold). with_reads n (opens_next n c.args.x u)) same))
+    (acted-open c.args.c c.args.p c.args.x until d n (g.N.Node.read c.in_ok-read.read) c.requires.ready c.requires.lawful at (omega arith) (c.in_ok-read.ensures.read ∙ ap (next_read n.reads c.args.x) same))))
 
 pub returns-clause-reads : goal.returns-clause-reads
-returns-clause-reads g c n at =
-    opens-at g.N.Node.shown g.N.Node.reads c.args.self.now.nodes.items c.args.p c.index_mut.result.now c.open_read.new.self n c.args.x (threshold_of c.args.threshold) c.index_mut.ensures.value at c.in_ok-read.ensures.reads
+returns-clause-reads g c m there =
+    let d = seen g.N.Node.view g.N.Node.read c.args.self.now in
+    let nodes = c.args.self.now.nodes.items in
+    let until = until_of c.args.until.now in
+    let t = world.threshold_of (map marked_of d.marks) until in
+    let n = g.N.Node.view c.index_mut.result.now in
+    let marks : c.deref.result.now ≡ c.args.self.now.marks.items = search rules in
+    let same : threshold_of c.in_ok-threshold.threshold ≡ t = c.in_ok-threshold.ensures ∙ ap (λ (ms : List Mark). world.threshold_of (map marked_of ms) until) marks in
+    let at = seen-at g.N.Node.view nodes c.args.p c.index_mut.result.now (seen-low g.N.Node.view nodes c.args.p c.requires.lawful.0.0) c.index_mut.ensures.value in
+    map-set g.N.Node.view nodes c.args.p c.open_read.new.self
+    ∙ ap (slice_set d.nodes c.args.p) (c.in_ok-read.ensures.ok ∙ ap (λ (u : Threshold). with_reads n (opens_next n c.args.x u)) same ∙ ap (λ (k : NodeView). with_reads k (opens_next k c.args.x t)) (same-node d.nodes c.args.p n m at there))
 
 pub returns-clause-opened : goal.returns-clause-opened
-returns-clause-opened g c = record {
-  read = c.in_ok-read.read;
-  reads_are = c.in_ok-push.ensures.items;
-  is = read-is g.N.Node.awaited g.N.Node.number_of c.in_ok-read.read _ c.args.x (threshold_of c.args.threshold) c.in_ok-read.ensures.read
-      (c.in_ok-read.ensures.number ∙ ap (λ (s : Reads). s.opened) (sym (reads-here g.N.Node.reads c.args.self.now.nodes.items c.args.p c.index_mut.result.now c.requires.node c.index_mut.ensures.value)));
-}
+returns-clause-opened g c =
+    let d = seen g.N.Node.view g.N.Node.read c.args.self.now in
+    let nodes = c.args.self.now.nodes.items in
+    let until = until_of c.args.until.now in
+    let t = world.threshold_of (map marked_of d.marks) until in
+    let n = g.N.Node.view c.index_mut.result.now in
+    let marks : c.deref.result.now ≡ c.args.self.now.marks.items = search rules in
+    let same : threshold_of c.in_ok-threshold.threshold ≡ t = c.in_ok-threshold.ensures ∙ ap (λ (ms : List Mark). world.threshold_of (map marked_of ms) until) marks in
+    let at = seen-at g.N.Node.view nodes c.args.p c.index_mut.result.now (seen-low g.N.Node.view nodes c.args.p c.requires.lawful.0.0) c.index_mut.ensures.value in
+    record {
+      handle = c.in_ok-read.read;
+      reads_are = c.in_ok-push.ensures.items;
+      is = c.in_ok-read.ensures.read ∙ ap (next_read n.reads c.args.x) same ∙ ap (λ (s : Reads). next_read s c.args.x t) (sym (mapped-or (λ (k : NodeView). k.reads) d.nodes c.args.p n no_reads at));
+    }

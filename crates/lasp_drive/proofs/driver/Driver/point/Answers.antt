@@ -1,19 +1,25 @@
-use Rattle.std.proofs.Common.{length, subst, sym}
+use Rattle.std.proofs.Common.{rules, map, subst, sym}
 use Rattle.std.specs.Prelude.{List}
 use Rattle.model_graph.specs.Graph.{Decl}
-use Rattle.lasp_drive.specs.Node.{AreNodes}
-use Rattle.lasp_drive.proofs.PointLaws.{settled-ready}
-use Rattle.lasp_drive.proofs.CallLaws.{ok-calls}
+use Rattle.lasp_graph.specs.Library.{library_of}
+use Rattle.lasp_drive.specs.Nodes.{MaySettle, SettlesAll}
+use Rattle.lasp_drive.specs.Driver.{seen}
+use Rattle.lasp_drive.proofs.StepLaws.{may-settle, acts-point, settled-point}
 use Rattle.lasp_drive.proofs.driver.Driver.point.Goals as goal
 
-pub settle_all-requires-clause-nodes : goal.settle_all-requires-clause-nodes
-settle_all-requires-clause-nodes g c =
-    subst (λ (h : List Decl). AreNodes g.N.Node.decls g.N.Node.number g.N.Node.among h (length c.args.self.now.nodes.items) c.args.self.now.nodes.items) (sym c.deref.ensures) c.requires.ready.nodes
+pub settle_all-requires : goal.settle_all-requires
+settle_all-requires g c =
+    subst (λ (h : List Decl). MaySettle (library_of c.args.lib.now) h (map g.N.Node.view c.args.self.now.nodes.items)) (sym c.deref.ensures)
+    (may-settle c.args.c (library_of c.args.lib.now) (seen g.N.Node.view g.N.Node.read c.args.self.now) c.requires.ready c.requires.fits)
 
-pub returns-clause-ready : goal.returns-clause-ready
-returns-clause-ready g c =
-    settled-ready g.N.Node.decls g.N.Node.number g.N.Node.among g.N.Node.peer g.N.Node.awaited g.N.Node.number_of g.N.Node.shown g.N.Node.reads (length c.args.self.now.nodes.items) c.args.c c.args.self.now c.settle_all.new.nodes c.settle_all.result c.requires.ready c.settle_all.ensures.size
-    (subst (λ (h : List Decl). AreNodes g.N.Node.decls g.N.Node.number g.N.Node.among h (length c.args.self.now.nodes.items) c.settle_all.new.nodes.items) c.deref.ensures c.settle_all.ensures.nodes) c.settle_all.ensures.peers (c.settle_all.ensures.waiting c.args.c c.args.self.now.reads.items c.requires.ready.waiting)
+pub returns-clause-passes : goal.returns-clause-passes
+returns-clause-passes g c =
+    let d = seen g.N.Node.view g.N.Node.read c.args.self.now in
+    record {
+      acts = acts-point c.args.c d (map g.N.Node.view c.settle_all.new.nodes.items) c.settle_all.result c.requires.ready
+          (subst (λ (h : List Decl). SettlesAll c.args.c h d.nodes c.settle_all.result (map g.N.Node.view c.settle_all.new.nodes.items)) c.deref.ensures c.settle_all.ensures);
+      reads = search rules;
+    }
 
-pub returns-clause-calls : goal.returns-clause-calls
-returns-clause-calls g c = ok-calls g.N.Node.calls c.settle_all.result c.args.self.now.nodes.items c.settle_all.new.nodes.items c.settle_all.ensures.calls
+pub returns-clause-settled : goal.returns-clause-settled
+returns-clause-settled g c = settled-point c.args.c c.deref.result.now (map g.N.Node.view c.args.self.now.nodes.items) (map g.N.Node.view c.settle_all.new.nodes.items) c.settle_all.result c.settle_all.ensures

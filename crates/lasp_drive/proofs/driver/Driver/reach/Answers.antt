@@ -1,67 +1,105 @@
-use Rattle.std.proofs.Common.{◌+◌, length, refl, sym, ◌∙◌, arith}
-use Rattle.std.specs.Prelude.{slice_set}
-use Rattle.std.specs.Arc.{arc_value}
-use Rattle.std.proofs.lemmas.List.{length-set}
+use Rattle.std.proofs.Common.{rules, arith, ◌≡◌, ◌+◌, ◌∷◌, [], refl, map, length, sym, subst, ap, ◌∙◌}
+use Rattle.std.specs.Prelude.{List, Bool, Ok, Err, if◌then◌else◌, slice_set}
+use Rattle.std.proofs.lemmas.List.{map-set}
+use Rattle.model_states.specs.Threshold.{Threshold, meets}
 use Rattle.model_graph.specs.Evaluation.{content_at}
+use Rattle.model_world.specs.World as world
+use Rattle.model_world.specs.World.{Reach, act}
 use Rattle.lasp_state.specs.Threshold.{threshold_of}
-use Rattle.lasp_drive.specs.Driver.{run_of, stage_of}
-use Rattle.lasp_drive.proofs.NodeLaws.{node-here, node-stays, nodes-set}
-use Rattle.lasp_drive.proofs.PointLaws.{all-stay, called-same, called-sound, shown-here, reached-there, reach-done, reach-stops}
-use Rattle.model_runs.proofs.SoundLaws.{sound-later}
-use Rattle.lasp_drive.proofs.WaitLaws.{all-looked}
-use Rattle.lasp_drive.proofs.CallLaws.{calls-stay, looks-at}
+use Rattle.lasp_script.specs.Command.{until_of}
+use Rattle.lasp_drive.specs.Node.{NodeView, with_reads}
+use Rattle.lasp_drive.specs.Reads.{looks}
+use Rattle.lasp_drive.specs.Driver.{seen, run_of, marked_of}
+use Rattle.lasp_drive.specs.Acts.{Acted}
+use Rattle.lasp_drive.specs.Play.{IsUntilWithin}
+use Rattle.lasp_drive.specs.declared.driver.Mark.{Mark}
+use Rattle.lasp_drive.specs.declared.halt.Halt.TheVariants as halt
+use Rattle.lasp_drive.proofs.NodeLaws.{seen-at, seen-low, seen-set}
+use Rattle.lasp_drive.proofs.ActLaws.{halts-one}
+use Rattle.lasp_drive.proofs.StepLaws.{with_nodes, may-read, until-within, reach-met, reach-unmet, acted-reach, same-node}
 use Rattle.lasp_drive.proofs.driver.Driver.reach.Goals as goal
 
-pub returns-then-branch-clause-ready : goal.returns-then-branch-clause-ready
-returns-then-branch-clause-ready g c =
-    let graph = arc_value c.args.self.now.graph in
-    let nodes = c.args.self.now.nodes.items in
-    let here = node-here g.N.Node.decls g.N.Node.number g.N.Node.among graph (length nodes) nodes c.args.p c.index_mut.result.now c.requires.ready.nodes c.requires.node c.index_mut.ensures.value in
-    let stays = node-stays g.N.Node.decls g.N.Node.number g.N.Node.among graph (length nodes) c.args.p c.index_mut.result.now c.has_reached.new.node here c.has_reached.ensures.node in
-    record {
-      some = c.requires.ready.some;
-      few = c.requires.ready.few;
-      size = length-set nodes c.args.p c.has_reached.new.node;
-      nodes = nodes-set g.N.Node.decls g.N.Node.number g.N.Node.among graph (length nodes) nodes c.args.p c.has_reached.new.node c.requires.ready.nodes stays;
-      limit = c.requires.ready.limit;
-      sound = called-sound g.N.Node.peer g.N.Node.awaited (length nodes) (c.args.c + 1) c.args.self.now c.args.p c.index_mut.result.now c.has_reached.new.node c.index_mut.ensures.value c.has_reached.ensures.peer (sound-later (length nodes) c.args.c (stage_of c.args.self.now) (run_of g.N.Node.peer g.N.Node.awaited c.args.self.now) c.requires.ready.sound);
-      waiting = all-looked g.N.Node.awaited g.N.Node.number_of g.N.Node.shown g.N.Node.reads c.args.c c.args.p nodes c.args.self.now.reads.items c.index_mut.result.now c.has_reached.new.node (omega (arith)) c.requires.node c.index_mut.ensures.value c.has_reached.ensures.shown c.in_ok-has_reached.ensures.reads c.requires.ready.waiting;
-    }
+pub threshold_of-requires : goal.threshold_of-requires
+threshold_of-requires g c =
+    let marks : c.deref.result.now ≡ c.args.self.now.marks.items = search rules in
+    subst (λ (ms : List Mark). IsUntilWithin (length ms) c.args.until.now) (sym marks) (until-within (seen g.N.Node.view g.N.Node.read c.args.self.now) c.args.x c.args.until.now c.requires.lawful.1)
 
-pub returns-then-branch-clause-done : goal.returns-then-branch-clause-done
-returns-then-branch-clause-done g c until same =
-    let graph = arc_value c.args.self.now.graph in
-    let nodes = c.args.self.now.nodes.items in
-    let here = node-here g.N.Node.decls g.N.Node.number g.N.Node.among graph (length nodes) nodes c.args.p c.index_mut.result.now c.requires.ready.nodes c.requires.node c.index_mut.ensures.value in
-    reach-done c.args.c c.args.p c.args.x (run_of g.N.Node.peer g.N.Node.awaited c.args.self.now) _ until (threshold_of c.args.threshold) (content_at (g.N.Node.shown c.index_mut.result.now) c.args.x) c.in_ok-has_reached.field-0 c.in_ok-has_reached.ensures.reached c.if-branch.true same
-    (shown-here g.N.Node.decls g.N.Node.peer g.N.Node.shown graph nodes c.args.p c.args.x c.index_mut.result.now c.requires.settled c.requires.node c.index_mut.ensures.value here.graph)
-    (called-same g.N.Node.peer g.N.Node.awaited c.args.self.now c.args.p c.index_mut.result.now c.has_reached.new.node c.index_mut.ensures.value c.has_reached.ensures.peer)
+pub has_reached-requires-clause-settled : goal.has_reached-requires-clause-settled
+has_reached-requires-clause-settled g c =
+    c.requires.lawful.2 c.args.p (g.N.Node.view c.index_mut.result.now) (seen-at g.N.Node.view c.args.self.now.nodes.items c.args.p c.index_mut.result.now (seen-low g.N.Node.view c.args.self.now.nodes.items c.args.p c.requires.lawful.0.0) c.index_mut.ensures.value)
 
-pub returns-else-branch-clause-done : goal.returns-else-branch-clause-done
-returns-else-branch-clause-done g c until same =
-    let graph = arc_value c.args.self.now.graph in
-    let nodes = c.args.self.now.nodes.items in
-    let here = node-here g.N.Node.decls g.N.Node.number g.N.Node.among graph (length nodes) nodes c.args.p c.index_mut.result.now c.requires.ready.nodes c.requires.node c.index_mut.ensures.value in
-    reach-stops c.args.c c.args.p c.args.x (run_of g.N.Node.peer g.N.Node.awaited c.args.self.now) until (threshold_of c.args.threshold) (content_at (g.N.Node.shown c.index_mut.result.now) c.args.x) c.in_ok-has_reached.field-0 c.in_ok-has_reached.ensures.reached c.if-branch.false same
-    (shown-here g.N.Node.decls g.N.Node.peer g.N.Node.shown graph nodes c.args.p c.args.x c.index_mut.result.now c.requires.settled c.requires.node c.index_mut.ensures.value here.graph)
+pub has_reached-requires-clause-may : goal.has_reached-requires-clause-may
+has_reached-requires-clause-may g c =
+    let d = seen g.N.Node.view g.N.Node.read c.args.self.now in
+    let marks : c.deref.result.now ≡ c.args.self.now.marks.items = search rules in
+    let at = seen-at g.N.Node.view c.args.self.now.nodes.items c.args.p c.index_mut.result.now (seen-low g.N.Node.view c.args.self.now.nodes.items c.args.p c.requires.lawful.0.0) c.index_mut.ensures.value in
+    may-read c.args.c c.args.p c.args.x (until_of c.args.until.now) d (g.N.Node.view c.index_mut.result.now) (threshold_of c.in_ok-threshold.threshold) c.requires.ready (c.requires.lawful.0, c.requires.lawful.1) at
+    (c.in_ok-threshold.ensures ∙ ap (λ (ms : List Mark). world.threshold_of (map marked_of ms) (until_of c.args.until.now)) marks)
 
-pub returns-then-branch-clause-calls : goal.returns-then-branch-clause-calls
-returns-then-branch-clause-calls g c until =
-    calls-stay g.N.Node.calls c.args.self.now.nodes.items (slice_set c.args.self.now.nodes.items c.args.p c.has_reached.new.node)
-    (all-stay g.N.Node.calls c.args.self.now.nodes.items c.args.p c.index_mut.result.now c.has_reached.new.node c.index_mut.ensures.value c.has_reached.ensures.calls)
+pub returns-then-branch-clause-acts : goal.returns-then-branch-clause-acts
+returns-then-branch-clause-acts g c =
+    let d = seen g.N.Node.view g.N.Node.read c.args.self.now in
+    let nodes = c.args.self.now.nodes.items in
+    let until = until_of c.args.until.now in
+    let n = g.N.Node.view c.index_mut.result.now in
+    let marks : c.deref.result.now ≡ c.args.self.now.marks.items = search rules in
+    let same : threshold_of c.in_ok-threshold.threshold ≡ world.threshold_of (map marked_of d.marks) until = c.in_ok-threshold.ensures ∙ ap (λ (ms : List Mark). world.threshold_of (map marked_of ms) until) marks in
+    let at = seen-at g.N.Node.view nodes c.args.p c.index_mut.result.now (seen-low g.N.Node.view nodes c.args.p c.requires.lawful.0.0) c.index_mut.ensures.value in
+    seen-set g.N.Node.view nodes c.args.p c.has_reached.new.node (λ ns. Acted c.args.c (c.args.c + 1) d (Reach c.args.p c.args.x until ∷ []) (with_nodes d ns))
+    (subst (λ (m : NodeView). Acted c.args.c (c.args.c + 1) d (Reach c.args.p c.args.x until ∷ []) (with_nodes d (slice_set d.nodes c.args.p m))) (sym c.in_ok-has_reached.ensures.looked)
+    (acted-reach c.args.c c.args.p c.args.x until d n c.requires.ready at (omega arith)
+    (reach-met c.args.c c.args.p c.args.x until d n (threshold_of c.in_ok-threshold.threshold) c.in_ok-has_reached.field-0 c.requires.ready c.requires.lawful.2 at same c.in_ok-has_reached.ensures.reached c.if-branch.true)))
+
+pub returns-else-branch-clause-acts : goal.returns-else-branch-clause-acts
+returns-else-branch-clause-acts g c =
+    let d = seen g.N.Node.view g.N.Node.read c.args.self.now in
+    let nodes = c.args.self.now.nodes.items in
+    let until = until_of c.args.until.now in
+    let n = g.N.Node.view c.index_mut.result.now in
+    let marks : c.deref.result.now ≡ c.args.self.now.marks.items = search rules in
+    let same : threshold_of c.in_ok-threshold.threshold ≡ world.threshold_of (map marked_of d.marks) until = c.in_ok-threshold.ensures ∙ ap (λ (ms : List Mark). world.threshold_of (map marked_of ms) until) marks in
+    let at = seen-at g.N.Node.view nodes c.args.p c.index_mut.result.now (seen-low g.N.Node.view nodes c.args.p c.requires.lawful.0.0) c.index_mut.ensures.value in
+    halts-one c.args.c (run_of d) (Reach c.args.p c.args.x until) (halt.NotReached c.args.c)
+    (reach-unmet c.args.c c.args.p c.args.x until d n (threshold_of c.in_ok-threshold.threshold) c.in_ok-has_reached.field-0 c.requires.ready c.requires.lawful.2 at same c.in_ok-has_reached.ensures.reached c.if-branch.false)
 
 pub returns-then-branch-clause-reached : goal.returns-then-branch-clause-reached
-returns-then-branch-clause-reached g c n at =
-    reached-there g.N.Node.shown c.args.self.now.nodes.items c.args.p c.args.x c.index_mut.result.now n (threshold_of c.args.threshold) c.index_mut.ensures.value at ∙ sym c.in_ok-has_reached.ensures.reached ∙ c.if-branch.true
+returns-then-branch-clause-reached g c m there =
+    let d = seen g.N.Node.view g.N.Node.read c.args.self.now in
+    let nodes = c.args.self.now.nodes.items in
+    let until = until_of c.args.until.now in
+    let n = g.N.Node.view c.index_mut.result.now in
+    let marks : c.deref.result.now ≡ c.args.self.now.marks.items = search rules in
+    let same : threshold_of c.in_ok-threshold.threshold ≡ world.threshold_of (map marked_of d.marks) until = c.in_ok-threshold.ensures ∙ ap (λ (ms : List Mark). world.threshold_of (map marked_of ms) until) marks in
+    let at = seen-at g.N.Node.view nodes c.args.p c.index_mut.result.now (seen-low g.N.Node.view nodes c.args.p c.requires.lawful.0.0) c.index_mut.ensures.value in
+    ap (λ (k : NodeView). meets (world.threshold_of (map marked_of d.marks) until) (content_at k.shown c.args.x)) (sym (same-node d.nodes c.args.p n m at there))
+    ∙ ap (λ (u : Threshold). meets u (content_at n.shown c.args.x)) (sym same) ∙ sym c.in_ok-has_reached.ensures.reached ∙ c.if-branch.true
 
 pub returns-else-branch-clause-reached : goal.returns-else-branch-clause-reached
-returns-else-branch-clause-reached g c n at =
-    (refl, reached-there g.N.Node.shown c.args.self.now.nodes.items c.args.p c.args.x c.index_mut.result.now n (threshold_of c.args.threshold) c.index_mut.ensures.value at ∙ sym c.in_ok-has_reached.ensures.reached ∙ c.if-branch.false)
+returns-else-branch-clause-reached g c m there =
+    let d = seen g.N.Node.view g.N.Node.read c.args.self.now in
+    let nodes = c.args.self.now.nodes.items in
+    let until = until_of c.args.until.now in
+    let n = g.N.Node.view c.index_mut.result.now in
+    let marks : c.deref.result.now ≡ c.args.self.now.marks.items = search rules in
+    let same : threshold_of c.in_ok-threshold.threshold ≡ world.threshold_of (map marked_of d.marks) until = c.in_ok-threshold.ensures ∙ ap (λ (ms : List Mark). world.threshold_of (map marked_of ms) until) marks in
+    let at = seen-at g.N.Node.view nodes c.args.p c.index_mut.result.now (seen-low g.N.Node.view nodes c.args.p c.requires.lawful.0.0) c.index_mut.ensures.value in (
+      refl,
+      ap (λ (k : NodeView). meets (world.threshold_of (map marked_of d.marks) until) (content_at k.shown c.args.x)) (sym (same-node d.nodes c.args.p n m at there))
+          ∙ ap (λ (u : Threshold). meets u (content_at n.shown c.args.x)) (sym same) ∙ sym c.in_ok-has_reached.ensures.reached ∙ c.if-branch.false,
+    )
 
 pub returns-then-branch-clause-reads : goal.returns-then-branch-clause-reads
-returns-then-branch-clause-reads g c =
-    looks-at g.N.Node.reads c.args.self.now.nodes.items c.args.p c.index_mut.result.now c.has_reached.new.node c.requires.node c.index_mut.ensures.value c.in_ok-has_reached.ensures.reads
+returns-then-branch-clause-reads g c m there =
+    let d = seen g.N.Node.view g.N.Node.read c.args.self.now in
+    let nodes = c.args.self.now.nodes.items in
+    let n = g.N.Node.view c.index_mut.result.now in
+    let at = seen-at g.N.Node.view nodes c.args.p c.index_mut.result.now (seen-low g.N.Node.view nodes c.args.p c.requires.lawful.0.0) c.index_mut.ensures.value in
+    map-set g.N.Node.view nodes c.args.p c.has_reached.new.node ∙ ap (slice_set d.nodes c.args.p) (c.in_ok-has_reached.ensures.looked ∙ ap (λ (k : NodeView). with_reads k (looks k.reads)) (same-node d.nodes c.args.p n m at there))
 
 pub returns-else-branch-clause-reads : goal.returns-else-branch-clause-reads
-returns-else-branch-clause-reads g c =
-    looks-at g.N.Node.reads c.args.self.now.nodes.items c.args.p c.index_mut.result.now c.has_reached.new.node c.requires.node c.index_mut.ensures.value c.in_ok-has_reached.ensures.reads
+returns-else-branch-clause-reads g c m there =
+    let d = seen g.N.Node.view g.N.Node.read c.args.self.now in
+    let nodes = c.args.self.now.nodes.items in
+    let n = g.N.Node.view c.index_mut.result.now in
+    let at = seen-at g.N.Node.view nodes c.args.p c.index_mut.result.now (seen-low g.N.Node.view nodes c.args.p c.requires.lawful.0.0) c.index_mut.ensures.value in
+    map-set g.N.Node.view nodes c.args.p c.has_reached.new.node ∙ ap (slice_set d.nodes c.args.p) (c.in_ok-has_reached.ensures.looked ∙ ap (λ (k : NodeView). with_reads k (looks k.reads)) (same-node d.nodes c.args.p n m at there))

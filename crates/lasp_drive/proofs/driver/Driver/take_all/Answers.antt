@@ -1,43 +1,66 @@
-use Rattle.std.proofs.Common.{◌<◌, ◌+◌, drop, length, sym, subst, ◌∙◌, arith}
-use Rattle.std.specs.Prelude.{ℕ, flat_map}
+use Rattle.std.proofs.Common.{refl, ◌≡◌, ◌++◌, ◌∷◌, [], ◌<◌, length, take, ◌∙◌, arith, subst, sym, ap}
+use Rattle.std.specs.Prelude.{ℕ, List, flat_map}
 use Rattle.std.specs.List.{range_with_len}
-use Rattle.model_world.specs.World.{each, takes}
-use Rattle.model_runs.specs.Calls.{calls_of_acts}
-use Rattle.lasp_drive.specs.Calls.{GoOnByCalls}
-use Rattle.lasp_drive.specs.Driver.{IsReady, run_of}
-use Rattle.lasp_drive.proofs.SyncLaws.{halts-as, all-takes-next, all-takes-end, all-next, all-halts, all-end, many-halts, many-done}
-use Rattle.lasp_drive.proofs.WaitLaws.{none-then}
-use Rattle.lasp_drive.proofs.CallLaws.{come-more, come-as, come-end}
+use Rattle.std.proofs.lemmas.List.{length-map}
+use Rattle.model_world.specs.Lawful.{Stage}
+use Rattle.model_world.specs.World.{Act, each, takes}
+use Rattle.lasp_drive.specs.Driver.{seen, run_of, stage_of}
+use Rattle.lasp_drive.specs.Acts.{Acted, Halts}
+use Rattle.lasp_drive.proofs.ActLaws.{acted-none, done-next, done-halts, done-all, all-parts, append-none, all-taken-stage}
 use Rattle.lasp_drive.proofs.driver.Driver.take_all.Goals as goal
 
-pub returns-in-Err-clause-done : goal.returns-in-Err-clause-done
-returns-in-Err-clause-done g c =
-    halts-as (each c.args.c (run_of g.N.Node.peer g.N.Node.awaited c.args.self.now) (flat_map (takes (length c.args.self.now.nodes.items) c.args.i) (range_with_len 0 (length c.args.self.now.nodes.items)))) _ c.in-Err.halt (sym c.loop-p.invariant.rest)
-    (all-halts c.args.c (length c.args.self.now.nodes.items) c.args.i c.loop-p.p (run_of g.N.Node.peer g.N.Node.awaited c.loop-p.self) c.in-Err.halt (omega (arith, c.loop-p-test.true, c.len-p-end.ensures))
-    (many-halts c.args.c (run_of g.N.Node.peer g.N.Node.awaited c.loop-p.self) (length c.loop-p.self.nodes.items) (length c.args.self.now.nodes.items) c.args.i c.loop-p.p c.in-Err.halt c.loop-p.invariant.ready.size c.in-Err.ensures.done))
+pub loop-p-init : goal.loop-p-init
+loop-p-init g c = record { within = omega arith; done = acted-none c.args.c (seen g.N.Node.view g.N.Node.read c.args.self.now) c.requires.ready; reads = refl }
+
+pub take_others-requires-clause-node : goal.take_others-requires-clause-node
+take_others-requires-clause-node g c =
+    omega (arith, c.loop-p-test.true, c.len-p-end.ensures, c.loop-p.invariant.done.size, length-map c.args.self.now.nodes.items g.N.Node.view, length-map c.loop-p.self.nodes.items g.N.Node.view)
+
+pub take_others-requires-clause-messages : goal.take_others-requires-clause-messages
+take_others-requires-clause-messages g c =
+    let old = stage_of (seen g.N.Node.view g.N.Node.read c.args.self.now) in
+    omega (
+      arith,
+      c.requires.messages,
+      c.loop-p.invariant.done.size,
+      length-map c.args.self.now.nodes.items g.N.Node.view,
+      length-map c.loop-p.self.nodes.items g.N.Node.view,
+      ap (λ (s : Stage). s.sent) (c.loop-p.invariant.done.stage ∙ all-taken-stage old (length c.args.self.now.nodes.items) c.args.i (take c.loop-p.p (range_with_len 0 (length c.args.self.now.nodes.items)))),
+    )
 
 pub loop-p-preserved : goal.loop-p-preserved
 loop-p-preserved g c =
-    let within : c.loop-p.p < length c.args.self.now.nodes.items = omega (arith, c.loop-p-test.true, c.len-p-end.ensures) in
+    let many = length c.args.self.now.nodes.items in
+    let within : c.loop-p.p < many = omega (arith, c.loop-p-test.true, c.len-p-end.ensures) in
+    let size : length c.loop-p.self.nodes.items ≡ many = omega (arith, c.loop-p.invariant.done.size, length-map c.args.self.now.nodes.items g.N.Node.view, length-map c.loop-p.self.nodes.items g.N.Node.view) in
+    let now = seen g.N.Node.view g.N.Node.read c.loop-p.self in
+    let next = seen g.N.Node.view g.N.Node.read c.take_others.new.self in
     record {
       within = omega (arith, within);
-      ready = subst (λ (many : ℕ). IsReady g.N.Node.decls g.N.Node.number g.N.Node.among g.N.Node.peer g.N.Node.awaited g.N.Node.number_of g.N.Node.shown g.N.Node.reads many c.args.c c.take_others.new.self) c.loop-p.invariant.ready.size c.in-Ok.ensures.ready;
-      reads = none-then g.N.Node.reads c.args.self.now c.loop-p.self c.take_others.new.self c.loop-p.invariant.reads c.in-Ok.ensures.reads;
-      stage = c.in-Ok.ensures.stage ∙ c.loop-p.invariant.stage;
-      calls = come-more g.N.Node.calls c.args.self.now.nodes.items c.loop-p.self.nodes.items c.take_others.new.self.nodes.items c.args.c (run_of g.N.Node.peer g.N.Node.awaited c.loop-p.self) (run_of g.N.Node.peer g.N.Node.awaited c.take_others.new.self) (takes (length c.args.self.now.nodes.items) c.args.i c.loop-p.p) (flat_map (takes (length c.args.self.now.nodes.items) c.args.i) (drop (c.loop-p.p + 1) (range_with_len 0 (length c.args.self.now.nodes.items)))) (λ q. calls_of_acts c.args.c (run_of g.N.Node.peer g.N.Node.awaited c.args.self.now) q (flat_map (takes (length c.args.self.now.nodes.items) c.args.i) (range_with_len 0 (length c.args.self.now.nodes.items))))
-          c.loop-p.invariant.ready.size
-          (many-done c.args.c (run_of g.N.Node.peer g.N.Node.awaited c.loop-p.self) (run_of g.N.Node.peer g.N.Node.awaited c.take_others.new.self) (length c.loop-p.self.nodes.items) (length c.args.self.now.nodes.items) c.args.i c.loop-p.p c.loop-p.invariant.ready.size c.in-Ok.ensures.done)
-          (subst (λ (n : ℕ). GoOnByCalls g.N.Node.calls c.loop-p.self.nodes.items c.take_others.new.self.nodes.items (λ q. calls_of_acts c.args.c (run_of g.N.Node.peer g.N.Node.awaited c.loop-p.self) q (takes n c.args.i c.loop-p.p))) c.loop-p.invariant.ready.size c.in-Ok.ensures.calls)
-          (come-as g.N.Node.calls c.args.self.now.nodes.items c.loop-p.self.nodes.items c.args.c (run_of g.N.Node.peer g.N.Node.awaited c.loop-p.self) _ _ _ (all-takes-next (length c.args.self.now.nodes.items) c.args.i c.loop-p.p within) c.loop-p.invariant.calls);
-      rest = sym (all-next c.args.c (length c.args.self.now.nodes.items) c.args.i c.loop-p.p (run_of g.N.Node.peer g.N.Node.awaited c.loop-p.self) (run_of g.N.Node.peer g.N.Node.awaited c.take_others.new.self) within
-          (many-done c.args.c (run_of g.N.Node.peer g.N.Node.awaited c.loop-p.self) (run_of g.N.Node.peer g.N.Node.awaited c.take_others.new.self) (length c.loop-p.self.nodes.items) (length c.args.self.now.nodes.items) c.args.i c.loop-p.p c.loop-p.invariant.ready.size c.in-Ok.ensures.done)) ∙ c.loop-p.invariant.rest;
+      done = done-next (flat_map (takes many c.args.i)) (all-parts many c.args.i) c.args.c many (seen g.N.Node.view g.N.Node.read c.args.self.now) c.loop-p.p now next within c.loop-p.invariant.done
+          (subst (λ (all : List Act). Acted c.args.c c.args.c now all next) (sym (append-none (takes many c.args.i c.loop-p.p)))
+          (subst (λ (k : ℕ). Acted c.args.c c.args.c now (takes k c.args.i c.loop-p.p) next) size c.in-Ok.ensures.acts));
+      reads = c.in-Ok.ensures.reads ∙ c.loop-p.invariant.reads;
     }
 
-pub returns-clause-done : goal.returns-clause-done
-returns-clause-done g c =
-    sym c.loop-p.invariant.rest ∙ all-end c.args.c (length c.args.self.now.nodes.items) c.args.i c.loop-p.p (run_of g.N.Node.peer g.N.Node.awaited c.loop-p.self) (omega (arith, c.loop-p-test.false, c.len-p-end.ensures))
+pub returns-in-Err : goal.returns-in-Err
+returns-in-Err g c =
+    let many = length c.args.self.now.nodes.items in
+    let size : length c.loop-p.self.nodes.items ≡ many = omega (arith, c.loop-p.invariant.done.size, length-map c.args.self.now.nodes.items g.N.Node.view, length-map c.loop-p.self.nodes.items g.N.Node.view) in
+    let now = seen g.N.Node.view g.N.Node.read c.loop-p.self in
+    record {
+      acts = done-halts (flat_map (takes many c.args.i)) (all-parts many c.args.i) c.args.c many (seen g.N.Node.view g.N.Node.read c.args.self.now) c.loop-p.p now c.in-Err.halt
+          (omega (arith, c.loop-p-test.true, c.len-p-end.ensures)) c.loop-p.invariant.done
+          (subst (λ (all : List Act). Halts (each c.args.c (run_of now) all) c.in-Err.halt) (sym (append-none (takes many c.args.i c.loop-p.p)))
+          (subst (λ (k : ℕ). Halts (each c.args.c (run_of now) (takes k c.args.i c.loop-p.p)) c.in-Err.halt) size c.in-Err.ensures.acts));
+      reads = tt;
+    }
 
-pub returns-clause-calls : goal.returns-clause-calls
-returns-clause-calls g c =
-    come-end g.N.Node.calls c.args.self.now.nodes.items c.loop-p.self.nodes.items c.args.c (run_of g.N.Node.peer g.N.Node.awaited c.loop-p.self) _ _
-    (all-takes-end (length c.args.self.now.nodes.items) c.args.i c.loop-p.p (omega (arith, c.loop-p-test.false, c.len-p-end.ensures))) c.loop-p.invariant.calls
+pub returns : goal.returns
+returns g c =
+    let many = length c.args.self.now.nodes.items in
+    record {
+      acts = done-all (flat_map (takes many c.args.i)) (all-parts many c.args.i) c.args.c many (seen g.N.Node.view g.N.Node.read c.args.self.now) c.loop-p.p (seen g.N.Node.view g.N.Node.read c.loop-p.self)
+          (omega (arith, c.loop-p-test.false, c.len-p-end.ensures)) c.loop-p.invariant.done;
+      reads = c.loop-p.invariant.reads;
+    }

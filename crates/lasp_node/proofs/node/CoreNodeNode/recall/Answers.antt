@@ -6,12 +6,11 @@ use Rattle.model_core.proofs.SourceLaws.{sources-source}
 use Rattle.lasp_node.proofs.CallLaws.{parked-unmet}
 use Rattle.lasp_node.proofs.node.CoreNodeNode.recall.Goals as goal
 
-pub returns-clause-sources : goal.returns-clause-sources
-returns-clause-sources c x low source =
+pub returns : goal.returns
+returns c =
     let core = c.args.self.now.core in
-    sym (sources-source (graph core.frame core.entries) (vals core.frame core.entries) x low source)
-
-pub returns-clause-unmet : goal.returns-clause-unmet
-returns-clause-unmet c =
-    let core = c.args.self.now.core in
-    ap (λ (rs : List Read). record { waiting = rs; opened = core.opened }) (parked-unmet core.frame core.entries core.parked c.recall.ensures.core.parked)
+    record {
+      sources = λ x low source. sym (sources-source (graph core.frame core.entries) (vals core.frame core.entries) x low source);
+      bounded = c.recall_states.ensures.below;
+      unmet = ap (λ (rs : List Read). record { waiting = rs; opened = core.opened }) (parked-unmet core.frame core.entries core.parked c.recall.ensures.core.parked);
+    }

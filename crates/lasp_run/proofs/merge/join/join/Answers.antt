@@ -10,17 +10,17 @@ use Rattle.lasp_run.proofs.merge.join.join.Goals as goal
 
 pub deliver-requires-clause-sent : goal.deliver-requires-clause-sent
 deliver-requires-clause-sent g c =
-    let taken : may_take c.args.graph.now (g.N.Node.peer c.args.node) (arc_value c.args.message.now) ≡ true = sym (c.may_take.ensures ∙ ap (may_take c.args.graph.now (g.N.Node.peer c.args.node)) c.deref.ensures) ∙ c.if-not-may_take.false in
-    replica-sent g.N.Node.decls g.N.Node.number g.N.Node.among g.N.Node.peer c.args.graph.now c.args.node (arc_value c.args.message.now) c.requires.node taken c.requires.message
+    let taken : may_take c.args.graph.now (g.N.Node.view c.args.node).peer (arc_value c.args.message.now) ≡ true = sym (c.may_take.ensures ∙ ap (may_take c.args.graph.now (g.N.Node.view c.args.node).peer) c.deref.ensures) ∙ c.if-not-may_take.false in
+    replica-sent c.args.graph.now (g.N.Node.view c.args.node) (arc_value c.args.message.now) c.requires.node taken c.requires.message
 
 pub returns-in-Ok-clause-node : goal.returns-in-Ok-clause-node
 returns-in-Ok-clause-node g c =
-    let taken : may_take c.args.graph.now (g.N.Node.peer c.args.node) (arc_value c.args.message.now) ≡ true = sym (c.may_take.ensures ∙ ap (may_take c.args.graph.now (g.N.Node.peer c.args.node)) c.deref.ensures) ∙ c.if-not-may_take.false in
-    replica-joined g.N.Node.decls g.N.Node.number g.N.Node.among g.N.Node.peer c.args.graph.now c.args.node c.deliver.new.self (arc_value c.args.message.now) c.requires.node taken c.requires.message c.in-Ok.ensures.node c.in-Ok.ensures.done.0 c.in-Ok.ensures.done.1
+    let taken : may_take c.args.graph.now (g.N.Node.view c.args.node).peer (arc_value c.args.message.now) ≡ true = sym (c.may_take.ensures ∙ ap (may_take c.args.graph.now (g.N.Node.view c.args.node).peer) c.deref.ensures) ∙ c.if-not-may_take.false in
+    replica-joined c.args.graph.now (g.N.Node.view c.args.node) (g.N.Node.view c.deliver.new.self) (arc_value c.args.message.now) c.requires.node taken c.requires.message c.in-Ok.ensures.takes.still c.in-Ok.ensures.done.0 c.in-Ok.ensures.done.1
 
 pub too_large-requires : goal.too_large-requires
 too_large-requires g c =
-    let after = delivered (g.N.Node.decls c.args.node) (arc_value c.args.message.now) (g.N.Node.peer c.args.node) in
+    let after = delivered (g.N.Node.view c.args.node).decls (arc_value c.args.message.now) (g.N.Node.view c.args.node).peer in
     let large : first_large 0 after.contents ≡ Some c.in-Err-TooLarge.var =
-    subst (λ (stop : NodeStop). Delivers {A = Unit {0}} after (Err stop) (g.N.Node.peer c.deliver.new.self)) c.in-Err-TooLarge.field-0-is c.in-Err-TooLarge.ensures.done in
-    large-low g.N.Node.decls g.N.Node.number g.N.Node.among g.N.Node.peer c.args.graph.now c.args.node (arc_value c.args.message.now) c.in-Err-TooLarge.var c.requires.node large
+    subst (λ (stop : NodeStop). Delivers {A = Unit {0}} after (Err stop) (g.N.Node.view c.deliver.new.self).peer) c.in-Err-TooLarge.field-0-is c.in-Err-TooLarge.ensures.done in
+    large-low c.args.graph.now (g.N.Node.view c.args.node) (arc_value c.args.message.now) c.in-Err-TooLarge.var c.requires.node large

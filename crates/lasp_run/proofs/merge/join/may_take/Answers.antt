@@ -6,11 +6,11 @@ pub returns-then-begins : goal.returns-then-begins
 returns-then-begins g c =
     ap (λ (n : ℕ). nat_eq n (length c.counts-then-begins.result.now)) (c.len.ensures ∙ ap (λ (counts : List ℕ). length counts) c.counts.ensures)
     ∙ ap (λ (counts : List ℕ). nat_eq (length c.args.message.now.counts) (length counts)) c.counts-then-begins.ensures
-    ∙ ap (λ (b : Bool). b && (length c.args.message.now.counts == length (g.N.Node.peer c.args.node.now).counts)) (sym c.if-begins.true)
-    ∙ taken-test c.args.graph.now (g.N.Node.peer c.args.node.now) c.args.message.now c.begins.result c.begins.ensures
+    ∙ ap (λ (b : Bool). b && (length c.args.message.now.counts == length (g.N.Node.view c.args.node.now).peer.counts)) (sym c.if-begins.true)
+    ∙ taken-test c.args.graph.now (g.N.Node.view c.args.node.now).peer c.args.message.now c.begins.result c.begins.ensures
 
 pub returns-else-begins : goal.returns-else-begins
 returns-else-begins g c =
     c.if-begins.false
-    ∙ ap (λ (b : Bool). b && (length c.args.message.now.counts == length (g.N.Node.peer c.args.node.now).counts)) (sym c.if-begins.false)
-    ∙ taken-test c.args.graph.now (g.N.Node.peer c.args.node.now) c.args.message.now c.begins.result c.begins.ensures
+    ∙ ap (λ (b : Bool). b && (length c.args.message.now.counts == length (g.N.Node.view c.args.node.now).peer.counts)) (sym c.if-begins.false)
+    ∙ taken-test c.args.graph.now (g.N.Node.view c.args.node.now).peer c.args.message.now c.begins.result c.begins.ensures

@@ -9,6 +9,6 @@ use Rattle.lasp_run.proofs.merge.text.merged_text.Goals as goal
 
 pub too_large-requires : goal.too_large-requires
 too_large-requires g c =
-    let large : first_large 0 (shown_at (g.N.Node.decls c.args.node) (g.N.Node.peer c.args.node)) ≡ Some c.in-Err-TooLarge.var =
-    subst (λ (stop : NodeStop). Settles {A = Unit {0}} (first_large 0 (shown_at (g.N.Node.decls c.args.node) (g.N.Node.peer c.args.node))) (Err stop)) c.in-Err-TooLarge.field-0-is c.in-Err-TooLarge.ensures.done in
-    rw c.in-Err-TooLarge.field-0-is (subst (λ (ds : List Decl). c.in-Err-TooLarge.var < length ds) c.requires.node.graph (shown-low (g.N.Node.decls c.args.node) (g.N.Node.peer c.args.node) c.in-Err-TooLarge.var large))
+    let large : first_large 0 (shown_at (g.N.Node.view c.args.node).decls (g.N.Node.view c.args.node).peer) ≡ Some c.in-Err-TooLarge.var =
+    subst (λ (stop : NodeStop). Settles {A = Unit {0}} (first_large 0 (shown_at (g.N.Node.view c.args.node).decls (g.N.Node.view c.args.node).peer)) (Err stop)) c.in-Err-TooLarge.field-0-is c.in-Err-TooLarge.ensures.done in
+    rw c.in-Err-TooLarge.field-0-is (subst (λ (ds : List Decl). c.in-Err-TooLarge.var < length ds) c.requires.node.graph (shown-low (g.N.Node.view c.args.node).decls (g.N.Node.view c.args.node).peer c.in-Err-TooLarge.var large))

@@ -15,11 +15,11 @@ pub loop-x-preserved : goal.loop-x-preserved
 loop-x-preserved g c =
     let graph : List Decl = c.args.graph.now in
     let x : ℕ = c.loop-x.x in
-    let shown : List Content = shown_at graph (g.N.Node.peer c.args.node.now) in
+    let shown : List Content = shown_at graph (g.N.Node.view c.args.node.now).peer in
     let d : Decl = decl_of c.at.result.now in
     let drawn : shown_state c.state.result.now ≡ shown_content d.kind (content_at shown x) =
     c.state.ensures.text
-    ∙ ap (λ (ds : List Decl). shown_content (kind_at ds x) (content_at (g.N.Node.shown c.args.node.now) x)) c.requires.graph
+    ∙ ap (λ (ds : List Decl). shown_content (kind_at ds x) (content_at (g.N.Node.view c.args.node.now).shown x)) c.requires.graph
     ∙ ap (λ (ss : List Content). shown_content (kind_at graph x) (content_at ss x)) c.requires.settled
     ∙ ap (λ (k : Kind). shown_content k (content_at shown x)) c.at.ensures.kind in
     let more : string_bytes c.push_value.new.text ≡ string_bytes c.loop-x.text ++ line (d.name ∷ shown_state c.state.result.now ∷ []) =

@@ -7,6 +7,6 @@ use Rattle.lasp_run.proofs.merge.text.push_values.Given as goal
 abbrev pub invariant-loop-x : goal.invariant-loop-x
 invariant-loop-x g l = record {
   within : l.x ≤ length l.graph;
-  text : string_bytes l.text ++ value_lines l.x (drop l.x l.graph) (shown_at l.graph (g.N.Node.peer l.node))
-      ≡ string_bytes l.fn.text ++ value_lines 0 l.graph (shown_at l.graph (g.N.Node.peer l.node));
+  text : string_bytes l.text ++ value_lines l.x (drop l.x l.graph) (shown_at l.graph (g.N.Node.view l.node).peer)
+      ≡ string_bytes l.fn.text ++ value_lines 0 l.graph (shown_at l.graph (g.N.Node.view l.node).peer);
 }

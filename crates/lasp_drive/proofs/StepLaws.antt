@@ -1,0 +1,404 @@
+-- What each act leaves: a driver that stands where the world has come to.
+use Rattle.std.proofs.Common.{refl, sym, ap, subst, ◌∙◌, arith}
+use Rattle.std.specs.Prelude.{◌≡◌, ℕ, ◌+◌, ◌<◌, ◌≤◌, List, [], ◌∷◌, ◌++◌, map, length, slice_get, slice_set, replicate, Option, Some, None, Ok, Err, Bool, true, false, if◌then◌else◌, IsTrue, OnOk, Result}
+use Rattle.std.proofs.lemmas.List.{length-set, length-map, map-append}
+use Rattle.std.proofs.lemmas.Option.{slice_get_within, get_or_from_slice_get}
+use Rattle.model_functions.specs.Library.{Library}
+use Rattle.model_readings.specs.Lawful.{FitsAll}
+use Rattle.model_states.specs.Content.{Content, size_of, row_limit}
+use Rattle.model_states.specs.Threshold.{Shape, Threshold, suits, meets}
+use Rattle.model_states.specs.Update.{Op}
+use Rattle.model_graph.specs.Graph.{Decl, kind_at, name_at, no_decl}
+use Rattle.model_graph.specs.Lawful.{shape_of}
+use Rattle.model_graph.specs.Evaluation.{content_at, first_large}
+use Rattle.model_messages.specs.Message.{Message}
+use Rattle.model_world.specs.Command.{Until}
+use Rattle.model_world.specs.Lawful.{Stage, opening_stage, IsPlace, MayAsk}
+use Rattle.std.specs.Fmt.{decimal}
+use Rattle.model_world.specs.Line.{line, shown_content}
+use Rattle.model_world.specs.World as world
+use Rattle.model_world.specs.World.{Peer, Run, Marked, Opened, peer_at, fresh_peer, start, network_limit, Update, Keep, Post, Take, Point, Show, Open, Reach, Extend, act, updated, delivered, extended, sent_number, message_at, shown_at, shown_content_at, with_mark, with_read, with_decl, point_from}
+use Rattle.model_world.specs.declared.stop.Stop.{Stop}
+use Rattle.model_world.specs.declared.stop.Stop.TheVariants.{NotReached}
+use Rattle.model_journal.specs.Entry as model
+use Rattle.model_journal.specs.Entry.{Entry}
+use Rattle.model_core.specs.Core.{Read}
+use Rattle.model_runs.specs.Sound.{IsSound, IsOpened, no_read}
+use Rattle.model_runs.specs.Held.{IsSentTo}
+use Rattle.model_runs.specs.Calls.{fed, call_of}
+use Rattle.model_runs.proofs.SoundLaws.{sound-start, sound-update, sound-take, sound-post, sound-keep, sound-show, sound-open, sound-reach, sound-extend, sound-later, sound-suits}
+use Rattle.lasp_state.specs.State as state
+use Rattle.lasp_state.specs.State.{IsOpOf, op_of}
+use Rattle.lasp_state.specs.declared.op.Op as rust
+use Rattle.lasp_drive.specs.Node.{NodeView, with_reads, opens_next, IsNode, IsStill, AreNodes, AreSettled, Grew, Shows, MayUpdate, MayRead, AreFresh}
+use Rattle.lasp_drive.specs.Nodes.{peers_of, MaySettle, AllSettled, SettlesAll, AllExtend}
+use Rattle.lasp_drive.specs.Reads.{Reads, next_read, looks, releases}
+use Rattle.lasp_drive.specs.Waiting.{AreWaiting, GoOnByReads}
+use Rattle.lasp_drive.specs.Calls.{GoOnByCalls}
+use Rattle.lasp_drive.specs.Driver.{DriverView, marked_of, opened_of, run_of, stage_of, Stands, Starts}
+use Rattle.lasp_drive.specs.Acts.{MayDo, Acted, ActsSeen}
+use Rattle.lasp_script.specs.Command.{until_of}
+use Rattle.lasp_script.specs.declared.command.Until as rust_until
+use Rattle.lasp_script.specs.declared.command.Until.TheVariants as rust_variants
+use Rattle.lasp_drive.specs.Play.{IsUntilWithin}
+use Rattle.lasp_drive.specs.Report.{AreOpened}
+use Rattle.lasp_drive.specs.declared.halt.Halt.{Halt}
+use Rattle.lasp_drive.specs.declared.driver.Mark.{Mark}
+use Rattle.lasp_drive.specs.declared.driver.OpenRead.{OpenRead}
+use Rattle.lasp_drive.proofs.NodeLaws.{mapped-or, same-set, nodes-set, node-stays, peer-here, held-here, update-here, suits-here, room-here, var-here, suited-here, update-done, deliver-done, sent-here, with_peers}
+use Rattle.lasp_drive.proofs.WaitLaws.{all-later, all-called, all-looked, all-opened, all-fresh}
+use Rattle.lasp_drive.proofs.CallLaws.{calls-stay, calls-set, updated-there, updated-elsewhere, taken-there, taken-elsewhere, calls-each, counts-stay, one-opened}
+use Rattle.lasp_drive.proofs.ActLaws.{acted-one, halts-one}
+
+-- the driver with these nodes
+abbrev pub with_nodes : DriverView → List NodeView → DriverView
+with_nodes d nodes = record { graph = d.graph; nodes = nodes; sent = d.sent; limit = d.limit; marks = d.marks; reads = d.reads; text = d.text }
+
+-- as many nodes of the same run, whose world is sound
+stands-with : (c next : ℕ) (d : DriverView) (nodes : List NodeView) → Stands c d → length nodes ≡ length d.nodes → AreNodes d.graph (length d.nodes) nodes → IsSound (length d.nodes) next (stage_of d) (with_peers (run_of d) (peers_of nodes))
+    → AreWaiting next nodes d.reads → Stands next (with_nodes d nodes)
+stands-with c next d nodes ready size each sound waiting = record {
+  some = omega (arith, ready.some, size);
+  few = omega (arith, ready.few, size);
+  nodes = subst (λ (many : ℕ). AreNodes d.graph many nodes) (sym size) each;
+  limit = ready.limit;
+  sound = subst (λ (many : ℕ). IsSound many next (stage_of d) (with_peers (run_of d) (peers_of nodes))) (sym size) sound;
+  waiting = waiting;
+}
+
+-- no read was opened
+none-opened : (nodes : List NodeView) (p : ℕ) (n new : NodeView) → slice_get nodes p ≡ Some n → new.reads.opened ≡ n.reads.opened → GoOnByReads nodes (slice_set nodes p new) (λ q. 0)
+none-opened nodes p n new at same = counts-stay nodes (slice_set nodes p new) (same-set (λ (n : NodeView). n.reads.opened) nodes p n new at same)
+
+none-called : (nodes : List NodeView) (p : ℕ) (n new : NodeView) → slice_get nodes p ≡ Some n → new.calls ≡ n.calls → GoOnByCalls nodes (slice_set nodes p new) (λ q. [])
+none-called nodes p n new at same = calls-stay nodes (slice_set nodes p new) (same-set (λ (n : NodeView). n.calls) nodes p n new at same)
+
+-- ---- updates
+
+-- a node may be updated as its world may
+pub may-update : (c p x : ℕ) (op : rust.Op) (d : DriverView) (n : NodeView) → Stands c d → MayDo c d (Update p x (op_of op)) → IsOpOf op p (shape_of (length d.nodes) (kind_at d.graph x)) → slice_get d.nodes p ≡ Some n → MayUpdate n x op
+may-update c p x op d n ready may suits at =
+    let here : IsNode d.graph (length d.nodes) p n = ready.nodes p n at in
+    let held = ready.sound.held p may.0.0 in
+    record {
+      held = held-here d.graph (length d.nodes) d.nodes p n here at held;
+      member = omega (arith, here.replica, here.nodes, may.0.0);
+      var = var-here d.graph x n here.graph may.0.1;
+      may = update-here d.graph (length d.nodes) p x n (op_of op) here may.1;
+      suits_it = suits-here d.graph (length d.nodes) p x n op here suits;
+      room = room-here d.graph (length d.nodes) c d.nodes p n here at may.0.0 held.wide (ready.sound.below p may.0.0) may.2;
+    }
+
+pub acted-update : (c p x : ℕ) (op : Op) (d : DriverView) (n new : NodeView) → Stands c d → MayDo c d (Update p x op) → slice_get d.nodes p ≡ Some n → IsStill n new → new.peer ≡ updated n.number x op n.peer → size_of (content_at (updated n.number x op n.peer).contents x) ≤ row_limit
+    → new.calls ≡ n.calls ++ fed (model.Update x op) ∷ [] → Grew n new → Acted c (c + 1) d (Update p x op ∷ []) (with_nodes d (slice_set d.nodes p new))
+acted-update c p x op d n new ready may at still is small calls grew =
+    let here : IsNode d.graph (length d.nodes) p n = ready.nodes p n at in
+    let done = update-done (run_of d) d.nodes c p x op n new refl here.replica at is small in
+    acted-one c (c + 1) d (with_nodes d (slice_set d.nodes p new)) (Update p x op)
+    (stands-with c (c + 1) d (slice_set d.nodes p new) ready (length-set d.nodes p new) (nodes-set d.graph (length d.nodes) d.nodes p new ready.nodes (node-stays d.graph (length d.nodes) p n new here still))
+    (sound-update (length d.nodes) c p x (stage_of d) op (run_of d) (with_peers (run_of d) (peers_of (slice_set d.nodes p new))) ready.sound may.2 may.0.0 may.0.1 may.1 done)
+    (all-later-called c d p n new at grew ready.waiting))
+    (length-set d.nodes p new) refl done
+    (calls-set d.nodes p n new (λ q. call_of (run_of d) q (Update p x op)) at (calls ∙ ap (λ (h : List Entry). n.calls ++ h) (sym (updated-there (run_of d) p x op))) (updated-elsewhere (run_of d) p x op))
+    (none-opened d.nodes p n new at (ap (λ (s : Reads). s.opened) grew.released))
+  where
+    all-later-called : (c : ℕ) (d : DriverView) (p : ℕ) (n new : NodeView) → slice_get d.nodes p ≡ Some n → Grew n new → AreWaiting c d.nodes d.reads → AreWaiting (c + 1) (slice_set d.nodes p new) d.reads
+    all-later-called c d p n new at grew waiting = all-later c (slice_set d.nodes p new) d.reads (all-called c p d.nodes d.reads n new at grew waiting)
+
+-- ---- messages
+
+pub may-take : (c p i : ℕ) (d : DriverView) (n : NodeView) (m : Message) → Stands c d → MayDo c d (Take p i) → slice_get d.nodes p ≡ Some n → m ≡ sent_number d.sent i → IsSentTo n.among n.decls m
+may-take c p i d n m ready may at is =
+    sent-here d.graph (length d.nodes) p n m (ready.nodes p n at) (subst (λ (k : Message). IsSentTo (length d.nodes) d.graph k) (sym is) (ready.sound.sent i may.1))
+
+pub acted-take : (c p i : ℕ) (d : DriverView) (n new : NodeView) (m : Message) → Stands c d → MayDo c d (Take p i) → slice_get d.nodes p ≡ Some n → m ≡ sent_number d.sent i → IsStill n new → new.peer ≡ delivered n.decls m n.peer → first_large 0 (delivered n.decls m n.peer).contents ≡ None
+    → new.calls ≡ n.calls ++ fed (model.Deliver i m) ∷ [] → Grew n new → Acted c c d (Take p i ∷ []) (with_nodes d (slice_set d.nodes p new))
+acted-take c p i d n new m ready may at same still is small calls grew =
+    let here : IsNode d.graph (length d.nodes) p n = ready.nodes p n at in
+    let done = deliver-done (run_of d) m (sent_number d.sent i) d.nodes c p n new refl here.graph same at is small in
+    acted-one c c d (with_nodes d (slice_set d.nodes p new)) (Take p i)
+    (stands-with c c d (slice_set d.nodes p new) ready (length-set d.nodes p new) (nodes-set d.graph (length d.nodes) d.nodes p new ready.nodes (node-stays d.graph (length d.nodes) p n new here still))
+    (sound-take (length d.nodes) c p i (stage_of d) (run_of d) (with_peers (run_of d) (peers_of (slice_set d.nodes p new))) ready.sound may.0 may.1 done)
+    (all-called c p d.nodes d.reads n new at grew ready.waiting))
+    (length-set d.nodes p new) refl done
+    (calls-set d.nodes p n new (λ q. call_of (run_of d) q (Take p i)) at
+    (calls ∙ ap (λ (k : Message). n.calls ++ fed (model.Deliver i k) ∷ []) same ∙ ap (λ (h : List Entry). n.calls ++ h) (sym (taken-there (run_of d) p i))) (taken-elsewhere (run_of d) p i))
+    (none-opened d.nodes p n new at (ap (λ (s : Reads). s.opened) grew.released))
+
+-- the driver with one message more
+abbrev pub with_sent : DriverView → List Message → ℕ → DriverView
+with_sent d sent limit = record { graph = d.graph; nodes = d.nodes; sent = sent; limit = limit; marks = d.marks; reads = d.reads; text = d.text }
+
+length-more : {X : Type 0} (xs : List X) (y : X) → length (xs ++ y ∷ []) ≡ length xs + 1
+length-more [] y = refl
+length-more (x ∷ xs) y = omega (arith, length-more xs y)
+
+-- the same nodes stand in another world
+stands-in : (c : ℕ) (d e : DriverView) → Stands c d → e.nodes ≡ d.nodes → e.graph ≡ d.graph → e.limit ≡ d.limit → e.reads ≡ d.reads → IsSound (length d.nodes) c (stage_of e) (run_of e) → Stands c e
+stands-in c d e ready nodes graph limit reads sound = record {
+  some = omega (arith, ready.some, ap (λ (ns : List NodeView). length ns) nodes);
+  few = omega (arith, ready.few, ap (λ (ns : List NodeView). length ns) nodes);
+  nodes = subst (λ (g : List Decl). AreNodes g (length e.nodes) e.nodes) (sym graph) (subst (λ (ns : List NodeView). AreNodes d.graph (length ns) ns) (sym nodes) ready.nodes);
+  limit = limit ∙ ready.limit;
+  sound = subst (λ (many : ℕ). IsSound many c (stage_of e) (run_of e)) (sym (ap (λ (ns : List NodeView). length ns) nodes)) sound;
+  waiting = subst (λ (rs : List (OpenRead Read)). AreWaiting c e.nodes rs) (sym reads) (subst (λ (ns : List NodeView). AreWaiting c ns d.reads) (sym nodes) ready.waiting);
+}
+
+pub acted-post : (c p : ℕ) (d : DriverView) (m : Message) → Stands c d → p < length d.nodes → act c (run_of d) (Post p) ≡ Ok (run_of (with_sent d (d.sent ++ m ∷ []) d.limit)) → Acted c c d (Post p ∷ []) (with_sent d (d.sent ++ m ∷ []) d.limit)
+acted-post c p d m ready member done =
+    let e = with_sent d (d.sent ++ m ∷ []) d.limit in
+    let stage : stage_of e ≡ record { graph = d.graph; marked = map (λ (m : Mark). m.var) d.marks; sent = length d.sent + 1 } = ap (λ (n : ℕ). record { graph = d.graph; marked = map (λ (m : Mark). m.var) d.marks; sent = n }) (length-more d.sent m) in
+    acted-one c c d e (Post p)
+    (stands-in c d e ready refl refl refl refl (subst (λ s. IsSound (length d.nodes) c s (run_of e)) (sym stage) (sound-post (length d.nodes) c p (stage_of d) (run_of d) (run_of e) ready.sound member done)))
+    refl stage done (calls-stay d.nodes d.nodes refl) (counts-stay d.nodes d.nodes refl)
+
+-- ---- marks
+
+abbrev pub with_marks : DriverView → List Mark → DriverView
+with_marks d marks = record { graph = d.graph; nodes = d.nodes; sent = d.sent; limit = d.limit; marks = marks; reads = d.reads; text = d.text }
+
+abbrev marked : Shape → Content → Marked
+marked shape content = record { shape = shape; content = content }
+
+pub acted-keep : (c p x : ℕ) (d : DriverView) (n : NodeView) (m : Mark) → Stands c d → MayDo c d (Keep p x) → slice_get d.nodes p ≡ Some n → m.var ≡ x → (marked_of m).shape ≡ shape_of n.among (kind_at n.decls x) → (marked_of m).content ≡ content_at n.peer.contents x
+    → Acted c c d (Keep p x ∷ []) (with_marks d (d.marks ++ m ∷ []))
+acted-keep c p x d n m ready may at var shape content =
+    let here : IsNode d.graph (length d.nodes) p n = ready.nodes p n at in
+    let e = with_marks d (d.marks ++ m ∷ []) in
+    let many : n.among ≡ length (peers_of d.nodes) = here.nodes ∙ sym (length-map d.nodes (λ (n : NodeView). n.peer)) in
+    let is : marked_of m ≡ marked (shape_of (length (peers_of d.nodes)) (kind_at d.graph x)) (content_at (peer_at (peers_of d.nodes) p).contents x) =
+    ap (λ (s : Shape). marked s (marked_of m).content) (shape ∙ ap (λ (k : ℕ). shape_of k (kind_at n.decls x)) many ∙ ap (λ (h : List Decl). shape_of (length (peers_of d.nodes)) (kind_at h x)) here.graph)
+    ∙ ap (marked (shape_of (length (peers_of d.nodes)) (kind_at d.graph x))) (content ∙ ap (λ (r : Peer). content_at r.contents x) (sym (peer-here d.nodes p n at))) in
+    let done : act c (run_of d) (Keep p x) ≡ Ok (run_of e) =
+    ap (λ (ms : List Marked). Ok (record { graph = d.graph; peers = peers_of d.nodes; sent = d.sent; marks = ms; reads = map opened_of d.reads; text = d.text }))
+    (ap (λ (k : Marked). map marked_of d.marks ++ k ∷ []) (sym is) ∙ sym (map-append marked_of d.marks (m ∷ []))) in
+    let stage : stage_of e ≡ record { graph = d.graph; marked = map (λ (m : Mark). m.var) d.marks ++ x ∷ []; sent = length d.sent } =
+    ap (λ (vs : List ℕ). record { graph = d.graph; marked = vs; sent = length d.sent }) (map-append (λ (m : Mark). m.var) d.marks (m ∷ []) ∙ ap (λ (v : ℕ). map (λ (m : Mark). m.var) d.marks ++ v ∷ []) var) in
+    acted-one c c d e (Keep p x)
+    (stands-in c d e ready refl refl refl refl (subst (λ s. IsSound (length d.nodes) c s (run_of e)) (sym stage) (sound-keep (length d.nodes) c p x (stage_of d) (run_of d) (run_of e) ready.sound may.0.0 may.0.1 may.1 done)))
+    refl stage done (calls-stay d.nodes d.nodes refl) (counts-stay d.nodes d.nodes refl)
+
+-- ---- what settled nodes show
+
+-- what a settled node shows of a variable, the run shows
+pub shown-here : (g : List Decl) (nodes : List NodeView) (p x : ℕ) (n : NodeView) → AreSettled nodes → slice_get nodes p ≡ Some n → n.decls ≡ g → content_at n.shown x ≡ content_at (shown_at g (peer_at (peers_of nodes) p)) x
+shown-here g nodes p x n settled at graph =
+    ap (λ (cs : List Content). content_at cs x) (settled p n at ∙ ap (λ (h : List Decl). shown_at h n.peer) graph ∙ ap (shown_at g) (sym (peer-here nodes p n at)))
+
+abbrev pub with_text : DriverView → List ℕ → DriverView
+with_text d text = record { graph = d.graph; nodes = d.nodes; sent = d.sent; limit = d.limit; marks = d.marks; reads = d.reads; text = text }
+
+-- the line of a print
+pub show-done : (c p x : ℕ) (d : DriverView) (n : NodeView) (decl : Decl) (name shown text : List ℕ) → Stands c d → AreSettled d.nodes → slice_get d.nodes p ≡ Some n → slice_get d.graph x ≡ Some decl → name ≡ decl.name
+    → shown ≡ shown_content (kind_at n.decls x) (content_at n.shown x) → text ≡ d.text ++ line (decimal p ∷ name ∷ shown ∷ []) → act c (run_of d) (Show p x) ≡ Ok (run_of (with_text d text))
+show-done c p x d n decl name shown text ready settled at there named showing is =
+    ap (λ (bytes : List ℕ). Ok (record { graph = d.graph; peers = peers_of d.nodes; sent = d.sent; marks = map marked_of d.marks; reads = map opened_of d.reads; text = bytes }))
+    (ap (λ (word : List ℕ). d.text ++ line (decimal p ∷ word ∷ shown_content (kind_at d.graph x) (shown_content_at (run_of d) p x) ∷ [])) (name-here d.graph x decl there ∙ sym named)
+    ∙ ap (λ (word : List ℕ). d.text ++ line (decimal p ∷ name ∷ word ∷ []))
+    (ap (λ (s : Content). shown_content (kind_at d.graph x) s) (sym (shown-here d.graph d.nodes p x n settled at (ready.nodes p n at).graph)) ∙ ap (λ (g : List Decl). shown_content (kind_at g x) (content_at n.shown x)) (sym (ready.nodes p n at).graph) ∙ sym showing)
+    ∙ sym is)
+  where
+    name-here : (g : List Decl) (x : ℕ) (decl : Decl) → slice_get g x ≡ Some decl → name_at g x ≡ decl.name
+    name-here g x decl there = ap (λ (k : Decl). k.name) (get_or_from_slice_get g x decl no_decl there)
+
+pub acted-show : (c p x : ℕ) (d : DriverView) (text : List ℕ) → Stands c d → act c (run_of d) (Show p x) ≡ Ok (run_of (with_text d text)) → Acted c c d (Show p x ∷ []) (with_text d text)
+acted-show c p x d text ready done =
+    acted-one c c d (with_text d text) (Show p x) (stands-in c d (with_text d text) ready refl refl refl refl (sound-show (length d.nodes) c p x (stage_of d) (run_of d) (run_of (with_text d text)) ready.sound done))
+    refl refl done (calls-stay d.nodes d.nodes refl) (counts-stay d.nodes d.nodes refl)
+
+-- ---- reads
+
+-- a node may be read as its world may
+pub may-read : (c p x : ℕ) (until : Until) (d : DriverView) (n : NodeView) (t : Threshold) → Stands c d → MayDo c d (Open p x until) → slice_get d.nodes p ≡ Some n → t ≡ world.threshold_of (map marked_of d.marks) until → MayRead n x t
+may-read c p x until d n t ready may at is =
+    let here : IsNode d.graph (length d.nodes) p n = ready.nodes p n at in
+    record {
+      var = var-here d.graph x n here.graph may.0.1;
+      suits_it = suited-here d.graph (length d.nodes) p x n t here
+          (subst (λ (t : Threshold). IsTrue (suits t (shape_of (length d.nodes) (kind_at d.graph x)))) (sym is) (sound-suits (length d.nodes) c x (stage_of d) until (run_of d) ready.sound may.0.1 may.1));
+    }
+
+-- the driver with these nodes and reads
+abbrev pub with_both : DriverView → List NodeView → List (OpenRead Read) → DriverView
+with_both d nodes reads = record { graph = d.graph; nodes = nodes; sent = d.sent; limit = d.limit; marks = d.marks; reads = reads; text = d.text }
+
+abbrev pub open_read : ℕ → Read → OpenRead Read
+open_read p r = record { node = p; read = r }
+
+-- fewer reads than a command's number were opened, so the count doesn't stand still
+one-more : (c p : ℕ) (d : DriverView) (n : NodeView) → Stands c d → slice_get d.nodes p ≡ Some n → c ≤ 4294967295 → (looks n.reads).opened ≡ n.reads.opened + 1
+one-more c p d n ready at few = omega (arith, (ready.waiting p n at).counted, few)
+
+pub acted-open : (c p x : ℕ) (until : Until) (d : DriverView) (n : NodeView) (r : Read) → Stands c d → MayDo c d (Open p x until) → slice_get d.nodes p ≡ Some n → c ≤ 4294967295 → r ≡ next_read n.reads x (world.threshold_of (map marked_of d.marks) until)
+    → Acted c (c + 1) d (Open p x until ∷ []) (with_both d (slice_set d.nodes p (with_reads n (opens_next n x (world.threshold_of (map marked_of d.marks) until)))) (d.reads ++ open_read p r ∷ []))
+acted-open c p x until d n r ready may at few is =
+    let t = world.threshold_of (map marked_of d.marks) until in
+    let new = with_reads n (opens_next n x t) in
+    let nodes = slice_set d.nodes p new in
+    let e = with_both d nodes (d.reads ++ open_read p r ∷ []) in
+    let here : IsNode d.graph (length d.nodes) p n = ready.nodes p n at in
+    let size = length-set d.nodes p new in
+    let peers : peers_of nodes ≡ peers_of d.nodes = same-set (λ (n : NodeView). n.peer) d.nodes p n new at refl in
+    let done : act c (run_of d) (Open p x until) ≡ Ok (run_of e) =
+    ap (λ (ps : List Peer). Ok (with_read (with_peers (run_of d) ps) (record { node = p; var = x; threshold = t }))) (sym peers)
+    ∙ ap (λ (os : List Opened). Ok (record { graph = d.graph; peers = peers_of nodes; sent = d.sent; marks = map marked_of d.marks; reads = os; text = d.text }))
+    (ap (λ (q : Read). map opened_of d.reads ++ opened_of (open_read p q) ∷ []) (sym is) ∙ sym (map-append opened_of d.reads (open_read p r ∷ []))) in
+    acted-one c (c + 1) d e (Open p x until)
+    (record {
+      some = omega (arith, ready.some, size);
+      few = omega (arith, ready.few, size);
+      nodes = subst (λ (many : ℕ). AreNodes d.graph many nodes) (sym size) (nodes-set d.graph (length d.nodes) d.nodes p new ready.nodes (record { graph = here.graph; replica = here.replica; nodes = here.nodes }));
+      limit = ready.limit;
+      sound = subst (λ (many : ℕ). IsSound many (c + 1) (stage_of d) (run_of e)) (sym size)
+          (sound-later (length d.nodes) c (stage_of d) (run_of e) (sound-open (length d.nodes) c p x (stage_of d) until (run_of d) (run_of e) ready.sound may.0.0 may.0.1 (sound-suits (length d.nodes) c x (stage_of d) until (run_of d) ready.sound may.0.1 may.1) done));
+      waiting = all-opened c p x t d.nodes d.reads n new r (omega (arith, few)) at refl refl is ready.waiting;
+    })
+    size refl done (none-called d.nodes p n new at refl) (one-opened d.nodes p n new at (one-more c p d n ready at few))
+
+abbrev reached_by : ℕ → Run → Bool → Result Run Stop
+reached_by c run met = if met then Ok run else Err (NotReached c)
+
+-- what the threshold is asked of
+reach-is : (c p x : ℕ) (until : Until) (d : DriverView) (n : NodeView) (t : Threshold) (met : Bool) → Stands c d → AreSettled d.nodes → slice_get d.nodes p ≡ Some n → t ≡ world.threshold_of (map marked_of d.marks) until → met ≡ meets t (content_at n.shown x)
+    → meets (world.threshold_of (map marked_of d.marks) until) (shown_content_at (run_of d) p x) ≡ met
+reach-is c p x until d n t met ready settled at same is =
+    ap (meets (world.threshold_of (map marked_of d.marks) until)) (sym (shown-here d.graph d.nodes p x n settled at (ready.nodes p n at).graph))
+    ∙ ap (λ (u : Threshold). meets u (content_at n.shown x)) (sym same) ∙ sym is
+
+-- the run goes on
+pub reach-met : (c p x : ℕ) (until : Until) (d : DriverView) (n : NodeView) (t : Threshold) (met : Bool) → Stands c d → AreSettled d.nodes → slice_get d.nodes p ≡ Some n → t ≡ world.threshold_of (map marked_of d.marks) until → met ≡ meets t (content_at n.shown x)
+    → met ≡ true → act c (run_of d) (Reach p x until) ≡ Ok (run_of d)
+reach-met c p x until d n t met ready settled at same is true_here = ap (reached_by c (run_of d)) (reach-is c p x until d n t met ready settled at same is ∙ true_here)
+
+-- or it stops
+pub reach-unmet : (c p x : ℕ) (until : Until) (d : DriverView) (n : NodeView) (t : Threshold) (met : Bool) → Stands c d → AreSettled d.nodes → slice_get d.nodes p ≡ Some n → t ≡ world.threshold_of (map marked_of d.marks) until → met ≡ meets t (content_at n.shown x)
+    → met ≡ false → act c (run_of d) (Reach p x until) ≡ Err (NotReached c)
+reach-unmet c p x until d n t met ready settled at same is false_here = ap (reached_by c (run_of d)) (reach-is c p x until d n t met ready settled at same is ∙ false_here)
+
+pub acted-reach : (c p x : ℕ) (until : Until) (d : DriverView) (n : NodeView) → Stands c d → slice_get d.nodes p ≡ Some n → c ≤ 4294967295 → act c (run_of d) (Reach p x until) ≡ Ok (run_of d)
+    → Acted c (c + 1) d (Reach p x until ∷ []) (with_nodes d (slice_set d.nodes p (with_reads n (looks n.reads))))
+acted-reach c p x until d n ready at few reached =
+    let new = with_reads n (looks n.reads) in
+    let nodes = slice_set d.nodes p new in
+    let here : IsNode d.graph (length d.nodes) p n = ready.nodes p n at in
+    let peers : peers_of nodes ≡ peers_of d.nodes = same-set (λ (n : NodeView). n.peer) d.nodes p n new at refl in
+    let same : run_of d ≡ with_peers (run_of d) (peers_of nodes) = ap (with_peers (run_of d)) (sym peers) in
+    acted-one c (c + 1) d (with_nodes d nodes) (Reach p x until)
+    (stands-with c (c + 1) d nodes ready (length-set d.nodes p new) (nodes-set d.graph (length d.nodes) d.nodes p new ready.nodes (record { graph = here.graph; replica = here.replica; nodes = here.nodes }))
+    (subst (λ (run : Run). IsSound (length d.nodes) (c + 1) (stage_of d) run) same (sound-later (length d.nodes) c (stage_of d) (run_of d) ready.sound))
+    (all-looked c p d.nodes d.reads n new (omega (arith, few)) at refl refl ready.waiting))
+    (length-set d.nodes p new) refl (reached ∙ ap (λ (run : Run). Ok run) same) (none-called d.nodes p n new at refl) (one-opened d.nodes p n new at (one-more c p d n ready at few))
+
+-- ---- points and declarations
+
+pub acted-point : (c : ℕ) (d : DriverView) (nodes : List NodeView) → Stands c d → AllSettled d.graph d.nodes nodes → point_from c 0 (peers_of d.nodes) (run_of d) ≡ Ok (run_of d) → Acted c c d (Point ∷ []) (with_nodes d nodes)
+acted-point c d nodes ready all done =
+    let same : run_of d ≡ with_peers (run_of d) (peers_of nodes) = ap (with_peers (run_of d)) (sym all.peers) in
+    acted-one c c d (with_nodes d nodes) Point
+    (stands-with c c d nodes ready all.size all.nodes_are (subst (λ (run : Run). IsSound (length d.nodes) c (stage_of d) run) same ready.sound) (all.reads.waiting c d.reads ready.waiting))
+    all.size refl (done ∙ ap (λ (run : Run). Ok run) same) (calls-stay d.nodes nodes all.calls) (counts-stay d.nodes nodes all.reads.counts)
+
+abbrev pub with_graph : DriverView → List Decl → List NodeView → DriverView
+with_graph d graph nodes = record { graph = graph; nodes = nodes; sent = d.sent; limit = d.limit; marks = d.marks; reads = d.reads; text = d.text }
+
+pub acted-extend : (c : ℕ) (decl : Decl) (d : DriverView) (nodes : List NodeView) → Stands c d → AllExtend (d.graph ++ decl ∷ []) decl d.nodes nodes → Acted c c d (Extend decl ∷ []) (with_graph d (d.graph ++ decl ∷ []) nodes)
+acted-extend c decl d nodes ready all =
+    let e = with_graph d (d.graph ++ decl ∷ []) nodes in
+    let done : act c (run_of d) (Extend decl) ≡ Ok (run_of e) =
+    ap (λ (ps : List Peer). Ok (record { graph = d.graph ++ decl ∷ []; peers = ps; sent = d.sent; marks = map marked_of d.marks; reads = map opened_of d.reads; text = d.text }))
+    (ap (λ (k : ℕ). map (extended k decl) (peers_of d.nodes)) (length-map d.nodes (λ (n : NodeView). n.peer)) ∙ sym all.peers) in
+    acted-one c c d e (Extend decl)
+    (record {
+      some = omega (arith, ready.some, all.size);
+      few = omega (arith, ready.few, all.size);
+      nodes = subst (λ (many : ℕ). AreNodes (d.graph ++ decl ∷ []) many nodes) (sym all.size) all.nodes_are;
+      limit = ready.limit;
+      sound = subst (λ (many : ℕ). IsSound many c (stage_of e) (run_of e)) (sym all.size) (sound-extend (length d.nodes) c (stage_of d) decl (run_of d) (run_of e) ready.sound done);
+      waiting = all.reads.waiting c d.reads ready.waiting;
+    })
+    all.size refl done (calls-each d.nodes nodes (fed (model.Extend decl) ∷ []) all.calls) (counts-stay d.nodes nodes all.reads.counts)
+
+-- the nodes of a run may be settled
+pub may-settle : (c : ℕ) (lib : Library) (d : DriverView) → Stands c d → FitsAll lib d.graph → MaySettle lib d.graph d.nodes
+may-settle c lib d ready fits = record { few = ready.few; nodes_are = ready.nodes; held = ready.sound.held; fits = fits }
+
+pub acts-point : {A : Type 0} (c : ℕ) (d : DriverView) (nodes : List NodeView) (result : Result A Halt) → Stands c d → SettlesAll c d.graph d.nodes result nodes → ActsSeen c c d (Point ∷ []) result (with_nodes d nodes)
+acts-point c d nodes (Ok done) ready all = acted-point c d nodes ready all.0 (all.1 (run_of d) refl)
+acts-point c d nodes (Err why) ready all = halts-one c (run_of d) Point why (all (run_of d) refl)
+
+pub settled-point : {A : Type 0} (c : ℕ) (g : List Decl) (old new : List NodeView) (result : Result A Halt) → SettlesAll c g old result new → OnOk result (AreSettled new)
+settled-point c g old new (Ok done) all = all.0.settled
+settled-point c g old new (Err why) all = tt
+
+-- ---- the start
+
+pub starts-fresh : (g : List Decl) (many : ℕ) (d : DriverView) → 1 ≤ many → many ≤ 8 → AreFresh g many many d.nodes → d.graph ≡ g → d.sent ≡ [] → d.limit ≡ network_limit → d.marks ≡ [] → d.reads ≡ [] → d.text ≡ [] → Starts g many d
+starts-fresh g many d some few fresh graph sent limit marks reads text =
+    let run : run_of d ≡ start g many =
+    ap (λ (h : List Decl). record { graph = h; peers = peers_of d.nodes; sent = d.sent; marks = map marked_of d.marks; reads = map opened_of d.reads; text = d.text }) graph
+    ∙ ap (λ (ps : List Peer). record { graph = g; peers = ps; sent = d.sent; marks = map marked_of d.marks; reads = map opened_of d.reads; text = d.text }) fresh.peers
+    ∙ ap (λ (ms : List Message). record { graph = g; peers = replicate many (fresh_peer g many); sent = ms; marks = map marked_of d.marks; reads = map opened_of d.reads; text = d.text }) sent
+    ∙ ap (λ (ms : List Mark). record { graph = g; peers = replicate many (fresh_peer g many); sent = []; marks = map marked_of ms; reads = map opened_of d.reads; text = d.text }) marks
+    ∙ ap (λ (rs : List (OpenRead Read)). record { graph = g; peers = replicate many (fresh_peer g many); sent = []; marks = []; reads = map opened_of rs; text = d.text }) reads
+    ∙ ap (λ (bytes : List ℕ). record { graph = g; peers = replicate many (fresh_peer g many); sent = []; marks = []; reads = []; text = bytes }) text in
+    let stage : stage_of d ≡ opening_stage g =
+    ap (λ (h : List Decl). record { graph = h; marked = map (λ (m : Mark). m.var) d.marks; sent = length d.sent }) graph
+    ∙ ap (λ (ms : List Mark). record { graph = g; marked = map (λ (m : Mark). m.var) ms; sent = length d.sent }) marks
+    ∙ ap (λ (ms : List Message). record { graph = g; marked = []; sent = length ms }) sent in
+    record {
+      size = fresh.size;
+      ready = record {
+        some = omega (arith, some, fresh.size);
+        few = omega (arith, few, fresh.size);
+        nodes = subst (λ (k : ℕ). AreNodes d.graph k d.nodes) (sym fresh.size) (subst (λ (h : List Decl). AreNodes h many d.nodes) (sym graph) fresh.nodes_are);
+        limit = limit;
+        sound = subst (λ (k : ℕ). IsSound k 1 (stage_of d) (run_of d)) (sym fresh.size)
+            (subst (λ (r : Run). IsSound many 1 (stage_of d) r) (sym run) (subst (λ (s : Stage). IsSound many 1 s (start g many)) (sym stage) (sound-start many g)));
+        waiting = subst (λ (rs : List (OpenRead Read)). AreWaiting 1 d.nodes rs) (sym reads) (all-fresh many d.nodes fresh.reads);
+      };
+      run = run;
+      stage = stage;
+      calls = fresh.calls;
+      reads = fresh.reads;
+    }
+
+-- ---- the report
+
+-- each read of a driver can be polled at its end
+pub opened-ready : (c : ℕ) (d : DriverView) → Stands c d → AreSettled d.nodes → AreOpened d.nodes d.reads
+opened-ready c d ready settled k r at = record {
+  settled = settled;
+  node = here.node;
+  may = λ n there.
+      let place : IsNode d.graph (length d.nodes) r.node n = ready.nodes r.node n there in
+      record {
+        var = var-here d.graph r.read.var n place.graph here.var;
+        suits_it = suited-here d.graph (length d.nodes) r.node r.read.var n r.read.threshold place here.suits_it;
+      };
+} where
+  here : IsOpened (length d.nodes) d.graph (opened_of r)
+  here = subst (IsOpened (length d.nodes) d.graph) (mapped-or opened_of d.reads k r no_read at) (ready.sound.reads k (omega (arith, slice_get_within d.reads k r at, length-map d.reads opened_of)))
+
+-- ---- thresholds and places
+
+-- a threshold that a command may ask for has a mark that is there
+pub until-within : (d : DriverView) (x : ℕ) (until : rust_until.Until) → MayAsk (length d.nodes) (stage_of d) x (until_of until) → IsUntilWithin (length d.marks) until
+until-within d x (rust_variants.AtLeast m) may = omega (arith, may.0, length-map d.marks (λ (m : Mark). m.var))
+until-within d x (rust_variants.Above m) may = omega (arith, may.0, length-map d.marks (λ (m : Mark). m.var))
+until-within d x (rust_variants.Count k) may = tt
+until-within d x (rust_variants.Added vs) may = tt
+until-within d x (rust_variants.Removed vs) may = tt
+
+-- there is one node at a place
+pub same-node : (nodes : List NodeView) (p : ℕ) (n m : NodeView) → slice_get nodes p ≡ Some n → slice_get nodes p ≡ Some m → n ≡ m
+same-node nodes p n m here there = sym (get_or_from_slice_get nodes p n n here) ∙ get_or_from_slice_get nodes p m n there
+
+-- ---- what stands behind a point
+
+-- the place of a command is there
+pub place-stays : (c p x : ℕ) (d e : DriverView) → Acted c c d (Point ∷ []) e → IsPlace (length d.nodes) (stage_of d) p x → IsPlace (length e.nodes) (stage_of e) p x
+place-stays c p x d e done place = (omega (arith, place.0, done.size), omega (arith, place.1, ap (λ (s : Stage). length s.graph) done.stage))
+
+pub asked-stays : (c x : ℕ) (until : Until) (d e : DriverView) → Acted c c d (Point ∷ []) e → MayAsk (length d.nodes) (stage_of d) x until → MayAsk (length e.nodes) (stage_of e) x until
+asked-stays c x until d e done may =
+    subst (λ (many : ℕ). MayAsk many (stage_of e) x until) (sym done.size) (subst (λ (s : Stage). MayAsk (length d.nodes) s x until) (sym done.stage) may)
