@@ -1,0 +1,185 @@
+-- Deltas between messages that carry what is known by their counts.
+use Rattle.std.proofs.Common.{◌≡◌, ℕ, zero, suc, ◌+◌, ◌≤◌, ◌<◌, max, ◌⊎◌, inl, inr, Bool, true, false, if◌then◌else◌, IsTrue, List, [], ◌∷◌, length, Option, Some, None, Result, refl, sym, ap, subst, ◌∙◌, arith}
+use Rattle.std.specs.List.{AllByRecursion}
+use Rattle.model_states.specs.Counts.{zeros, count_at, larger, AreCountsAtMost}
+use Rattle.model_states.specs.Content.{Content, least, join_contents, Key, at_row, at_value, at_count, at_top, content_mark, IsContentAtMost, IsOrdered}
+use Rattle.model_states.proofs.CountLaws.{count_at-zeros, larger-at_most}
+use Rattle.model_states.proofs.ContentLaws.{content_mark-join, content_mark-least, at_most-least, ordered-least}
+use Rattle.model_states.proofs.DeltaLaws.{shape-counts}
+use Rattle.model_graph.specs.Graph.{Kind, OrSet, GSet, Counter, MaxReg, Union, Product, Intersection, Map, Filter, Fold, Decl, is_source, kind_at}
+use Rattle.model_graph.specs.Evaluation.{least_of}
+use Rattle.model_graph.specs.Lawful.{shape_of}
+use Rattle.model_graph.proofs.PlaceLaws.{below-or-not}
+use Rattle.model_messages.specs.Message.{Sent, Message, source_number, sent_at}
+use Rattle.model_messages.proofs.MessageLaws.{sent-past}
+use Rattle.model_world.specs.Command.{Command}
+use Rattle.model_world.specs.World.{Run, peer_at, message_at, sent_number}
+use Rattle.model_known.specs.Delta as known
+use Rattle.model_known.specs.Follow.{Followed}
+use Rattle.model_known.specs.Holds.{IsPlaceOf, Carries}
+use Rattle.model_known.proofs.HoldLaws.{sends-known}
+use Rattle.model_known.proofs.KnownLaws.{known-larger, replica-holds, message-carries}
+use Rattle.model_runs.proofs.SourceLaws.{source-shape, source-ordered}
+use Rattle.model_wire.specs.Lawful.{IsSource, IsSent, IsMessage}
+use Rattle.model_deltas.specs.Delta.{changed_content, changed_source, changed_sources, delta_of, carried}
+use Rattle.model_deltas.specs.Applied.{Cause, first_gap, joined_sources, joined, limited, unless, applied}
+use Rattle.model_deltas.specs.Before.{AreSourcesBefore, IsBefore, AreAlike}
+use Rattle.model_deltas.specs.World.{IsMessageIn}
+use Rattle.model_deltas.proofs.ChangeLaws.{changed-onto, changed-from_nothing}
+use Rattle.model_deltas.proofs.AppliedLaws.{no-gap}
+
+-- ---- sources of three messages at one place: what it was, what it is at the third, what it became
+
+pub record IsStep (s m t : Content) : Type 0 where
+  pub ordered : IsOrdered t
+  pub long : length s.counts ≤ length t.counts
+  pub later : IsContentAtMost s t
+  pub known : IsContentAtMost s m
+
+abbrev pub AreSteps : List Sent → ℕ → List Sent → List Sent → Type 0
+AreSteps before i ss ts = (j : ℕ) → j < length ts → IsStep (sent_at before (i + j)) (sent_at ss j) (sent_at ts j)
+
+here : (i : ℕ) → i + 0 ≡ i
+here i = omega arith
+
+there : (i j : ℕ) → i + suc j ≡ (i + 1) + j
+there i j = omega arith
+
+pub joined-changed : (before : List Sent) (i : ℕ) (ss ts : List Sent) → AreSteps before i ss ts → joined_sources ss (changed_sources before i ts) ≡ joined_sources ss ts
+joined-changed before i ss [] steps = refl
+joined-changed before i [] (t ∷ ts) steps =
+    let first : IsStep (sent_at before i) least t.content = subst (λ (n : ℕ). IsStep (sent_at before n) least t.content) (here i) (steps 0 (omega arith)) in
+    let same : changed_content (sent_at before i) t.content ≡ t.content = changed-from_nothing (sent_at before i) t.content first.ordered first.long first.later first.known in
+    let rest : changed_sources before (i + 1) ts ≡ ts = joined-changed before (i + 1) [] ts (λ j low. subst (λ (n : ℕ). IsStep (sent_at before n) least (sent_at ts j)) (there i j) (steps (suc j) (omega (arith, low)))) in
+    λ k. record { decl = t.decl; content = same k } ∷ rest k
+joined-changed before i (s ∷ ss) (t ∷ ts) steps =
+    let first : IsStep (sent_at before i) s.content t.content = subst (λ (n : ℕ). IsStep (sent_at before n) s.content t.content) (here i) (steps 0 (omega arith)) in
+    let same : join_contents s.content (changed_content (sent_at before i) t.content) ≡ join_contents s.content t.content =
+    changed-onto s.content (sent_at before i) t.content first.ordered first.long first.later first.known in
+    let rest : joined_sources ss (changed_sources before (i + 1) ts) ≡ joined_sources ss ts =
+    joined-changed before (i + 1) ss ts (λ j low. subst (λ (n : ℕ). IsStep (sent_at before n) (sent_at ss j) (sent_at ts j)) (there i j) (steps (suc j) (omega (arith, low)))) in
+    λ k. record { decl = s.decl; content = same k } ∷ rest k
+
+-- ---- from an earlier message to a later one
+
+same-counts : (nodes : ℕ) (s t : Sent) → s.decl ≡ t.decl → IsSent nodes s → IsSent nodes t → length s.content.counts ≡ length t.content.counts
+same-counts nodes s t e h g =
+    shape-counts (shape_of nodes t.decl.kind) s.content t.content (source-shape nodes t.decl.kind s.content (subst (λ (d : Decl). IsSource nodes d.kind s.content) e h.1)) (source-shape nodes t.decl.kind t.content g.1)
+
+pub later-sources : (nodes : ℕ) (bs ts : List Sent) → AreSourcesBefore bs ts → AllByRecursion (IsSent nodes) bs → AllByRecursion (IsSent nodes) ts → (j : ℕ) → j < length ts
+    → IsOrdered (sent_at ts j) × (length (sent_at bs j).counts ≤ length (sent_at ts j).counts) × IsContentAtMost (sent_at bs j) (sent_at ts j)
+later-sources nodes bs [] before h g j low = absurd (omega (arith, low))
+later-sources nodes [] (t ∷ ts) before h g zero low = (source-ordered nodes t.decl.kind t.content g.0.1, omega arith, at_most-least t.content)
+later-sources nodes [] (t ∷ ts) before h g (suc j) low = later-sources nodes [] ts tt tt g.1 j (omega (arith, low))
+later-sources nodes (b ∷ bs) (t ∷ ts) before h g zero low = (source-ordered nodes t.decl.kind t.content g.0.1, omega (arith, same-counts nodes b t before.0 h.0 g.0), before.1)
+later-sources nodes (b ∷ bs) (t ∷ ts) before h g (suc j) low = later-sources nodes bs ts before.2 h.1 g.1 j (omega (arith, low))
+
+-- ---- counts tell what is held
+
+nothing-counted : (nodes : ℕ) (k : Key) → content_mark (least_of nodes Counter) k ≡ 0
+nothing-counted nodes (at_row v t) = refl
+nothing-counted nodes (at_value v) = refl
+nothing-counted nodes (at_count node) = count_at-zeros nodes node
+nothing-counted nodes (at_top n) = refl
+
+nothing-held : (nodes : ℕ) (kind : Kind) (k : Key) → content_mark (least_of nodes kind) k ≡ 0
+nothing-held nodes OrSet k = content_mark-least k
+nothing-held nodes GSet k = content_mark-least k
+nothing-held nodes Counter k = nothing-counted nodes k
+nothing-held nodes MaxReg k = content_mark-least k
+nothing-held nodes (Union x y) k = content_mark-least k
+nothing-held nodes (Product x y) k = content_mark-least k
+nothing-held nodes (Intersection x y) k = content_mark-least k
+nothing-held nodes (Map x place ops) k = content_mark-least k
+nothing-held nodes (Filter x place ops) k = content_mark-least k
+nothing-held nodes (Fold x op place lift) k = content_mark-least k
+
+-- each place of a message is that of a source of the graph
+pub record HasSource (g : List Decl) (j : ℕ) : Type 0 where
+  pub var : ℕ
+  pub declared : var < length g
+  pub source : IsTrue (is_source (kind_at g var))
+  pub place : source_number g var ≡ j
+
+source-there : (g : List Decl) (j : ℕ) → j < source_number g (length g) → HasSource g j
+source-there [] j low = absurd (omega (arith, low))
+source-there (d ∷ g) j low = choose (source-there g) (is_source d.kind) refl j low where
+  choose : ((j : ℕ) → j < source_number g (length g) → HasSource g j) → (b : Bool) → is_source d.kind ≡ b → (j : ℕ) → j < (if b then source_number g (length g) + 1 else source_number g (length g)) → HasSource (d ∷ g) j
+  choose later true e zero low = record { var = 0; declared = omega arith; source = e; place = refl }
+  choose later true e (suc j) low =
+      let rest = later j (omega (arith, low)) in
+      record {
+        var = suc rest.var;
+        declared = (let d = rest.declared in omega (arith, d));
+        source = rest.source;
+        place = ap (λ (b : Bool). if b then source_number g rest.var + 1 else source_number g rest.var) e ∙ (let p = rest.place in omega (arith, p));
+      }
+  choose later false e j low =
+      let rest = later j low in
+      record {
+        var = suc rest.var;
+        declared = (let d = rest.declared in omega (arith, d));
+        source = rest.source;
+        place = ap (λ (b : Bool). if b then source_number g rest.var + 1 else source_number g rest.var) e ∙ rest.place;
+      }
+
+module _ (g : List Decl) (nodes : ℕ) (all : List (List known.Delta)) where
+  -- who counts as much holds as much
+  pub holds-more : (b m : Message) → Carries g nodes all b → Carries g nodes all m → length b.counts ≤ length m.counts → AreCountsAtMost b.counts m.counts → (j : ℕ) → IsContentAtMost (sent_at b.sources j) (sent_at m.sources j)
+  holds-more b m cb cm long counts j k = choose (below-or-not j (length b.sources)) where
+    knows : HasSource g j → content_mark (sent_at b.sources j) k ≤ content_mark (sent_at m.sources j) k
+    knows h =
+        let x = h.var in
+        let l = least_of nodes (kind_at g x) in
+        let here : join_contents l (sent_at b.sources j) ≡ known.known g nodes all b.counts x = ap (λ (i : ℕ). join_contents l (sent_at b.sources i)) (sym h.place) ∙ cb.knows x h.declared h.source in
+        let other : join_contents l (sent_at m.sources j) ≡ known.known g nodes all m.counts x = ap (λ (i : ℕ). join_contents l (sent_at m.sources i)) (sym h.place) ∙ cm.knows x h.declared h.source in
+        let both : known.known g nodes all m.counts x ≡ join_contents (known.known g nodes all b.counts x) (known.known g nodes all m.counts x) =
+        ap (λ (cs : List ℕ). known.known g nodes all cs x) (sym (larger-at_most b.counts m.counts long counts)) ∙ known-larger g nodes all b.counts m.counts x in
+        omega (
+          arith,
+          content_mark-join l (sent_at b.sources j) k,
+          content_mark-join l (sent_at m.sources j) k,
+          content_mark-join (known.known g nodes all b.counts x) (known.known g nodes all m.counts x) k,
+          nothing-held nodes (kind_at g x) k,
+          ap (λ (c : Content). content_mark c k) here,
+          ap (λ (c : Content). content_mark c k) other,
+          ap (λ (c : Content). content_mark c k) both,
+        )
+
+    choose : (j < length b.sources) ⊎ (length b.sources ≤ j) → content_mark (sent_at b.sources j) k ≤ content_mark (sent_at m.sources j) k
+    choose (inl low) = knows (source-there g j (let few = cb.few in omega (arith, low, few)))
+    choose (inr past) = omega (arith, ap (λ (c : Content). content_mark c k) (sent-past b.sources j past), content_mark-least k)
+
+  pub known-delta : (before after m : Message) → Carries g nodes all before → Carries g nodes all m → IsMessage before → IsMessage after → IsMessage m → IsBefore before after → AreAlike m after
+      → applied m (delta_of before after) ≡ unless (first_gap 0 m.counts before.counts) (limited (joined m after))
+  known-delta before after m cb cm hb ha hm step alike = choose (first_gap 0 m.counts before.counts) refl where
+    steps : AreCountsAtMost before.counts m.counts → AreSteps before.sources 0 m.sources after.sources
+    steps counts j low =
+        let later = later-sources (length after.counts) before.sources after.sources step.sources (subst (λ (n : ℕ). AllByRecursion (IsSent n) before.sources) step.nodes hb.sources) ha.sources j low in
+        let long : length before.counts ≤ length m.counts = (let e = step.nodes in let f = alike.nodes in omega (arith, e, f)) in
+        subst (λ (n : ℕ). IsStep (sent_at before.sources n) (sent_at m.sources j) (sent_at after.sources j)) (let start : j ≡ 0 + j = omega arith in start)
+        (record { ordered = later.0; long = later.1; later = later.2; known = holds-more before m cb cm long counts j })
+
+    same : AreCountsAtMost before.counts m.counts → joined m (carried (delta_of before after)) ≡ joined m after
+    same counts = λ i. record { counts = larger m.counts after.counts; sources = joined-changed before.sources 0 m.sources after.sources (steps counts) i }
+
+    choose : (o : Option Cause) → first_gap 0 m.counts before.counts ≡ o → unless o (limited (joined m (carried (delta_of before after)))) ≡ unless o (limited (joined m after))
+    choose (Some cause) e = refl
+    choose None e = ap limited (same ((no-gap m.counts before.counts).0 e))
+
+pub delta-known : (g : List Decl) (nodes : ℕ) (all : List (List known.Delta)) (before after m : Message) → Carries g nodes all before → Carries g nodes all m
+    → IsMessage before → IsMessage after → IsMessage m → IsBefore before after → AreAlike m after → applied m (delta_of before after) ≡ unless (first_gap 0 m.counts before.counts) (limited (joined m after))
+delta-known g nodes all = known-delta g nodes all
+
+-- ---- messages of a run
+
+carries-in : (g : List Decl) (nodes : ℕ) (commands : List Command) (f : Followed) → IsPlaceOf g nodes commands f → (m : Message) → IsMessageIn nodes f.run m → Carries f.run.graph nodes f.deltas m
+carries-in g nodes commands f place m (inl sent) = subst (Carries f.run.graph nodes f.deltas) (sym sent.1) (message-carries g nodes commands f place sent.0)
+carries-in g nodes commands f place m (inr node) =
+    subst (Carries f.run.graph nodes f.deltas) (sym node.2)
+    (sends-known f.run.graph nodes f.deltas (peer_at f.run.peers node.0).contents (peer_at f.run.peers node.0).counts (replica-holds g nodes commands f place node.0 node.1))
+
+pub delta-run : (g : List Decl) (nodes : ℕ) (commands : List Command) (f : Followed) → IsPlaceOf g nodes commands f → (before after m : Message) → IsMessageIn nodes f.run before → IsMessageIn nodes f.run m
+    → IsMessage before → IsMessage after → IsMessage m → IsBefore before after → AreAlike m after → applied m (delta_of before after) ≡ unless (first_gap 0 m.counts before.counts) (limited (joined m after))
+delta-run g nodes commands f place before after m b c =
+    known-delta f.run.graph nodes f.deltas before after m (carries-in g nodes commands f place before b) (carries-in g nodes commands f place m c)

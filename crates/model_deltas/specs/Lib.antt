@@ -1,0 +1,6 @@
+pub mod Delta
+pub mod Applied
+pub mod Before
+pub mod Spelling
+pub mod Reader
+pub mod World

@@ -1,0 +1,15 @@
+//! What changed between two messages of one sender: the delta from one to the other, what it makes of a third message or why it can't be applied, and its bytes. Definitions and laws.
+#![tactic(auto)]
+
+mod applied;
+mod bytes;
+mod changes;
+mod worlds;
+
+pub use applied::{applied_messages_are_messages, causes_of_refusals};
+pub use bytes::{
+    deltas_are_read_as_they_are_spelled, no_delta_begins_another,
+    refusals_of_deltas_stand_within_the_bytes,
+};
+pub use changes::{changes_make_up_the_difference, deltas_are_within_the_format};
+pub use worlds::deltas_stand_for_their_messages;
