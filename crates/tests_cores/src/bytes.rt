@@ -3,6 +3,7 @@
 use lasp_gossip::{Network, SendRefused};
 use lasp_wire::{Message, WireRefused, WireWhy, decode, encode};
 use std::alloc::{AllocError, Global};
+use std::sync::Arc;
 use std::test::Fail;
 
 /// Two nodes, of which the first counted 1, and a set `a` with the value 5.
@@ -192,11 +193,24 @@ fn sent_twice(
     Ok((first, network.send(second)))
 }
 
+/// How many hold the one message that was sent and then received twice, the network among them.
+fn holders(alloc: Global, bytes: &[u8]) -> Result<Option<usize>, Fail> {
+    let mut network = Network::new(alloc, 53);
+    let sent = network.send(decode(alloc, bytes)?);
+    if sent.is_err() || network.len() == 0 {
+        return Ok(None);
+    }
+    let first = network.receive(0)?;
+    let _second = network.receive(0)?;
+    Ok(Some(Arc::strong_count(&first)))
+}
+
 #[test]
-fn a_network_takes_what_it_has_room_for(rt: HostRuntime) -> Result<(), Fail> {
+fn a_network_takes_what_it_has_room_for_and_shares_it(rt: HostRuntime) -> Result<(), Fail> {
     let full = Err(SendRefused::NetworkFull);
     assert!(rt; sent_twice(rt.alloc(), NEW, 52)? == (full, full));
     assert!(rt; sent_twice(rt.alloc(), NEW, 53)? == (Ok(0), full));
     assert!(rt; sent_twice(rt.alloc(), NEW, 106)? == (Ok(0), Ok(1)));
+    assert_eq!(rt; holders(rt.alloc(), NEW)?, Some(3));
     Ok(())
 }

@@ -16,7 +16,9 @@ use crate::traits;
 use crate::wrong::Wrong;
 use lasp_core::{Core, DeliverRefused, ReadNo, Released, UpdateRefused, jobs_have_the_unread_rows};
 use lasp_fns::Library;
-use lasp_graph::{Decl, DeclRefused, EvalAll, Graph, States, eval_all, read_decl, read_graph};
+use lasp_graph::{
+    Decl, DeclRefused, EvalAll, Graph, States, eval_by_variable, read_decl, read_graph,
+};
 use lasp_job::Job;
 use lasp_orset::add_delta;
 use lasp_state::{Op, State, Threshold};
@@ -199,7 +201,7 @@ pub fn evaluated(alloc: Global, core: &Core, lib: &Library) -> Result<States, Ev
     sources_stay_within_the_format();
     let graph = core.graph();
     if graph.fits(lib) {
-        eval_all(alloc, graph, lib, core.states())
+        eval_by_variable(alloc, graph, lib, core.states())
     } else {
         Ok(States::new(alloc))
     }

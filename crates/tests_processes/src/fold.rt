@@ -11,6 +11,7 @@ use lasp_fns::{Library, MapOp, StepLib};
 use lasp_fold::*;
 use lasp_orset::OrSet;
 use std::alloc::{AllocError, Global};
+use std::sync::atomic::Ordering;
 use std::test::Fail;
 
 /// The most rows that a set variable may have.
@@ -43,17 +44,17 @@ fn number_after<G: FoldGroup>(
     after: &OrSet,
 ) -> Option<i128>
     requires same { library_of lib.old ≡ library.now }
-    requires place { 0 < length (lifts_of (library_of lib.old)) }
+    requires place { 1 < length (lifts_of (library_of lib.old)) }
     requires change { IsChange before.now change.now after.now }
     requires before { IsWithinLimits before.now }
     requires after { IsWithinLimits after.now }
     ensures library { library_of lib.new ≡ library_of lib.old }
 {
-    let old = fold_all(g, library.lift_at(0), before);
-    let whole = fold_all(g, library.lift_at(0), after);
-    let followed = fold_change(g, library.lift_at(0), old, before, after);
-    let counted = fold_counted(g, lib, 0, old, before, after);
-    let grown = fold_increment(g, lib, 0, old, before, change, after);
+    let old = fold_all(g, library.lift_at(1), before);
+    let whole = fold_all(g, library.lift_at(1), after);
+    let followed = fold_change(g, library.lift_at(1), old, before, after);
+    let counted = fold_counted(g, lib, 1, old, before, after);
+    let grown = fold_increment(g, lib, 1, old, before, change, after);
     if whole == followed && whole == counted && whole == grown && g.member(whole) {
         return Some(whole);
     }
@@ -98,7 +99,7 @@ fn calls_to<G: FoldGroup>(
     sets: (&OrSet, &OrSet, &OrSet),
     number: i128,
 ) -> Option<u64>
-    requires place { 0 < length (lifts_of library.now) }
+    requires place { 1 < length (lifts_of library.now) }
     requires change { IsChange sets.0.now sets.1.now sets.2.now }
     requires before { IsWithinLimits sets.0.now }
     requires after { IsWithinLimits sets.2.now }
@@ -118,7 +119,7 @@ fn calls_to_all(
     sets: (&OrSet, &OrSet, &OrSet),
     numbers: &(i128, i128, i128),
 ) -> Option<u64>
-    requires place { 0 < length (lifts_of library.now) }
+    requires place { 1 < length (lifts_of library.now) }
     requires change { IsChange sets.0.now sets.1.now sets.2.now }
     requires before { IsWithinLimits sets.0.now }
     requires after { IsWithinLimits sets.2.now }
@@ -131,7 +132,7 @@ fn calls_to_all(
 
 /// Whether the folds of a library's lift follow a change of rows so.
 fn follow(alloc: Global, library: &Library, row: &Change) -> Result<bool, AllocError>
-    requires place { 0 < length (lifts_of library.now) }
+    requires place { 1 < length (lifts_of library.now) }
 {
     let before = rows(alloc, row.0)?;
     let change = rows(alloc, row.1)?;
@@ -145,7 +146,7 @@ fn first_other(
     library: &Library,
     changes: &[Change],
 ) -> Result<Option<(i128, i128, i128)>, AllocError>
-    requires place { 0 < length (lifts_of library.now) }
+    requires place { 1 < length (lifts_of library.now) }
 {
     for row in changes {
         if !follow(alloc, library, row)? {
@@ -155,13 +156,20 @@ fn first_other(
     Ok(None)
 }
 
+/// How often the three folds call the lift over all changes: once for each value that is visible before and after, and each of three ways once for each value that came or went.
+const CALLS: u64 = 3 * (8 + 2 + 2 + 6 + 8);
+
 #[test]
-fn a_fold_follows_additions_and_removals(rt: HostRuntime) -> Result<(), Fail> {
+fn a_fold_follows_additions_and_removals_with_a_call_of_its_own_lift_for_each(
+    rt: HostRuntime,
+) -> Result<(), Fail> {
     let alloc = rt.alloc();
+    let calls = no_calls(alloc)?;
     let other = {
-        let library = crate::made::library_of(alloc, MapOp::Abs, &no_calls(alloc)?)?;
+        let library = crate::made::library_of(alloc, MapOp::Abs, &calls)?;
         first_other(alloc, &library, &CHANGES)
     };
     assert_eq!(rt; other?, None);
+    assert_eq!(rt; calls.load(Ordering::SeqCst), CALLS);
     Ok(())
 }

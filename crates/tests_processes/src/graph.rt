@@ -174,8 +174,8 @@ fn spell_next(alloc: Global, out: &mut String, graph: &Graph, text: &str) -> Res
     let read = read_decl(alloc, &tree, graph, &Library::new(alloc));
     match read {
         Ok(decl) => spell_decl(out, &decl)?,
-        Err(DeclRefused::Because(why)) => write!(out, "{why:?}")?,
         Err(DeclRefused::Memory) => return Err(Fail::from(AllocError)),
+        Err(refused) => write!(out, "{refused}")?,
     }
     Ok(())
 }

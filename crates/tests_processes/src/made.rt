@@ -141,18 +141,38 @@ fn add_maps(library: &mut Library, plain: StoredMap, counted: StoredMap) -> bool
     library.add_map("plain", plain).is_ok() && library.add_map("counted", counted).is_ok()
 }
 
-/// The library of all tests: two maps of the same operation, `plain` and `counted`, a test `even` and a lift `itself`. The calls of all but the first are counted together.
-pub fn library_of(alloc: Global, op: MapOp, calls: &Arc<AtomicU64>) -> Result<Library, AllocError>
-    ensures { IfOk result (λ l. (1 < length (maps_of l)) × (0 < length (predicates_of l)) × (0 < length (lifts_of l))) }
+/// Puts two tests into a library of no tests, and tells whether both are there.
+fn add_tests(library: &mut Library, even: StoredPred, counted: StoredPred) -> bool
+    requires none { predicates_of library.old ≡ [] }
+    ensures both { IsTrue result → 1 < length (predicates_of library.new) }
+    ensures maps { maps_of library.new ≡ maps_of library.old }
+    ensures lifts { lifts_of library.new ≡ lifts_of library.old }
 {
-    let plain = map_of(alloc, op, &no_calls(alloc)?)?;
-    let counted = map_of(alloc, op, calls)?;
-    let test = even(alloc, calls)?;
-    let lift = itself(alloc, calls)?;
+    library.add_pred("even", even).is_ok() && library.add_pred("counted", counted).is_ok()
+}
+
+/// Puts two lifts into a library of no lifts, and tells whether both are there.
+fn add_lifts(library: &mut Library, itself: StoredLift, counted: StoredLift) -> bool
+    requires none { lifts_of library.old ≡ [] }
+    ensures both { IsTrue result → 1 < length (lifts_of library.new) }
+    ensures maps { maps_of library.new ≡ maps_of library.old }
+    ensures predicates { predicates_of library.new ≡ predicates_of library.old }
+{
+    library.add_lift("itself", itself).is_ok() && library.add_lift("counted", counted).is_ok()
+}
+
+/// The library of all tests: two maps of the same operation, `plain` and `counted`, two tests of even numbers, `even` and `counted`, and two lifts that leave numbers as they are, `itself` and `counted`. The calls of the three that are named so are counted together.
+pub fn library_of(alloc: Global, op: MapOp, calls: &Arc<AtomicU64>) -> Result<Library, AllocError>
+    ensures { IfOk result (λ l. (1 < length (maps_of l)) × (1 < length (predicates_of l)) × (1 < length (lifts_of l))) }
+{
+    let none = no_calls(alloc)?;
+    let maps = (map_of(alloc, op, &none)?, map_of(alloc, op, calls)?);
+    let tests = (even(alloc, &none)?, even(alloc, calls)?);
+    let lifts = (itself(alloc, &none)?, itself(alloc, calls)?);
     let mut library = Library::new(alloc);
-    if add_maps(&mut library, plain, counted)
-        && library.add_pred("even", test).is_ok()
-        && library.add_lift("itself", lift).is_ok()
+    if add_maps(&mut library, maps.0, maps.1)
+        && add_tests(&mut library, tests.0, tests.1)
+        && add_lifts(&mut library, lifts.0, lifts.1)
     {
         return Ok(library);
     }

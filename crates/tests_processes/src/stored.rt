@@ -21,16 +21,16 @@ fn are_made(library: &Library) -> Result<bool, AllocError>
     Ok(plain == Value::Int(5) && counted == Value::Int(6) && steps.ticks() == 1)
 }
 
-/// Whether its test and its lift answer, by three calls of which two are counted.
+/// Whether its second test and its second lift answer, by three calls of which two are counted.
 fn are_told(library: &Library) -> bool
-    requires tests { 0 < length (predicates_of library.now) }
-    requires lifts { 0 < length (lifts_of library.now) }
+    requires tests { 1 < length (predicates_of library.now) }
+    requires lifts { 1 < length (lifts_of library.now) }
 {
     let mut steps = StepLib::new(library);
-    let passes = library.pred_at(0).call(&Value::Int(-4));
-    let fails = !steps.call_pred(0, &Value::Int(5));
-    let brought = steps.call_lift(0, &Value::Int(-5));
-    passes && fails && brought == -5 && steps.ticks() == 2 && steps.lift_op(1).is_none()
+    let passes = library.pred_at(1).call(&Value::Int(-4));
+    let fails = !steps.call_pred(1, &Value::Int(5));
+    let brought = steps.call_lift(1, &Value::Int(-5));
+    passes && fails && brought == -5 && steps.ticks() == 2 && steps.lift_op(2).is_none()
 }
 
 /// Whether functions are found under the names of their kind alone, with their operations.

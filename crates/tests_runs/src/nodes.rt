@@ -1,19 +1,16 @@
 //! The nodes that a run leaves, each of which keeps a core.
 
-ghost use Rattle.std.specs.Prelude.{◌≡◌, ◌<◌, ◌≤◌, ℕ, length, IfOk};
+ghost use Rattle.std.specs.Prelude.{◌≡◌, ◌<◌, ℕ, length, slice_get, Some, IfOk};
 ghost use Rattle.std.specs.Arc.{arc_value};
-ghost use Rattle.model_world.specs.World.{shown_at};
 ghost use Rattle.model_readings.specs.Lawful.{FitsAll};
 ghost use Rattle.lasp_graph.specs.Library.{library_of};
-ghost use Rattle.lasp_drive.specs.Node.{AreSettled};
-ghost use Rattle.lasp_drive.specs.Driver.{IsReady};
-ghost use Rattle.lasp_run.specs.Run.{IsRunnable};
+ghost use Rattle.lasp_drive.specs.Node.{IsSettled};
+ghost use Rattle.lasp_drive.specs.Run.{IsRunnable};
 
-use lasp_drive::{Driver, Node};
+use lasp_drive::{Driver, Node, run_on};
 use lasp_fns::Library;
 use lasp_graph::{Graph, read_graph};
 use lasp_node::CoreNode;
-use lasp_run::run_on;
 use lasp_script::{Script, read_script};
 use lasp_state::print_state;
 use model_readings::accepted_graphs_are_lawful;
@@ -23,8 +20,8 @@ use std::test::Fail;
 
 /// Appends what a settled node shows of a variable.
 fn tell_state<N: Node>(out: &mut String, alloc: Global, node: &N, x: u8) -> Result<(), AllocError>
-    requires settled { N.shown node.now ≡ shown_at (N.decls node.now) (N.peer node.now) }
-    requires var { x < length (N.decls node.now) }
+    requires settled { IsSettled (N.view node.now) }
+    requires var { x < length (N.view node.now).decls }
 {
     let text = print_state(alloc, node.state(x))?;
     out.push(' ')?;
@@ -38,8 +35,8 @@ fn tell_node<N: Node>(
     driver: &Driver<N>,
     p: usize,
 ) -> Result<(), AllocError>
-    requires ready { (c : ℕ) × (c ≤ 100000) × IsReady N.decls N.number N.among N.peer N.awaited N.number_of N.shown N.reads (length driver.now.nodes.items) c driver.now }
-    requires settled { AreSettled N.decls N.peer N.shown driver.now.nodes.items }
+    requires settled { (q : ℕ) (n : N) → slice_get driver.now.nodes.items q ≡ Some n → IsSettled (N.view n) }
+    requires graph { (q : ℕ) (n : N) → slice_get driver.now.nodes.items q ≡ Some n → (N.view n).decls ≡ arc_value driver.now.graph }
     requires node { p < length driver.now.nodes.items }
 {
     write!(
@@ -57,8 +54,8 @@ fn tell_node<N: Node>(
 
 /// What a run leaves: the lines that it printed, how many messages were sent, and each node.
 fn left<N: Node>(alloc: Global, driver: &Driver<N>) -> Result<String, AllocError>
-    requires ready { (c : ℕ) × (c ≤ 100000) × IsReady N.decls N.number N.among N.peer N.awaited N.number_of N.shown N.reads (length driver.now.nodes.items) c driver.now }
-    requires settled { AreSettled N.decls N.peer N.shown driver.now.nodes.items }
+    requires settled { (q : ℕ) (n : N) → slice_get driver.now.nodes.items q ≡ Some n → IsSettled (N.view n) }
+    requires graph { (q : ℕ) (n : N) → slice_get driver.now.nodes.items q ≡ Some n → (N.view n).decls ≡ arc_value driver.now.graph }
 {
     let mut out = String::from_str(alloc, driver.text.as_str())?;
     writeln!(out, "{} messages", driver.network.len())?;

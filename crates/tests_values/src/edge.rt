@@ -140,9 +140,33 @@ fn first_written<'a>(alloc: Global, rows: &'a [Writing<'a>]) -> Option<&'a [u8]>
     None
 }
 
+/// Whether so many bytes are written whole, through a writer that takes one a write, and into memory with just this room.
+fn is_written_whole(alloc: Global, length: usize) -> Result<bool, AllocError> {
+    let bytes = vec![in alloc; b'x'; length]?;
+    let mut faults = 0;
+    let mut writer = Sip {
+        taken: Vec::new(alloc),
+        fails_at: NEVER,
+        stops_at: NEVER,
+    };
+    let mut sink = MemSink::new(alloc, length as u64)?;
+    let answers = (
+        write_whole(&mut writer, bytes.as_slice(), &mut faults),
+        sink.put(bytes.as_slice()),
+    );
+    Ok(
+        answers == (Ok(()), Ok(()))
+            && faults == 0
+            && writer.taken.as_slice() == bytes.as_slice()
+            && sink.bytes() == bytes.as_slice(),
+    )
+}
+
 #[test]
 fn output_is_written_byte_by_byte_until_a_fault(rt: HostRuntime) -> Result<(), Fail> {
     assert_eq!(rt; first_written(rt.alloc(), &WRITES), None);
+    let is_whole = is_written_whole(rt.alloc(), 20000)?;
+    assert!(rt; is_whole);
     Ok(())
 }
 
@@ -178,9 +202,9 @@ static FETCHES: [Fetching; 7] = [
 fn reads_in_memory_fail_where_they_are_set_to(rt: HostRuntime) -> Result<(), Fail> {
     let alloc = rt.alloc();
     let mut files = MemFiles::new(alloc);
-    files.put_file(alloc, "g", b"old")?;
-    files.put_file(alloc, "g", b"graph")?;
-    files.put_file(alloc, "s", b"")?;
+    files.put_file("g", b"old")?;
+    files.put_file("g", b"graph")?;
+    files.put_file("s", b"")?;
     files.fail_at(1)?;
     files.fail_at(5)?;
     assert_eq!(rt; first_fetched(&mut files, alloc, &FETCHES), None);
@@ -239,7 +263,7 @@ static SURE_FETCHES: [Fetching; 3] = [
 #[test]
 fn sure_files_and_sinks_never_fail(rt: HostRuntime) -> Result<(), Fail> {
     let mut files = SureFiles::new(rt.alloc());
-    files.put_file(rt.alloc(), "g", b"graph")?;
+    files.put_file("g", b"graph")?;
     assert_eq!(rt; first_fetched(&mut files, rt.alloc(), &SURE_FETCHES), None);
     assert!(rt; SureSink.put(b"abc").is_ok());
     Ok(())

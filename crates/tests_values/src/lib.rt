@@ -1,4 +1,4 @@
-//! Tests of values, of joins, of sources, of files and outputs, and of the lock.
+//! Tests of values, of joins, of logs, of sources, of files and outputs, and of the lock.
 #![tactic(auto)]
 
 #[cfg(test)]
@@ -7,6 +7,10 @@ mod counters;
 mod edge;
 #[cfg(test)]
 mod histlock;
+#[cfg(test)]
+mod log;
+#[cfg(test)]
+mod logset;
 #[cfg(test)]
 mod orset;
 #[cfg(test)]

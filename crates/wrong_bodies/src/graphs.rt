@@ -3,6 +3,7 @@
 ghost use Rattle.std.specs.Prelude.{◌≡◌, ◌<◌, ◌≤◌, ◌+◌, IfOk, length};
 ghost use Rattle.model_functions.specs.Map.{mapped};
 ghost use Rattle.model_sets.specs.Equations.{map_set};
+ghost use Rattle.model_graph.specs.Lawful.{sources_among};
 ghost use Rattle.model_graph.specs.Evaluation.{eval};
 ghost use Rattle.model_readings.specs.Graph.{graph_of};
 ghost use Rattle.model_readings.specs.Lawful.{FitsAll};
@@ -13,6 +14,7 @@ ghost use Rattle.lasp_graph.specs.Answers.{Gives};
 ghost use Rattle.lasp_graph.specs.Evaluated.{Evaluates, seen, AreSets, AreNarrow};
 ghost use Rattle.lasp_graph.specs.Library.{library_of};
 ghost use Rattle.lasp_graph.specs.States.{contents_of};
+ghost use Rattle.lasp_graph.specs.Sources.{by_variable};
 
 use lasp_fns::{Library, StepLib};
 use lasp_graph::{EvalAll, Graph, GraphRefused, States, eval_all, read_graph};
@@ -33,11 +35,11 @@ pub fn evaluate(
     lib: &Library,
     sources: &States,
 ) -> Result<States, EvalAll>
-    requires all { length sources.now ≡ length g.now }
+    requires all { length sources.now ≡ length (sources_among g.now) }
     requires fits { FitsAll (library_of lib.now) g.now }
-    requires sets { AreSets g.now sources.now }
-    requires narrow { AreNarrow g.now sources.now }
-    ensures exact { Evaluates (seen contents_of result) (eval g.now (contents_of sources.now)) }
+    requires sets { AreSets g.now (by_variable g.now sources.now) }
+    requires narrow { AreNarrow g.now (by_variable g.now sources.now) }
+    ensures exact { Evaluates (seen contents_of result) (eval g.now (contents_of (by_variable g.now sources.now))) }
 {
     eval_all(alloc, g, lib, sources)
 }

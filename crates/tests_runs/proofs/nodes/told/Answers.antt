@@ -3,7 +3,7 @@ use Rattle.std.specs.Prelude.{List}
 use Rattle.model_graph.specs.Graph.{Decl}
 use Rattle.model_readings.specs.Lawful.{FitsAll}
 use Rattle.lasp_graph.specs.Library.{library_of}
-use Rattle.lasp_run.specs.Run.{IsRunnable}
+use Rattle.lasp_drive.specs.Run.{IsRunnable}
 use Rattle.tests_runs.proofs.nodes.told.Goals as goal
 
 pub end-requires : goal.end-requires
