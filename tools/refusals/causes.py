@@ -4,7 +4,7 @@ A line stands here as there: of its words, those in capitals stand for what the 
 """
 LINES = {
     "usage": "The words have none of these forms: plain GRAPH SCRIPT, check GRAPH, export GRAPH SCRIPT NODE with NODE a digit from 0 to 7, "
-    "merge GRAPH FILE .. with one to eight files.",
+    "merge GRAPH FILE .. with one to eight files, dots SCRIPT.",
     "graph NUMBER CAUSE": "The graph is refused.",
     "script NUMBER CAUSE": "The script is refused.",
     "read fault FILE": "The file couldn't be read: it isn't there, is a folder, or isn't for you to read.",
@@ -42,6 +42,7 @@ COMMAND = {
     "ValueRefused": "The value isn't a whole number of 64 bits, a text or a pair of values, or has more than 8 parts or 256 bytes of text; "
     "or the number of an inc or max is out of its range.",
     "NotSent": "No command before this one sends a message with this number; they are counted from 0, and a sync sends one for each node.",
+    "NotDots": "Of all commands dots knows add, remove, send, deliver, sync, settle and print alone: its replicas keep no tombstones, and have no marks to bind, no reads and one variable.",
     "TooMany": "There are too many: of commands 100,000, of reads and of marks 1,000 each, of variables 64.",
 }
 CAUSES = {

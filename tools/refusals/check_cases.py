@@ -108,5 +108,6 @@ REFUSALS = {
         (f'{NODES}["add",1,"a",1.5]]', "script 1 ValueRefused", '["add",1,"a",1.5]'),
         (f'{NODES}["sync"],\n["deliver",1,2]]', "script 2 NotSent", '["deliver",1,2]'),
         (f"{NODES}{MARKS}]", "script 1001 TooMany", "line 1002"),
+        (f'{NODES}["add",1,"a",1],\n["mark",1,"a","m"]]', "script 2 NotDots", '["mark",1,"a","m"]'),
     ),
 }

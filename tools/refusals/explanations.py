@@ -25,6 +25,8 @@ def files_of(words):
     word, rest = (words[0], words[1:]) if words else ("", [])
     if word == "merge":
         return Files(*rest[:1], merged=rest[1:])
+    if word == "dots":
+        return Files(script=rest[0] if rest else None)
     return Files(*rest[: 2 if word in ("plain", "export") else 1])
 
 
