@@ -90,12 +90,18 @@ kept-insert rows log k dead small kept up = record {
   few = omega (arith, length-insert rows k dead, length-append log ((k, dead) ∷ []), kept.few);
 }
 
+-- a row's key and flag, told apart, say what the row says
+pub put-raised : (rows : List Row) (k : Key) (dead : Bool) (e coming : Row) → e ≡ coming → k ≡ e.0 → dead ≡ e.1 → mark rows coming.0.0 coming.0.1 < level coming.1 → mark rows k.0 k.1 < level dead
+put-raised rows k dead e coming is key flag up =
+    let here : (k, dead) ≡ e = λ i. (key i, flag i) in
+    subst (λ (r : Row). mark rows r.0.0 r.0.1 < level r.1) (sym (here ∙ is)) up
+
 -- what an insertion and a push leave, by what they are told
 pub kept-put : (rows log rows' log' : List Row) (k : Key) (dead : Bool) (e coming : Row) → e ≡ coming → k ≡ e.0 → dead ≡ e.1 → HasSmallInts k.0 → AreKept rows log → mark rows coming.0.0 coming.0.1 < level coming.1
     → rows' ≡ insert_entry (eq_by_cmp key_cmp) rows k dead → log' ≡ log ++ e ∷ [] → AreKept rows' log'
 kept-put rows log rows' log' k dead e coming is key flag small kept up inserted pushed =
     let here : (k, dead) ≡ e = λ i. (key i, flag i) in
-    let raised : mark rows k.0 k.1 < level dead = subst (λ (r : Row). mark rows r.0.0 r.0.1 < level r.1) (sym (here ∙ is)) up in
+    let raised = put-raised rows k dead e coming is key flag up in
     subst (λ (t : List Row). AreKept t log') (sym inserted)
     (subst (AreKept (insert_entry (eq_by_cmp key_cmp) rows k dead)) (sym (pushed ∙ ap (λ (r : Row). log ++ r ∷ []) (sym here))) (kept-insert rows log k dead small kept raised))
 

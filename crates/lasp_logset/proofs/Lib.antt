@@ -1,3 +1,4 @@
 -- Laws of a set that is kept as its log and a table.
 pub mod KeptLaws
 pub mod LiveLaws
+pub mod ChainLaws

@@ -19,14 +19,14 @@ use Rattle.model_sets.proofs.RiseLaws.{at-own, none-or, row-apart, log-joined}
 use Rattle.model_sets.proofs.UpdateLaws.{remove-mark}
 use Rattle.model_sets.proofs.WordLaws.{visible-live}
 use Rattle.lasp_logset.specs.Kept.{AreKept}
-use Rattle.lasp_logset.specs.Live.{IsLiveRow, AreBuried}
+use Rattle.lasp_logset.specs.Live.{IsLiveRow, AreBuried, IsLeft, IsBuriedRow}
 
 -- ---- places and marks
 
-some-inj : {X : Type 0} (x y : X) → Some x ≡ Some y → x ≡ y
+pub some-inj : {X : Type 0} (x y : X) → Some x ≡ Some y → x ≡ y
 some-inj x y e = ap (λ o. unwrap_or o x) e
 
-got-within : {X : Type 0} (xs : List X) (i : ℕ) (x : X) → slice_get xs i ≡ Some x → i < length xs
+pub got-within : {X : Type 0} (xs : List X) (i : ℕ) (x : X) → slice_get xs i ≡ Some x → i < length xs
 got-within [] i x e = cc
 got-within (y ∷ xs) zero x e = omega arith
 got-within (y ∷ xs) (suc i) x e = omega (arith, got-within xs i x e)
@@ -84,19 +84,21 @@ live-within rows v i live = got-within rows i ((v, live.0), false) live.1
 
 -- ---- what is asked of a value
 
-pub has-answer : (rows log : List Row) (v : Val) (n : ℕ) (b : Bool) → AreKept rows log → AreApart rows → (n < length rows → IsLiveRow rows v n) → ((i : ℕ) → IsLiveRow rows v i → 0 ≤ i → n ≤ i) → b ≡ nat_lt n (length rows)
+pub has-words : (rows log : List Row) (v : Val) (b : Bool) → AreKept rows log → AreApart rows → (IsTrue b → (i : ℕ) × IsLiveRow rows v i) → (b ≡ false → (i : ℕ) → IsLiveRow rows v i → ⊥)
     → (IsTrue b → IsHeld (visible (of_rows log)) v) × (IsHeld (visible (of_rows log)) v → IsTrue b)
-has-answer rows log v n b kept apart found passed is = (
+has-words rows log v b kept apart some none = (
   λ h.
-      let live = found (grind (arith, nat_tests, is, h)) in
-      (visible-live (of_rows log) (ascending-of_rows log) v).1 (live.0, omega (arith, mark-of_rows log v live.0, kept.marks v live.0, live-mark rows n v live.0 apart live.1)),
+      let found = some h in
+      (visible-live (of_rows log) (ascending-of_rows log) v).1
+      (found.1.0, omega (arith, mark-of_rows log v found.1.0, kept.marks v found.1.0, live-mark rows found.0 v found.1.0 apart found.1.1)),
   λ held.
       let live = (visible-live (of_rows log) (ascending-of_rows log) v).0 held in
       let place = mark-live rows v live.0 (omega (arith, live.1, mark-of_rows log v live.0, kept.marks v live.0)) in
-      let low : n ≤ place.0 = passed place.0 (live.0, place.1) (omega arith) in
-      let within : place.0 < length rows = got-within rows place.0 ((v, live.0), false) place.1 in
-      grind (arith, nat_tests, is, low, within),
-)
+      answer b refl place.0 (live.0, place.1),
+) where
+  answer : (c : Bool) → b ≡ c → (i : ℕ) → IsLiveRow rows v i → IsTrue b
+  answer true is i live = is
+  answer false is i live = absurd (none is i live)
 
 -- the value has a row, by any rows of the same state
 same-words : (s t : List Row) (v : Val) (dead : Bool) → of_rows s ≡ of_rows t → HasRowOf s v dead → HasRowOf t v dead
@@ -120,57 +122,68 @@ mark-added s r u t =
     let joined = ap (λ (x : List Row). mark x u t) (log-joined s (r ∷ [])) in
     omega (arith, joined, mark-of_rows (s ++ changed s (r ∷ [])) u t, mark-join (of_rows s) (of_rows (r ∷ [])) u t, mark-of_rows s u t, mark-of_rows (r ∷ []) u t)
 
-pub buried-none : (rows : List Row) (v : Val) → AreBuried rows v 0 []
-buried-none rows v = record {
-  dead = λ u t has. absurd (omega (arith, has));
-  live = λ u t has. absurd (omega (arith, has));
-  left = λ i t at less. omega arith;
-}
+pub buried-none : (rows : List Row) (v : Val) → AreBuried rows v []
+buried-none rows v = record { dead = λ u t has. absurd (omega (arith, has)); live = λ u t has. absurd (omega (arith, has)) }
 
-buried-more : (rows delta delta' : List Row) (v : Val) (place : ℕ) (t : Tok) → slice_get rows place ≡ Some ((v, t), false) → AreBuried rows v place delta → delta' ≡ delta ++ changed delta (((v, t), true) ∷ []) → AreBuried rows v (place + 1) delta'
-buried-more rows delta delta' v place t at before is = record {
-  dead = λ u w has. none-or (own u w) 0 (mark delta' u w ≡ 2)
+made-marks : (rows delta delta' : List Row) (v : Val) (place : ℕ) (b : IsBuriedRow rows v place delta delta') (u : Val) (w : Tok) → mark delta' u w ≡ max (mark delta u w) (row_mark ((v, b.token), true) u w)
+made-marks rows delta delta' v place b u w = ap (λ (x : List Row). mark x u w) b.made ∙ mark-added delta ((v, b.token), true) u w
+
+pub buried-more : (rows delta delta' : List Row) (v : Val) (place : ℕ) → IsBuriedRow rows v place delta delta' → AreBuried rows v delta → AreBuried rows v delta'
+buried-more rows delta delta' v place b before = record {
+  dead = λ u w has. none-or (row_mark ((v, b.token), true) u w) 0 (mark delta' u w ≡ 2)
       (λ some. omega (arith, made u w, two u w some, mark-small delta u w))
       (λ none. omega (arith, made u w, none, before.dead u w (omega (arith, has, made u w, none))));
-  live = λ u w has. none-or (own u w) 0 ((i : ℕ) × (u ≡ v) × (slice_get rows i ≡ Some ((v, w), false)))
-      (λ some. at-own (λ (x : Val) (y : Tok). (i : ℕ) × (x ≡ v) × (slice_get rows i ≡ Some ((v, y), false))) ((v, t), true) u w some (place, refl, at))
+  live = λ u w has. none-or (row_mark ((v, b.token), true) u w) 0 ((i : ℕ) × (u ≡ v) × (slice_get rows i ≡ Some ((v, w), false)))
+      (λ some. at-own (λ (x : Val) (y : Tok). (i : ℕ) × (x ≡ v) × (slice_get rows i ≡ Some ((v, y), false))) ((v, b.token), true) u w some (place, refl, b.at))
       (λ none. before.live u w (omega (arith, has, made u w, none)));
-  left = λ i w there less.
-      let low : place ≤ i = before.left i w there (omega (arith, less, made v w)) in
-      let other : i ≢ place = λ same.
-      let one : ((v, w), false) ≡ ((v, t), false) = some-inj ((v, w), false) ((v, t), false) (sym there ∙ ap (λ (n : ℕ). slice_get rows n) same ∙ at) in
-      let here : own v w ≡ 2 = subst (λ (r : Row). own r.0.0 r.0.1 ≡ 2) (sym one) (own_mark ((v, t), true)) in
-      omega (arith, less, made v w, here) in
-      omega (arith, low, other);
 } where
-  own : Val → Tok → ℕ
-  own u w = row_mark ((v, t), true) u w
+  made : (u : Val) (w : Tok) → mark delta' u w ≡ max (mark delta u w) (row_mark ((v, b.token), true) u w)
+  made u w = made-marks rows delta delta' v place b u w
 
-  made : (u : Val) (w : Tok) → mark delta' u w ≡ max (mark delta u w) (row_mark ((v, t), true) u w)
-  made u w = ap (λ (x : List Row). mark x u w) is ∙ mark-added delta ((v, t), true) u w
+  two : (u : Val) (w : Tok) → 0 < row_mark ((v, b.token), true) u w → row_mark ((v, b.token), true) u w ≡ 2
+  two u w some = at-own (λ (x : Val) (y : Tok). row_mark ((v, b.token), true) x y ≡ 2) ((v, b.token), true) u w some (own_mark ((v, b.token), true))
 
-  two : (u : Val) (w : Tok) → 0 < row_mark ((v, t), true) u w → row_mark ((v, t), true) u w ≡ 2
-  two u w some = at-own (λ (x : Val) (y : Tok). row_mark ((v, t), true) x y ≡ 2) ((v, t), true) u w some (own_mark ((v, t), true))
+-- what is left after a row was buried was left before, and isn't that row
+pub left-before : (rows delta delta' : List Row) (v : Val) (place : ℕ) → IsBuriedRow rows v place delta delta' → (i : ℕ) → IsLeft rows v delta' i → IsLeft rows v delta i × (i ≢ place)
+left-before rows delta delta' v place b i left = (
+  (left.0, left.1, omega (arith, left.2, made-marks rows delta delta' v place b v left.0)),
+  λ same.
+      let one : ((v, left.0), false) ≡ ((v, b.token), false) = some-inj ((v, left.0), false) ((v, b.token), false) (sym left.1 ∙ ap (λ (n : ℕ). slice_get rows n) same ∙ b.at) in
+      let here : row_mark ((v, b.token), true) v left.0 ≡ 2 = subst (λ (r : Row). row_mark ((v, b.token), true) r.0.0 r.0.1 ≡ 2) (sym one) (own_mark ((v, b.token), true)) in
+      omega (arith, left.2, made-marks rows delta delta' v place b v left.0, here),
+)
 
 pub bury-row : (rows delta delta' : List Row) (v : Val) (place : ℕ) (k : Key) (dead : Bool) (e : Row) → IsLiveRow rows v place → Some (k, dead) ≡ slice_get rows place → e ≡ (k, true) → delta' ≡ delta ++ changed delta (e ∷ [])
-    → AreBuried rows v place delta → AreBuried rows v (place + 1) delta'
-bury-row rows delta delta' v place k dead e live at is made before =
+    → IsBuriedRow rows v place delta delta'
+bury-row rows delta delta' v place k dead e live at is made =
     let key : k ≡ (v, live.0) = ap (λ (r : Row). r.0) (some-inj (k, dead) ((v, live.0), false) (at ∙ live.1)) in
     let entry : e ≡ ((v, live.0), true) = is ∙ ap (λ (l : Key). (l, true)) key in
-    buried-more rows delta delta' v place live.0 live.1 before (made ∙ ap (λ (r : Row). delta ++ changed delta (r ∷ [])) entry)
+    record { token = live.0; at = live.1; made = made ∙ ap (λ (r : Row). delta ++ changed delta (r ∷ [])) entry }
 
-pub buried-skip : (rows delta : List Row) (v : Val) (place next : ℕ) → AreBuried rows v place delta → ((i : ℕ) → IsLiveRow rows v i → place ≤ i → next ≤ i) → AreBuried rows v next delta
-buried-skip rows delta v place next before passed = record { dead = before.dead; live = before.live; left = λ i t there less. passed i (t, there) (before.left i t there less) }
+-- where all before a place are done with, what is left stands from there on
+pub left-behind : (i n b : ℕ) → (i < n → i < b) → b ≡ 0 → n ≤ i
+left-behind i n b before done = by (nat_lt i n) refl where
+  by : (c : Bool) → nat_lt i n ≡ c → n ≤ i
+  by true e = let low : i < b = before (grind (arith, nat_tests, e)) in absurd (omega (arith, low, done))
+  by false e = grind (arith, nat_tests, e)
 
-pub removed-marks : (rows log delta : List Row) (v : Val) (place : ℕ) → AreKept rows log → AreApart rows → AreBuried rows v place delta → length rows ≤ place
+not-below : (s m : ℕ) → nat_lt s m ≡ false → m ≤ s
+not-below s m e = grind (arith, nat_tests, e)
+
+-- a row that neither a chain nor a pass over the rest found isn't there
+pub none-live : (rows : List Row) (v : Val) (i n b s : ℕ) → IsLiveRow rows v i → (i < n → i < b) → b ≡ 0 → (n ≤ i → s ≤ i) → nat_lt s (length rows) ≡ false → ⊥
+none-live rows v i n b s live before done passed past =
+    let low : s ≤ i = passed (left-behind i n b before done) in
+    omega (arith, low, live-within rows v i live, not-below s (length rows) past)
+
+pub removed-marks : (rows log delta : List Row) (v : Val) → AreKept rows log → AreApart rows → AreBuried rows v delta → ((i : ℕ) → IsLeft rows v delta i → ⊥)
     → (u : Val) (t : Tok) → mark delta u t ≡ (if eq_by_cmp val_cmp v u then (if mark log u t == 1 then 2 else 0) else 0)
-removed-marks rows log delta v place kept apart buried past u t = choose (eq_by_cmp val_cmp v u) refl where
+removed-marks rows log delta v kept apart buried none_left u t = choose (eq_by_cmp val_cmp v u) refl where
   here : (m : ℕ) → mark log v t ≡ m → mark delta v t ≡ (if m == 1 then 2 else 0)
   here zero e = none-or (mark delta v t) 0 (mark delta v t ≡ 0) (λ some. let live = buried.live v t some in absurd (omega (arith, e, kept.marks v t, live-mark rows live.0 v t apart live.2))) (λ none. none)
   here (suc zero) e =
       let live = mark-live rows v t (omega (arith, e, kept.marks v t)) in
-      let within : live.0 < length rows = got-within rows live.0 ((v, t), false) live.1 in
-      let done : mark delta v t ≢ 0 = λ none. (let low : place ≤ live.0 = buried.left live.0 t live.1 (omega (arith, none)) in omega (arith, low, within, past)) in
+      let done : mark delta v t ≢ 0 = λ none. none_left live.0 (t, live.1, omega (arith, none)) in
       buried.dead v t (omega (arith, done))
   here (suc (suc zero)) e = none-or (mark delta v t) 0 (mark delta v t ≡ 0) (λ some. let live = buried.live v t some in absurd (omega (arith, e, kept.marks v t, live-mark rows live.0 v t apart live.2))) (λ none. none)
   here (suc (suc (suc m))) e = absurd (omega (arith, e, mark-small log v t))

@@ -1,4 +1,5 @@
 pub mod Fed
+pub mod Chains
 pub mod Kept
 pub mod Live
 pub mod Orders

@@ -3,6 +3,8 @@
 //! A row is put behind the others where it tells more than they do, so that what a join brought is the end of the log, and a state of the past is a share of its beginning. A table finds a row by its key. Nothing is in order until a pass asks for it.
 #![tactic(auto)]
 
+mod buried;
+mod chains;
 mod coming;
 mod entry;
 mod hash;

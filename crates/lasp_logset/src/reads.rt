@@ -9,7 +9,7 @@ ghost use Rattle.model_sets.specs.Values.{IsHeld, visible};
 ghost use Rattle.model_sets.specs.Loops.{is_last};
 ghost use Rattle.lasp_value.specs.Value.{val_of};
 
-use super::live::scan_live;
+use super::buried::has_live;
 use super::rows::{Rows, TableRow};
 use super::set::LogSet;
 use super::table::count_new;
@@ -22,14 +22,14 @@ impl LogSet {
         ensures rows { of_rows result ≡ of_rows self.now }
         ensures apart { AreApart result }
     {
-        Rows::of(self.table().iter())
+        Rows::of(self.parts().0.iter())
     }
 
     /// The rows, ascending by value and then by token. It takes memory for a pointer to each, and sorts these.
     pub fn sorted(&self) -> Result<Vec<TableRow<'_>>, AllocError>
         ensures { IfOk result (λ rows. rows.items ≡ of_rows self.now) }
     {
-        let mut sorted = Vec::with_capacity(self.allocator(), self.table().len())?;
+        let mut sorted = Vec::with_capacity(self.allocator(), self.parts().0.len())?;
         let mut rows = self.iter();
         while let Some(row) = rows.next() {
             sorted.push(row)?;
@@ -38,12 +38,12 @@ impl LogSet {
         Ok(sorted)
     }
 
-    /// Whether the value has a live row. It costs a pass over the rows.
+    /// Whether the value has a live row. It costs two look-ups, and a pass over the rows that came since `index_values`.
     pub fn has(&self, value: &Value) -> bool
         ensures { IsTrue result ↔ IsHeld (visible (of_rows self.now)) (val_of value.now) }
     {
-        let rows = self.table();
-        scan_live(rows, 0, value) < rows.len()
+        let (rows, chains) = self.parts();
+        has_live(rows, chains, value)
     }
 
     /// Whether the value has a row, and a dead one where `dead` is true. It costs a pass over the rows.
@@ -81,7 +81,7 @@ impl LogSet {
     pub fn joined_rows(&self, other: &LogSet) -> u64
         ensures { result ≡ length (join (of_rows self.now) (of_rows other.now)) }
     {
-        self.rows() + count_new(self.table(), other.table())
+        self.rows() + count_new(self.parts().0, other.parts().0)
     }
 }
 

@@ -5,8 +5,10 @@ ghost use Rattle.model_sets.specs.Rows.{level, mark, of_rows, IsAtMost};
 ghost use Rattle.model_sets.specs.Equations.{changed};
 ghost use Rattle.model_sets.specs.Rises.{AreRises, AreApart};
 ghost use Rattle.model_sets.specs.Reads.{HaveSmallInts};
+ghost use Rattle.lasp_logset.specs.Chains.{AreChained};
 ghost use Rattle.lasp_logset.specs.Kept.{AreKept};
 
+use super::chains::Chains;
 use super::coming::Coming;
 use super::entry::Entry;
 use super::name::Name;
@@ -22,12 +24,13 @@ use std::marker::Model;
 pub struct LogSet {
     rows: IndexMap<Name, bool>,
     log: Log<Entry>,
+    chains: Chains,
 }
 
 impl Model for LogSet {
     ghost use Rattle.std.specs.Prelude.{List};
     ghost use Rattle.model_values.specs.Row.{Row, coded_rows};
-    ghost use Rattle.lasp_logset.specs.Kept.{AreKept};
+    ghost use Rattle.lasp_logset.specs.Kept.{IsSet};
 
     ghost Value = { List Row };
 
@@ -35,7 +38,7 @@ impl Model for LogSet {
 
     ghost view = { λ a. a.log.items };
 
-    ghost invariant = { λ a. AreKept a.rows.entries a.log.items };
+    ghost invariant = { λ a. IsSet a.rows.entries a.log.items a.chains.newest.entries a.chains.older.items };
 }
 
 impl LogSet {
@@ -46,6 +49,7 @@ impl LogSet {
         LogSet {
             rows: IndexMap::new(alloc),
             log: Log::new(alloc),
+            chains: Chains::new(alloc),
         }
     }
 
@@ -61,15 +65,23 @@ impl LogSet {
         self.log.allocator()
     }
 
-    /// The rows by their keys.
-    pub(crate) fn table(&self) -> &IndexMap<Name, bool>
-        ensures kept { AreKept result.now.entries self.now }
-        ensures apart { AreApart result.now.entries }
-        ensures small { length result.now.entries ≤ 2 ^ 32 }
+    /// The rows by their keys, and the chains that lead to the live ones of a value.
+    pub(crate) fn parts(&self) -> (&IndexMap<Name, bool>, &Chains)
+        ensures kept { AreKept result.0.now.entries self.now }
+        ensures apart { AreApart result.0.now.entries }
+        ensures small { length result.0.now.entries ≤ 2 ^ 32 }
+        ensures chained { AreChained result.0.now.entries result.1.now.newest.entries result.1.now.older.items }
     {
         let _version = self.log.len();
         let _count = self.rows.len();
-        &self.rows
+        (&self.rows, &self.chains)
+    }
+
+    /// Brings up to date what finds the rows of a value, so that `has` and `remove_delta` don't pass over the rows that came since. It costs a look-up for each of these.
+    pub fn index_values(&mut self) -> Result<(), AllocError>
+        ensures { self.new ≡ self.old }
+    {
+        self.chains.follow(&self.rows)
     }
 
     /// The number of rows, dead ones counted.

@@ -6,6 +6,7 @@ ghost use Rattle.model_sets.specs.Rows.{level, mark};
 ghost use Rattle.model_sets.specs.Equations.{changed};
 ghost use Rattle.model_sets.specs.Loops.{new_rows};
 ghost use Rattle.model_sets.specs.Rises.{AreRises};
+ghost use Rattle.lasp_logset.specs.Chains.{StayRows};
 ghost use Rattle.lasp_logset.specs.Kept.{AreKept};
 
 use super::coming::Coming;
@@ -92,6 +93,7 @@ pub(crate) fn put_in(
     ensures ok { OnOk result (log.new.items ≡ log.old.items ++ coming ∷ []) }
     ensures err { OnErr result (log.new.items ≡ log.old.items) }
     ensures kept { AreKept rows.new.entries log.new.items }
+    ensures stay { StayRows rows.old.entries rows.new.entries }
     ensures succeeds { 0 < spare rows.old → IsOk result }
     ensures spare { spare rows.old ≤ spare rows.new + 1 }
     ensures room { log.old.room ≤ log.new.room + 1 }
@@ -111,6 +113,7 @@ pub(crate) fn put_news(rows: &mut IndexMap<Name, bool>, log: &mut Log<Entry>, ne
     requires room { length news.items ≤ log.old.room }
     ensures items { log.new.items ≡ log.old.items ++ news.items }
     ensures kept { AreKept rows.new.entries log.new.items }
+    ensures stay { StayRows rows.old.entries rows.new.entries }
 {
     let mut left = news.into_iter();
     while let Some(coming) = left.next() {

@@ -1,18 +1,15 @@
 //! What an update joins in.
 
-ghost use Rattle.std.specs.Prelude.{◌≡◌, ℕ, ◌<◌, ◌+◌, ◌==◌, if◌then◌else◌, IfOk, OnOk, length};
+ghost use Rattle.std.specs.Prelude.{◌≡◌, ◌==◌, if◌then◌else◌, IfOk};
 ghost use Rattle.std.specs.Ordering.{eq_by_cmp};
 ghost use Rattle.model_values.specs.Value.{Val, val_cmp};
 ghost use Rattle.model_values.specs.Token.{Tok};
 ghost use Rattle.model_sets.specs.Rows.{mark, of_rows, join, add_delta, remove_delta};
 ghost use Rattle.lasp_value.specs.Value.{val_of};
-ghost use Rattle.lasp_logset.specs.Live.{IsLiveRow, AreBuried};
 
+use super::buried::{bury_chain, bury_rest};
 use super::entry::Entry;
-use super::live::scan_live;
-use super::name::Name;
 use super::set::LogSet;
-use indexmap::IndexMap;
 use lasp_value::{Token, Value};
 use std::alloc::{AllocError, Global};
 
@@ -32,35 +29,15 @@ pub fn add_delta(alloc: Global, value: &Value, replica: u8, k: u64) -> Result<Lo
 }
 
 impl LogSet {
-    /// What an update joins in where it removes a value: the live rows of the value that stand here, each dead. With the dead ones it would be the same to this set and to each that has its rows.
+    /// What an update joins in where it removes a value: the live rows of the value that stand here, each dead. With the dead ones it would be the same to this set and to each that has its rows. It costs a look-up, those rows, and a pass over the rows that came since `index_values`.
     pub fn remove_delta(&self, value: &Value) -> Result<LogSet, AllocError>
         ensures rows { IfOk result (λ d. (u : Val) (t : Tok) → mark d u t ≡ (if eq_by_cmp val_cmp (val_of value.now) u then (if mark self.now u t == 1 then 2 else 0) else 0)) }
         ensures joined { IfOk result (λ d. join (of_rows self.now) d ≡ join (of_rows self.now) (remove_delta (val_of value.now) (of_rows self.now))) }
     {
         let mut delta = self.empty();
-        let rows = self.table();
-        let mut place = scan_live(rows, 0, value);
-        while place < rows.len() {
-            bury(rows, place, value, &mut delta)?;
-            place = scan_live(rows, place + 1, value);
-        }
+        let (rows, chains) = self.parts();
+        bury_chain(rows, chains, value, &mut delta)?;
+        bury_rest(rows, chains.older.len(), value, &mut delta)?;
         Ok(delta)
     }
-}
-
-/// Puts the row at a place into a set, dead.
-fn bury(
-    rows: &IndexMap<Name, bool>,
-    place: usize,
-    value: &Value,
-    delta: &mut LogSet,
-) -> Result<(), AllocError>
-    requires live { IsLiveRow rows.now.entries (val_of value.now) place }
-    requires before { AreBuried rows.now.entries (val_of value.now) place delta.old }
-    ensures { OnOk result (AreBuried rows.now.entries (val_of value.now) (place + 1) delta.new) }
-{
-    if let Some((name, _)) = rows.get_index(place) {
-        delta.add(Entry::of(name.share()?, true))?;
-    }
-    Ok(())
 }

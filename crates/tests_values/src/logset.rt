@@ -33,7 +33,11 @@ impl Both {
         Ok(grew == grew_too)
     }
 
-    fn remove(&mut self, value: &Value) -> Result<bool, AllocError> {
+    /// Removes a value, found by the chain of its rows or by a pass.
+    fn remove(&mut self, value: &Value, by_chain: bool) -> Result<bool, AllocError> {
+        if by_chain {
+            self.log.index_values()?;
+        }
         let grew = self.log.join_in(&self.log.remove_delta(value)?)?;
         let grew_too = self.set.join_in(&self.set.remove_delta(value)?)?;
         Ok(grew == grew_too)
@@ -89,7 +93,8 @@ fn call(
     let value = Value::Int((number / 8 % 7) as i64);
     let is_alike = match number % 8 {
         0..=3 => here.add(alloc, &value, k)?,
-        4 | 5 => here.remove(&value)?,
+        4 => here.remove(&value, true)?,
+        5 => here.remove(&value, false)?,
         6 => here.join(there, true)?,
         _ => here.join(there, false)?,
     };
