@@ -3,6 +3,8 @@ use Rattle.std.proofs.Common.{◌≡◌, ℕ, ◌<◌, ◌≤◌, Bool, true, fa
 use Rattle.std.specs.Prelude.{slice_get, Some, Result, Ok, Err, OnOk, OnErr, IfOk, vec_len, ◌==◌}
 use Rattle.std.specs.List.{AllByRecursion}
 use Rattle.std.proofs.lemmas.List.Elements.{filter-append}
+use Rattle.std.proofs.lemmas.List.{take_at}
+use Rattle.model_values.proofs.ListLaws.{each-weaker}
 use Rattle.model_states.specs.Content.{Content, least}
 use Rattle.model_states.specs.Threshold.{Threshold, suits, meets}
 use Rattle.model_graph.specs.Graph.{Decl, kind_at}
@@ -11,7 +13,7 @@ use Rattle.model_graph.specs.Lawful as lawful
 use Rattle.model_graph.specs.Lawful.{IsDerived}
 use Rattle.model_graph.proofs.PlaceLaws.{at-append, map-length}
 use Rattle.model_runs.specs.Held.{IsHeld}
-use Rattle.model_runs.proofs.EachLaws.{each-append, each-weaker}
+use Rattle.model_runs.proofs.EachLaws.{each-append}
 use Rattle.model_journal.specs.Entry as model
 use Rattle.model_journal.specs.Entry.{Act, Entry, Frame, entry}
 use Rattle.model_journal.specs.Callers.{made_by}
@@ -41,7 +43,8 @@ use Rattle.lasp_core.specs.Core.{core_of, IsSound, AreInOrder, IsOpen, IsWatched
 use Rattle.lasp_core.specs.declared.read.ReadNo.{ReadNo}
 use Rattle.lasp_replica.specs.declared.replica.Replica.{Replica}
 use Rattle.lasp_core.proofs.OrderLaws.{order-kept, order-opened, order-pushed}
-use Rattle.lasp_core.proofs.ParkedLaws.{graph-length, state-shape, state-content, held-found}
+use Rattle.lasp_core.proofs.ParkedLaws.{graph-length, state-shape, state-content}
+use Rattle.lasp_graph.proofs.SourceLists.{held_found}
 
 -- ---- facts of a frame and entries, along equations of them
 
@@ -69,11 +72,6 @@ pub sound-core : (r : Replica) (reads : List ReadNo) (opened owed : ℕ) → IsS
 sound-core r reads opened owed is = record { legal = is.replica.legal; held = held-here r is.replica; few = is.replica.few; parked = is.parked }
 
 -- ---- parked reads are watched
-
-take-whole : {A : Type 0} (xs ys : List A) → take (length xs) (xs ++ ys) ≡ xs
-take-whole [] [] = refl
-take-whole [] (y ∷ ys) = refl
-take-whole (x ∷ xs) ys = ap (λ rest. x ∷ rest) (take-whole xs ys)
 
 still-unmet : (X : Frame) (h more : List Entry) → IsLegal X (h ++ more) → (r : Read) → version X h r.var ≡ version X (h ++ more) r.var → IsFalse (is_met X h r) → IsFalse (is_met X (h ++ more) r)
 still-unmet X h more legal r same unmet = choose (is_met X (h ++ more) r) refl where
@@ -105,7 +103,7 @@ watched new X h more is frames entries r p = record {
   within = omega (arith, long h more, ap (λ (k : List Entry). length k) entries)
 
   before : version X h r.var ≡ version (frame_of new) (take (length h) (entries_of new)) r.var
-  before = ap (λ (k : List Entry). version X k r.var) (sym (take-whole h more)) ∙ (λ i. version (sym frames i) (take (length h) (sym entries i)) r.var)
+  before = ap (λ (k : List Entry). version X k r.var) (sym ((take_at h more (length h) refl))) ∙ (λ i. version (sym frames i) (take (length h) (sym entries i)) r.var)
 
   after : version (frame_of new) (entries_of new) r.var ≡ version X (h ++ more) r.var
   after = λ i. version (frames i) (entries i) r.var
@@ -249,7 +247,7 @@ pub state-is : (r : Replica) → IsReplica r → (reads : List ReadNo) (opened o
 state-is r is reads opened owed x low s at = record {
   content = state-content r is x s at;
   shape = state-shape r is x low s at;
-  number = λ derived. state-number r is x s (held-found r.states x (held_of s) at) derived;
+  number = λ derived. state-number r is x s ((sym (held_found r.states x (held_of s) at))) derived;
 }
 
 -- ---- reads that the result of a job releases

@@ -1,8 +1,9 @@
 -- The order in which reads were opened, which all that a core does with its parked reads keeps.
 use Rattle.std.proofs.Common.{◌≡◌, ℕ, ◌<◌, ◌≤◌, ◌⊎◌, inl, inr, Bool, true, false, cond, List, [], ◌∷◌, ◌++◌, filter, sym, subst, arith}
 use Rattle.std.specs.List.{AllByRecursion}
+use Rattle.model_values.proofs.ListLaws.{each-weaker}
 use Rattle.model_graph.proofs.PlaceLaws.{below-or-not}
-use Rattle.model_runs.proofs.EachLaws.{each-append, each-weaker}
+use Rattle.model_runs.proofs.EachLaws.{each-append}
 use Rattle.model_core.specs.Core.{Read}
 use Rattle.model_core.proofs.ReadLaws.{each-kept}
 use Rattle.lasp_replica.specs.Jobs.{greatest_count, counted_up}

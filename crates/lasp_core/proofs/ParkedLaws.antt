@@ -1,5 +1,5 @@
 -- What the state of a declared variable tells of the reads of the variable.
-use Rattle.std.proofs.Common.{◌≡◌, ℕ, zero, suc, ◌<◌, IsTrue, List, [], ◌∷◌, length, sym, ap, subst, ◌∙◌, arith, Some, slice_get}
+use Rattle.std.proofs.Common.{◌≡◌, ℕ, ◌<◌, IsTrue, List, length, sym, ap, subst, ◌∙◌, arith, Some, slice_get}
 use Rattle.std.specs.Arc.{arc_value}
 use Rattle.model_states.specs.Content.{Content}
 use Rattle.model_states.specs.Threshold.{Shape, suits, meets}
@@ -9,18 +9,14 @@ use Rattle.model_journal.specs.Journal.{graph, val}
 use Rattle.model_core.specs.Core.{Read, is_met}
 use Rattle.lasp_state.specs.declared.state.State.{State}
 use Rattle.lasp_state.specs.State.{content_of, shape_of}
-use Rattle.lasp_graph.specs.States.{Held, held_of, held_at}
+use Rattle.lasp_graph.specs.States.{Held, held_of}
 use Rattle.lasp_graph.proofs.Evaluation.{shape-held}
 use Rattle.lasp_replica.proofs.PartLaws.{states-long, held-val}
 use Rattle.lasp_replica.specs.Replica.{frame_of, entries_of, parts_of, IsReplica}
 use Rattle.lasp_replica.specs.declared.replica.Replica.{Replica}
+use Rattle.lasp_graph.proofs.SourceLists.{held_found}
 
 -- ---- a declared variable's state
-
-pub held-found : (states : List Held) (i : ℕ) (h : Held) → slice_get states i ≡ Some h → held_at states i ≡ h
-held-found [] i h e = cc
-held-found (t ∷ states) zero h e = cc
-held-found (t ∷ states) (suc i) h e = held-found states i h e
 
 pub graph-length : (r : Replica) → IsReplica r → length (arc_value r.graph) ≡ length (graph (frame_of r) (entries_of r))
 graph-length r is = ap (λ (g : List Decl). length g) is.kept.graph
@@ -40,7 +36,7 @@ state-shape r is x low s at =
 -- its content is the variable's
 pub state-content : (r : Replica) → IsReplica r → (x : ℕ) → (s : State) → slice_get r.states x ≡ Some (held_of s) → content_of s ≡ val (frame_of r) (entries_of r) x
 state-content r is x s at =
-    sym (ap (λ (h : Held). h.content) (held-found r.states x (held_of s) at)) ∙ held-val (frame_of r) (entries_of r) (parts_of r) is.kept x
+    sym (ap (λ (h : Held). h.content) ((sym (held_found r.states x (held_of s) at)))) ∙ held-val (frame_of r) (entries_of r) (parts_of r) is.kept x
 
 -- a threshold that suits the variable suits its state
 pub state-suits : (r : Replica) → IsReplica r → (read : Read) → read.var < length (graph (frame_of r) (entries_of r))

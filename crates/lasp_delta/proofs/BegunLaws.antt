@@ -1,12 +1,12 @@
 -- A message that is made source by source, of a list of sources that are within the format.
 use Rattle.std.proofs.Common.{◌≡◌, ℕ, zero, suc, ◌+◌, ◌≤◌, ◌<◌, List, [], ◌∷◌, ◌++◌, length, drop, Some, refl, sym, ap, subst, ◌∙◌, append-nil, arith}
 use Rattle.std.specs.Prelude.{slice_get}
-use Rattle.std.specs.List.{AllByRecursion}
+use Rattle.std.proofs.lemmas.List.{drop_all}
+use Rattle.model_values.proofs.ListLaws.{each-push, drop-at}
 use Rattle.model_graph.proofs.PlaceLaws.{length-append}
 use Rattle.model_messages.specs.Message.{Sent, Message}
 use Rattle.model_wire.specs.Lawful.{IsSent, IsMessage}
 use Rattle.lasp_wire.specs.Sent.{message, with_source}
-use Rattle.lasp_delta.proofs.PlaceLaws.{drop-at, drop-past}
 
 -- the first i sources are there
 pub record IsBegun (counts : List ℕ) (all : List Sent) (i : ℕ) (m : Message) : Type 0 where
@@ -27,12 +27,7 @@ begun-more counts all i m s h at = record {
 }
 
 pub begun-whole : (counts : List ℕ) (all : List Sent) (i : ℕ) (m : Message) → IsBegun counts all i m → length all ≤ i → m ≡ message counts all
-begun-whole counts all i m h past = λ k. message (h.counts_are k) ((sym (append-nil m.sources) ∙ ap (λ (rest : List Sent). m.sources ++ rest) (sym (drop-past all i past)) ∙ h.whole) k)
-
--- one source more of a message that may have all of them
-each-more : (P : Sent → Type 0) (xs : List Sent) (s : Sent) → AllByRecursion P xs → P s → AllByRecursion P (xs ++ s ∷ [])
-each-more P [] s h p = (p, tt)
-each-more P (x ∷ xs) s h p = (h.0, each-more P xs s h.1 p)
+begun-whole counts all i m h past = λ k. message (h.counts_are k) ((sym (append-nil m.sources) ∙ ap (λ (rest : List Sent). m.sources ++ rest) (sym (drop_all i all past)) ∙ h.whole) k)
 
 pub begun-lawful : (counts : List ℕ) (all : List Sent) (i : ℕ) (m : Message) (s : Sent) → IsBegun counts all i m → slice_get all i ≡ Some s → length all ≤ 64 → IsMessage m → IsSent (length m.counts) s → IsMessage (with_source m s)
 begun-lawful counts all i m s h at few lawful sent = record {
@@ -41,5 +36,5 @@ begun-lawful counts all i m s h at few lawful sent = record {
   few =
       let more = begun-more counts all i m s h at in
       omega (arith, few, ap (λ (l : List Sent). length l) more.whole, length-append (m.sources ++ s ∷ []) (drop (i + 1) all));
-  sources = each-more (IsSent (length m.counts)) m.sources s lawful.sources sent;
+  sources = each-push (IsSent (length m.counts)) m.sources s lawful.sources sent;
 }

@@ -27,10 +27,6 @@ new-kept s v t has test e =
     differ : true ≡ false → ⊥
     differ q = cc
 
--- one that it has is left out
-pub old-left : (s : List Val) (v : Val) (t : List Val) (has : Bool) → IsTrue has ↔ IsHeld s v → has ≡ true → new_values s (v ∷ t) ≡ new_values s t
-old-left s v t has test e = let one : held s v ≡ 1 = test.0 e in let none : (held s v == 0) ≡ false = grind (arith, nat_tests, one) in ap (λ (b : Bool). cond b (v ∷ new_values s t) (new_values s t)) none
-
 pub new-ascends : (s t : List Val) → AreAscending t → AreAscending (new_values s t)
 new-ascends s t up = ascending-filter (λ v. held s v == 0) t up
 
@@ -48,9 +44,6 @@ pub record AreChangedTo (s t : List ℕ) (node : ℕ) (counts : List ℕ) : Type
   pub long : length counts ≡ length t
   pub done : (j : ℕ) → j < node → count_at counts j ≡ count_at (changed_counts s t) j
   pub left : (j : ℕ) → node ≤ j → count_at counts j ≡ count_at t j
-
-pub changed-start : (s t : List ℕ) → AreChangedTo s t 0 t
-changed-start s t = record { long = refl; done = λ j low. absurd (omega (arith, low)); left = λ j low. refl }
 
 -- the next count is the same
 pub changed-same : (s t counts : List ℕ) (node : ℕ) → length s ≡ length t → node < length t → AreChangedTo s t node counts → count_at s node ≡ count_at t node → AreChangedTo s t (node + 1) (slice_set counts node 0)

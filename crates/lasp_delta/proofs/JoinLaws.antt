@@ -1,18 +1,19 @@
 -- What loops over counts and sources make of two messages.
-use Rattle.std.proofs.Common.{◌≡◌, ℕ, zero, suc, ◌+◌, ◌≤◌, ◌<◌, ◌⊎◌, inl, inr, max, Bool, true, false, if◌then◌else◌, nat_lt, ◌==◌, List, [], ◌∷◌, length, map, drop, slice_set, Option, Some, None, Ok, Err, refl, sym, ap, subst, ◌∙◌, arith}
+use Rattle.std.proofs.Common.{◌≡◌, ℕ, zero, suc, ◌+◌, ◌≤◌, ◌<◌, ◌⊎◌, inl, inr, max, Bool, true, false, if◌then◌else◌, nat_lt, List, [], ◌∷◌, length, map, drop, Option, Some, Ok, Err, sym, ap, subst, ◌∙◌, arith}
 use Rattle.std.specs.Prelude.{slice_get}
 use Rattle.std.specs.List.{AllByRecursion}
 use Rattle.std.proofs.lemmas.Bool.Decides.{nat_tests}
-use Rattle.std.proofs.lemmas.List.{length-set}
+use Rattle.std.proofs.lemmas.List.{drop_all}
+use Rattle.model_values.proofs.ListLaws.{drop-at, each-at}
 use Rattle.model_states.specs.Counts.{count_at, larger}
 use Rattle.model_states.specs.Content.{Content, least, join_contents, size_of, row_limit, IsOrdered}
-use Rattle.model_states.proofs.CountLaws.{count_at-larger, length-larger, same_from_counts, count_at-set}
+use Rattle.model_states.proofs.CountLaws.{count_at-larger, length-larger, same_from_counts}
 use Rattle.model_states.proofs.ContentLaws.{at_most-least, at_most-itself}
 use Rattle.model_graph.specs.Graph.{Decl}
 use Rattle.model_graph.specs.Evaluation.{first_large}
 use Rattle.model_graph.proofs.PlaceLaws.{below-or-not, at-past}
 use Rattle.model_messages.specs.Message.{Sent, Message, sent_at}
-use Rattle.model_messages.proofs.MessageLaws.{sent-past}
+use Rattle.model_messages.proofs.MessageLaws.{sent-past, sent_at-found}
 use Rattle.model_wire.specs.Lawful.{IsNodes, IsSource, IsSent, IsMessage}
 use Rattle.model_runs.proofs.EachLaws.{each-larger}
 use Rattle.model_runs.proofs.SourceLaws.{source-join}
@@ -23,7 +24,7 @@ use Rattle.model_deltas.proofs.ChangeLaws.{changed-from_nothing}
 use Rattle.lasp_state.specs.declared.state.State.{State}
 use Rattle.lasp_state.specs.State.{content_of, shape_of}
 use Rattle.lasp_wire.specs.Sent.{message, sent}
-use Rattle.lasp_delta.proofs.PlaceLaws.{drop-at, drop-past, count-is, each-at, sent-is, changed-at, joined-both}
+use Rattle.lasp_delta.proofs.PlaceLaws.{count-is, changed-at, joined-both}
 use Rattle.lasp_delta.proofs.KindLaws.{same-kind}
 
 -- ---- gaps
@@ -44,9 +45,6 @@ gap-next counts from i have need e f enough =
     let test : nat_lt have need ≡ false = grind (arith, nat_tests, enough) in
     sym (gap-step counts from i have need e f ∙ ap (λ (b : Bool). if b then Some (Gap i have need) else first_gap (i + 1) counts (drop (i + 1) from)) test)
 
-pub gap-end : (counts from : List ℕ) (i : ℕ) → length from ≤ i → first_gap i counts (drop i from) ≡ None
-gap-end counts from i past = ap (first_gap i counts) (drop-past from i past)
-
 -- ---- larger counts
 
 -- the counts are the larger ones up to a node, and from there on the first ones
@@ -54,30 +52,6 @@ pub record AreLargerTo (s t : List ℕ) (node : ℕ) (counts : List ℕ) : Type 
   pub long : length counts ≡ length s
   pub done : (j : ℕ) → j < node → count_at counts j ≡ max (count_at s j) (count_at t j)
   pub left : (j : ℕ) → node ≤ j → count_at counts j ≡ count_at s j
-
-pub larger-start : (s t : List ℕ) → AreLargerTo s t 0 s
-larger-start s t = record { long = refl; done = λ j low. absurd (omega (arith, low)); left = λ j low. refl }
-
-pub larger-next : (s t counts : List ℕ) (node have other : ℕ) → AreLargerTo s t node counts → slice_get counts node ≡ Some have → slice_get t node ≡ Some other → node < length counts
-    → AreLargerTo s t (node + 1) (slice_set counts node (max have other))
-larger-next s t counts node have other h e f within = record {
-  long = length-set counts node (max have other) ∙ h.long;
-  done = λ j small. choose j small (below-or-not j node);
-  left = λ j high. elsewhere j (omega (arith, high)) ∙ h.left j (omega (arith, high));
-} where
-  elsewhere : (j : ℕ) → (j ≡ node → ⊥) → count_at (slice_set counts node (max have other)) j ≡ count_at counts j
-  elsewhere j n = count_at-set counts node (max have other) j within ∙ ap (λ (b : Bool). if b then max have other else count_at counts j) (let test : (j == node) ≡ false = grind (arith, nat_tests, n) in test)
-
-  here : count_at (slice_set counts node (max have other)) node ≡ max (count_at s node) (count_at t node)
-  here =
-      let itself : (node == node) ≡ true = grind (arith, nat_tests) in
-      let mine : have ≡ count_at s node = sym (count-is counts node have e) ∙ h.left node (omega arith) in
-      let theirs : other ≡ count_at t node = sym (count-is t node other f) in
-      count_at-set counts node (max have other) node within ∙ ap (λ (b : Bool). if b then max have other else count_at counts node) itself ∙ (λ k. max (mine k) (theirs k))
-
-  choose : (j : ℕ) → j < node + 1 → (j < node) ⊎ (node ≤ j) → count_at (slice_set counts node (max have other)) j ≡ max (count_at s j) (count_at t j)
-  choose j small (inl before) = elsewhere j (λ is. absurd (omega (arith, is, before))) ∙ h.done j before
-  choose j small (inr high) = subst (λ (n : ℕ). count_at (slice_set counts node (max have other)) n ≡ max (count_at s n) (count_at t n)) (let is : node ≡ j = omega (arith, small, high) in is) here
 
 pub larger-end : (s t counts : List ℕ) (node : ℕ) → length s ≡ length t → length t ≤ node → AreLargerTo s t node counts → counts ≡ larger s t
 larger-end s t counts node e past h = same_from_counts counts (larger s t) (omega (arith, h.long, e, length-larger s t)) (λ j. choose j (below-or-not j node)) where
@@ -112,7 +86,7 @@ large-next all i s e small =
     sym (large-step all i s e ∙ ap (λ (b : Bool). if b then Some i else large_from all (i + 1)) test)
 
 pub large-end : (m : Message) (i : ℕ) → length m.sources ≤ i → large_from m.sources i ≡ large_from m.sources 0 → limited m ≡ Ok m
-large-end m i past so_far = ap (small_or m) (sym so_far ∙ ap (λ (l : List Sent). first_large i (map (λ s. s.content) l)) (drop-past m.sources i past))
+large-end m i past so_far = ap (small_or m) (sym so_far ∙ ap (λ (l : List Sent). first_large i (map (λ s. s.content) l)) (drop_all i m.sources past))
 
 -- ---- sources that two messages have together
 
@@ -137,7 +111,7 @@ pub changed-is : (before after : List Sent) (i : ℕ) (name other : List ℕ) (o
     → content_of new ≡ changed_content (content_of old) (content_of state) → slice_get (changed_sources before 0 after) i ≡ Some (sent name new)
 changed-is before after i name other old state new e f shape content =
     let was : sent_at before (0 + i) ≡ content_of old =
-    (let start : 0 + i ≡ i = omega arith in ap (sent_at before) start) ∙ sent-is before i (sent other old) f in
+    (let start : 0 + i ≡ i = omega arith in ap (sent_at before) start) ∙ sent_at-found before i (sent other old) f in
     changed-at before 0 after i (sent name state) e ∙ ap (λ (c : Content). Some (changed_source c (sent name state))) was
     ∙ (λ k. Some (record { decl = record { name = name; kind = sym (same-kind new state shape) k }; content = sym content k }))
 

@@ -1,10 +1,10 @@
 -- Sources by their places, and relations of sources that go place by place.
-use Rattle.std.proofs.Common.{◌≡◌, ◌↔◌, ℕ, zero, suc, ◌+◌, ◌≤◌, ◌<◌, ◌⊎◌, inl, inr, min, List, [], ◌∷◌, ◌++◌, length, drop, Option, Some, None, refl, sym, ap, subst, ◌∙◌, arith}
+use Rattle.std.proofs.Common.{◌≡◌, ◌↔◌, ℕ, zero, suc, ◌+◌, ◌≤◌, ◌<◌, ◌⊎◌, inl, inr, min, List, [], ◌∷◌, ◌++◌, length, drop, Option, Some, None, sym, ap, subst, ◌∙◌, arith}
 use Rattle.std.specs.Prelude.{slice_get}
-use Rattle.std.specs.List.{AllByRecursion}
 use Rattle.std.specs.Option.{option_map}
-use Rattle.std.proofs.lemmas.List.{drop_more}
-use Rattle.std.proofs.lemmas.Option.{slice_get_within, get_or_from_slice_get}
+use Rattle.std.proofs.lemmas.Option.{get_or_from_slice_get}
+use Rattle.std.proofs.lemmas.List.{drop_all}
+use Rattle.model_values.proofs.ListLaws.{drop-at}
 use Rattle.model_states.specs.Counts.{count_at}
 use Rattle.model_states.specs.Content.{IsContentAtMost}
 use Rattle.model_graph.proofs.PlaceLaws.{below-or-not}
@@ -15,20 +15,6 @@ use Rattle.model_deltas.specs.Applied.{joined_source, joined_sources}
 use Rattle.model_deltas.specs.Before.{AreSourcesBefore, AreSourcesAlike}
 use Rattle.lasp_state.specs.declared.state.State.{State}
 use Rattle.lasp_wire.specs.Sent.{kind_of, held_of, held_in, sent}
-
-pub drop-at : {A : Type 0} (xs : List A) (i : ℕ) (x : A) → slice_get xs i ≡ Some x → drop i xs ≡ x ∷ drop (i + 1) xs
-drop-at xs i x e = drop_more xs i x (slice_get_within xs i x e) ∙ ap (λ y. y ∷ drop (i + 1) xs) (get_or_from_slice_get xs i x x e)
-
-pub some-at : {A : Type 0} (xs : List A) (i : ℕ) → i < length xs → (x : A) × (slice_get xs i ≡ Some x)
-some-at [] i h = absurd (omega (arith, h))
-some-at (x ∷ xs) zero h = (x, refl)
-some-at (x ∷ xs) (suc i) h = some-at xs i (omega (arith, h))
-
-pub drop-past : {A : Type 0} (xs : List A) (i : ℕ) → length xs ≤ i → drop i xs ≡ []
-drop-past [] zero h = refl
-drop-past [] (suc i) h = refl
-drop-past (x ∷ xs) zero h = absurd (omega (arith, h))
-drop-past (x ∷ xs) (suc i) h = drop-past xs i (omega (arith, h))
 
 -- what stands at a place of counts
 pub count-is : (counts : List ℕ) (i n : ℕ) → slice_get counts i ≡ Some n → count_at counts i ≡ n
@@ -41,11 +27,6 @@ past-min i m n h = choose (below-or-not i m) where
   choose (inl low) = inr (omega (arith, h, low))
   choose (inr past) = inl past
 
-pub each-at : (P : Sent → Type 0) (sources : List Sent) (i : ℕ) (t : Sent) → AllByRecursion P sources → slice_get sources i ≡ Some t → P t
-each-at P [] i t each e = absurd cc
-each-at P (s ∷ sources) zero t each e = let same : s ≡ t = cc in subst P same each.0
-each-at P (s ∷ sources) (suc i) t each e = each-at P sources i t each.1 e
-
 -- a source of a name and a state
 pub source-is : (o : Option Sent) (name : List ℕ) (state : State) → option_map (λ (s : Sent). s.decl.name) o ≡ Some name → option_map held_in o ≡ Some (held_of state) → o ≡ Some (sent name state)
 source-is None name state named held = absurd cc
@@ -53,11 +34,6 @@ source-is (Some s) name state named held =
     let name-is : s.decl.name ≡ name = cc in
     let held-is : held_in s ≡ held_of state = cc in
     λ i. Some (record { decl = record { name = name-is i; kind = (ap (λ (h : wire.Held). h.0) held-is) i }; content = (ap (λ (h : wire.Held). h.1) held-is) i })
-
-pub sent-is : (ss : List Sent) (i : ℕ) (s : Sent) → slice_get ss i ≡ Some s → sent_at ss i ≡ s.content
-sent-is [] i s e = absurd cc
-sent-is (t ∷ ss) zero s e = let same : t ≡ s = cc in ap (λ (x : Sent). x.content) same
-sent-is (t ∷ ss) (suc i) s e = sent-is ss i s e
 
 -- ---- what changed, by places
 
@@ -111,8 +87,8 @@ alike-first ss ts i s t e f =
 
 -- nothing is left of one of them
 pub alike-past : (ss ts : List Sent) (i : ℕ) → (length ss ≤ i) ⊎ (length ts ≤ i) → AreSourcesAlike (drop i ss) (drop i ts)
-alike-past ss ts i (inl h) = subst (λ (l : List Sent). AreSourcesAlike l (drop i ts)) (sym (drop-past ss i h)) tt
-alike-past ss ts i (inr h) = subst (λ (l : List Sent). AreSourcesAlike (drop i ss) l) (sym (drop-past ts i h)) (none (drop i ss)) where
+alike-past ss ts i (inl h) = subst (λ (l : List Sent). AreSourcesAlike l (drop i ts)) (sym (drop_all i ss h)) tt
+alike-past ss ts i (inr h) = subst (λ (l : List Sent). AreSourcesAlike (drop i ss) l) (sym (drop_all i ts h)) (none (drop i ss)) where
   none : (l : List Sent) → AreSourcesAlike l []
   none [] = tt
   none (s ∷ l) = tt
@@ -138,6 +114,3 @@ pub before-first : (ss ts : List Sent) (i : ℕ) (s t : Sent) → slice_get ss i
 before-first ss ts i s t e f =
     let one : AreSourcesBefore (drop i ss) (drop i ts) ≡ AreSourcesBefore (s ∷ drop (i + 1) ss) (t ∷ drop (i + 1) ts) = (λ k. AreSourcesBefore (drop-at ss i s e k) (drop-at ts i t f k)) in
     (λ h. subst (λ (T : Type 0). T) one h, λ h. subst (λ (T : Type 0). T) (sym one) h)
-
-pub before-past : (ss ts : List Sent) (i : ℕ) → length ss ≤ i → AreSourcesBefore (drop i ss) (drop i ts)
-before-past ss ts i h = subst (λ (l : List Sent). AreSourcesBefore l (drop i ts)) (sym (drop-past ss i h)) tt

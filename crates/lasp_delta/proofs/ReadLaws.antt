@@ -6,7 +6,7 @@ use Rattle.std.proofs.lemmas.List.{length-drop}
 use Rattle.model_graph.specs.Chain.{◌>>=◌}
 use Rattle.model_wire.specs.declared.wire_why.WireWhy.{WireWhy}
 use Rattle.model_wire.specs.declared.wire_why.WireWhy.TheVariants as why
-use Rattle.model_wire.specs.Reader.{Reading, Reader, if_passes, paired, both_at, counted, remade, made, list_at, number_at, ranged_at, between}
+use Rattle.model_wire.specs.Reader.{Reading, Reader, if_passes, counted, list_at, number_at, ranged_at, between}
 use Rattle.model_wire.specs.Message.{update_limit, limited_at, nothing_more, numbers_at, decoded_from}
 use Rattle.model_wire.proofs.Codecs.{test_passed}
 use Rattle.model_wire.proofs.ValueLaws.{within_range, in_range}
@@ -30,21 +30,6 @@ counted-err X Y read next bytes f e = ap (λ (r : Reading X). r >>= λ x. next x
 
 pub counted-ok : (X Y : Type 0) (read : Reader X) (next : X → Reader Y) (bytes : List ℕ) (x : X) (rest : List ℕ) → read bytes ≡ Ok (x, rest) → counted read next bytes ≡ next x rest
 counted-ok X Y read next bytes x rest e = ap (λ (r : Reading X). r >>= λ x. next x.0 x.1) e
-
-pub both-first : (X Y : Type 0) (read : Reader X) (next : X → Reader Y) (bytes : List ℕ) (f : ℕ × WireWhy) → read bytes ≡ Err f → both_at read next bytes ≡ Err f
-both-first X Y read next bytes f e = ap (λ (r : Reading X). r >>= λ x. next x.0 x.1 >>= paired x.0) e
-
-pub both-second : (X Y : Type 0) (read : Reader X) (next : X → Reader Y) (bytes : List ℕ) (x : X) (rest : List ℕ) (f : ℕ × WireWhy) → read bytes ≡ Ok (x, rest) → next x rest ≡ Err f → both_at read next bytes ≡ Err f
-both-second X Y read next bytes x rest f e g = ap (λ (r : Reading X). r >>= λ x. next x.0 x.1 >>= paired x.0) e ∙ ap (λ (r : Reading Y). r >>= paired x) g
-
-pub both-ok : (X Y : Type 0) (read : Reader X) (next : X → Reader Y) (bytes : List ℕ) (x : X) (rest : List ℕ) (y : Y) (more : List ℕ) → read bytes ≡ Ok (x, rest) → next x rest ≡ Ok (y, more) → both_at read next bytes ≡ Ok ((x, y), more)
-both-ok X Y read next bytes x rest y more e g = ap (λ (r : Reading X). r >>= λ x. next x.0 x.1 >>= paired x.0) e ∙ ap (λ (r : Reading Y). r >>= paired x) g
-
-pub made-err : (X Y : Type 0) (make : X → Y) (read : Reader X) (bytes : List ℕ) (f : ℕ × WireWhy) → read bytes ≡ Err f → made make read bytes ≡ Err f
-made-err X Y make read bytes f e = ap (λ (r : Reading X). r >>= remade make) e
-
-pub made-ok : (X Y : Type 0) (make : X → Y) (read : Reader X) (bytes : List ℕ) (x : X) (rest : List ℕ) → read bytes ≡ Ok (x, rest) → made make read bytes ≡ Ok (make x, rest)
-made-ok X Y make read bytes x rest e = ap (λ (r : Reading X). r >>= remade make) e
 
 -- an item that can't be read ends the list
 pub ends-at : (S X : Type 0) (read : S → Reader X) (next : S → X → S) (front : List X) (count i : ℕ) (s : S) (bytes : List ℕ) (total : Reading (List X)) → i < count
@@ -95,9 +80,6 @@ higher left least n rest (Ok x) low e =
     ap (λ (b : Bool). cond b (Ok x) (Err (left, why.Range))) test ∙ ap (λ (q : ℕ × List ℕ). Ok q) g.1
 higher left least n rest (Err f) low e = absurd cc
 
-pub later-ok : (least n : ℕ) (bytes rest : List ℕ) → least ≤ n → ranged_at w64 0 update_limit bytes ≡ Ok (n, rest) → ranged_at w64 least update_limit bytes ≡ Ok (n, rest)
-later-ok least n bytes rest low e = higher (length bytes) least n rest (number_at w64 bytes) low e
-
 lower : (left least n : ℕ) (rest : List ℕ) (r : Reading ℕ) → n < least → judged left 0 r ≡ Ok (n, rest) → judged left least r ≡ Err (left, why.Range)
 lower left least n rest (Ok x) low e =
     let g = test_passed (between 0 update_limit x.0) (left, why.Range) x (n, rest) e in
@@ -124,14 +106,6 @@ stays left least f (Ok x) e = choose (between 0 update_limit x.0) refl e where
   choose : (b : Bool) → between 0 update_limit x.0 ≡ b → cond b (Ok x) (Err (left, why.Range)) ≡ Err f → judged left least (Ok x) ≡ Err f
   choose true t h = absurd cc
   choose false t h = ap (λ (b : Bool). cond b (Ok x) (Err (left, why.Range))) (outside t) ∙ h
-
-pub later-err : (least : ℕ) (bytes : List ℕ) (f : ℕ × WireWhy) → ranged_at w64 0 update_limit bytes ≡ Err f → ranged_at w64 least update_limit bytes ≡ Err f
-later-err least bytes f e = stays (length bytes) least f (number_at w64 bytes) e
-
--- a number below the least one, at its place
-pub later-refused : (least n place : ℕ) (bytes rest : List ℕ) → n < least → place ≤ length bytes → ranged_at w64 0 update_limit (drop place bytes) ≡ Ok (n, rest) → RefusesAt bytes (refused.At place why.Range) (ranged_at w64 least update_limit (drop place bytes))
-later-refused least n place bytes rest low within e =
-    (later-low least n (drop place bytes) rest low e ∙ ap (λ (left : ℕ). Err (left, why.Range)) (length-drop place bytes), within)
 
 -- ---- all of the bytes
 

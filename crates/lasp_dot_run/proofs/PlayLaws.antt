@@ -1,8 +1,8 @@
 -- A script goes on command by command.
-use Rattle.std.proofs.Common.{◌≡◌, ℕ, zero, suc, ◌+◌, ◌≤◌, ◌<◌, List, [], ◌∷◌, ◌++◌, length, drop, refl, sym, ap, subst, ◌∙◌, arith}
+use Rattle.std.proofs.Common.{◌≡◌, ℕ, ◌+◌, ◌≤◌, ◌<◌, List, [], ◌∷◌, ◌++◌, length, drop, refl, sym, ap, subst, ◌∙◌, arith}
 use Rattle.std.specs.Prelude.{Bool, true, false, if◌then◌else◌, Some, None, slice_get}
-use Rattle.std.proofs.lemmas.List.{drop_more}
-use Rattle.std.proofs.lemmas.Option.{slice_get_within, get_or_from_slice_get}
+use Rattle.std.proofs.lemmas.List.{drop_all, append_assoc, append-nil}
+use Rattle.model_values.proofs.ListLaws.{drop-at}
 use Rattle.model_graph.proofs.PlaceLaws.{set-length, length-push}
 use Rattle.model_world.specs.Command as command
 use Rattle.model_world.specs.Command.{Command}
@@ -14,23 +14,6 @@ use Rattle.model_dot_worlds.specs.DotReport.{dot_print, dot_text}
 use Rattle.model_dot_worlds.specs.DotWorld.{DotWorld, dots_at, IsDotCommand, AreDotCommands, dot_acts, dot_act, dot_each, dot_play}
 use Rattle.model_dot_worlds.specs.Words.{is_dot_command, first_other}
 use Rattle.lasp_dot_run.specs.Commands.{stage_at}
-
-pub drop-at : {X : Type 0} (xs : List X) (i : ℕ) (x : X) → slice_get xs i ≡ Some x → drop i xs ≡ x ∷ drop (i + 1) xs
-drop-at xs i x e = drop_more xs i x (slice_get_within xs i x e) ∙ ap (λ y. y ∷ drop (i + 1) xs) (get_or_from_slice_get xs i x x e)
-
-pub drop-past : {X : Type 0} (xs : List X) (i : ℕ) → length xs ≤ i → drop i xs ≡ []
-drop-past [] zero h = refl
-drop-past [] (suc i) h = refl
-drop-past (x ∷ xs) zero h = absurd (omega (arith, h))
-drop-past (x ∷ xs) (suc i) h = drop-past xs i (omega (arith, h))
-
-pub append-again : (a b c : List ℕ) → (a ++ b) ++ c ≡ a ++ (b ++ c)
-append-again [] b c = refl
-append-again (n ∷ a) b c = ap (λ (rest : List ℕ). n ∷ rest) (append-again a b c)
-
-append-nothing : (a : List ℕ) → a ++ [] ≡ a
-append-nothing [] = refl
-append-nothing (n ∷ a) = ap (λ (rest : List ℕ). n ∷ rest) (append-nothing a)
 
 -- ---- what stands behind a command
 
@@ -99,19 +82,19 @@ play-next w ks i k at = ap (dot_play w) (drop-at ks i k at)
 
 pub play-end : (w : DotWorld) (ks : List Command) (i : ℕ) → length ks ≤ i → dot_play w (drop i ks) ≡ w
 unfolding dot_play
-play-end w ks i past = ap (dot_play w) (drop-past ks i past)
+play-end w ks i past = ap (dot_play w) (drop_all i ks past)
 
 pub text-next : (before after : List ℕ) (w : DotWorld) (ks : List Command) (i : ℕ) (k : Command) → slice_get ks i ≡ Some k → after ≡ before ++ dot_print w k
     → after ++ dot_text (dot_each w (dot_acts w k)) (drop (i + 1) ks) ≡ before ++ dot_text w (drop i ks)
 unfolding dot_text
 text-next before after w ks i k at e =
     ap (λ (t : List ℕ). t ++ dot_text (dot_each w (dot_acts w k)) (drop (i + 1) ks)) e
-    ∙ append-again before (dot_print w k) (dot_text (dot_each w (dot_acts w k)) (drop (i + 1) ks))
+    ∙ append_assoc before (dot_print w k) (dot_text (dot_each w (dot_acts w k)) (drop (i + 1) ks))
     ∙ ap (λ (rest : List Command). before ++ dot_text w rest) (sym (drop-at ks i k at))
 
 pub text-end : (text : List ℕ) (w : DotWorld) (ks : List Command) (i : ℕ) → length ks ≤ i → text ++ dot_text w (drop i ks) ≡ text
 unfolding dot_text
-text-end text w ks i past = ap (λ (rest : List Command). text ++ dot_text w rest) (drop-past ks i past) ∙ append-nothing text
+text-end text w ks i past = ap (λ (rest : List Command). text ++ dot_text w rest) (drop_all i ks past) ∙ append-nil text
 
 -- ---- the first command of another word
 
@@ -125,4 +108,4 @@ other-next number ks i k at known = ap (first_other number) (drop-at ks i k at) 
 
 pub other-end : (number : ℕ) (ks : List Command) (i : ℕ) → length ks ≤ i → first_other number (drop i ks) ≡ None
 unfolding first_other
-other-end number ks i past = ap (first_other number) (drop-past ks i past)
+other-end number ks i past = ap (first_other number) (drop_all i ks past)

@@ -1,23 +1,18 @@
 -- What replicas stay along acts, and acts one after the other.
-use Rattle.std.proofs.Common.{◌≡◌, ℕ, zero, suc, ◌+◌, ◌≤◌, ◌<◌, ◌⊎◌, inl, inr, Bool, true, false, not, ◌==◌, List, [], ◌∷◌, ◌++◌, length, map, slice_set, refl, sym, ap, subst, ◌∙◌, arith}
-use Rattle.std.specs.Prelude.{if◌then◌else◌, flat_map, filter, replicate, slice_index_or, Result, Ok, Err, OnOk, OnErr}
+use Rattle.std.proofs.Common.{◌≡◌, ℕ, zero, suc, ◌+◌, ◌<◌, Bool, true, false, not, ◌==◌, List, [], ◌∷◌, ◌++◌, length, map, slice_set, refl, sym, ap, subst, ◌∙◌, arith}
+use Rattle.std.specs.Prelude.{if◌then◌else◌, flat_map, filter, slice_index_or, Result, Ok, Err, OnOk, OnErr}
 use Rattle.std.specs.List.{range_with_len}
 use Rattle.std.proofs.lemmas.Bool.{eq-eqb, ne_eqb}
+use Rattle.std.proofs.lemmas.List.{append_assoc, append-nil, map_push, get_or_read}
 use Rattle.model_states.specs.Counts.{larger}
-use Rattle.model_states.proofs.CountLaws.{length-larger, length-zeros}
-use Rattle.model_graph.proofs.PlaceLaws.{below-or-not, at-set, at-replicate, set-length, length-push, length-replicate, at-append, at-last}
+use Rattle.model_states.proofs.CountLaws.{length-larger}
+use Rattle.model_graph.proofs.PlaceLaws.{at-set, set-length}
 use Rattle.model_world.specs.World.{Act, Post, Take, takes, sync_acts}
 use Rattle.model_dots.specs.Dots.{Dots, no_dots, join_dots}
-use Rattle.model_dot_worlds.specs.DotWorld.{DotWorld, dots_at, dot_start, dot_act, dot_each}
+use Rattle.model_dot_worlds.specs.DotWorld.{DotWorld, dots_at, dot_act, dot_each}
 use Rattle.lasp_dot_run.specs.Replicas.{AreWide}
 
 -- ---- widths
-
-pub wide-start : (nodes : ℕ) → AreWide (dot_start nodes)
-wide-start nodes = record {
-  nodes = λ p low. ap (λ (d : Dots). length d.counts) (at-replicate nodes p (no_dots nodes) (no_dots 0) (omega (arith, low, length-replicate nodes (no_dots nodes)))) ∙ length-zeros nodes ∙ sym (length-replicate nodes (no_dots nodes));
-  sent = λ i low. absurd (omega (arith, low));
-}
 
 pub wide-set : (w : DotWorld) (p : ℕ) (new : Dots) → AreWide w → length new.counts ≡ length w.nodes → AreWide (record { nodes = slice_set w.nodes p new; sent = w.sent })
 wide-set w p new h wide = record {
@@ -28,31 +23,11 @@ wide-set w p new h wide = record {
   sent = λ i low. h.sent i low ∙ sym (set-length w.nodes p new);
 }
 
-pub wide-push : (w : DotWorld) (new : Dots) → AreWide w → length new.counts ≡ length w.nodes → AreWide (record { nodes = w.nodes; sent = w.sent ++ new ∷ [] })
-wide-push w new h wide = record {
-  nodes = h.nodes;
-  sent = λ i low. choose i (below-or-not i (length w.sent)) (omega (arith, low, length-push w.sent new));
-} where
-  choose : (i : ℕ) → (i < length w.sent) ⊎ (length w.sent ≤ i) → i < length w.sent + 1 → length (dots_at (w.sent ++ new ∷ []) i).counts ≡ length w.nodes
-  choose i (inl low) few = ap (λ (d : Dots). length d.counts) (at-append w.sent (new ∷ []) i (no_dots 0) low) ∙ h.sent i low
-  choose i (inr high) few =
-      ap (λ (j : ℕ). length (dots_at (w.sent ++ new ∷ []) j).counts) (let last : i ≡ length w.sent = omega (arith, high, few) in last)
-      ∙ ap (λ (d : Dots). length d.counts) (at-last w.sent new (no_dots 0)) ∙ wide
-
-pub raised-wide : (counts : List ℕ) (node n many : ℕ) → length counts ≡ many → length (slice_set counts node n) ≡ many
-raised-wide counts node n many e = set-length counts node n ∙ e
-
 pub larger-wide : (c d : List ℕ) (many : ℕ) → length c ≡ many → length d ≡ many → length (larger c d) ≡ many
 larger-wide c d many e f = omega (arith, length-larger c d, e, f)
 
--- the element that an index gives
-got : (xs : List Dots) (i : ℕ) (m d : Dots) → i < length xs → m ≡ slice_index_or xs i m → m ≡ slice_index_or xs i d
-got [] i m d low e = absurd (omega (arith, low))
-got (x ∷ xs) zero m d low e = e
-got (x ∷ xs) (suc i) m d low e = got xs i m d (omega (arith, low)) e
-
 pub sent-wide : (w : DotWorld) (i : ℕ) (m : Dots) → AreWide w → i < length w.sent → m ≡ slice_index_or w.sent i m → length m.counts ≡ length w.nodes
-sent-wide w i m h low e = ap (λ (d : Dots). length d.counts) (got w.sent i m (no_dots 0) low e) ∙ h.sent i low
+sent-wide w i m h low e = ap (λ (d : Dots). length d.counts) (get_or_read w.sent i m low e (no_dots 0)) ∙ h.sent i low
 
 -- a node took a message, or memory was wanting
 pub taken-wide : {A B : Type 0} (r : Result A B) (w : DotWorld) (nodes : List Dots) (p : ℕ) (m : Dots) → OnOk r (nodes ≡ slice_set w.nodes p (join_dots (dots_at w.nodes p) m)) → OnErr r (nodes ≡ w.nodes)
@@ -63,12 +38,6 @@ taken-wide (Ok x) w nodes p m ok err h low wide =
 taken-wide (Err e) w nodes p m ok err h low wide = subst (λ (ns : List Dots). AreWide (record { nodes = ns; sent = w.sent })) (sym err) h
 
 -- ---- least sets
-
-pub replicate-push : {A : Type 0} (n : ℕ) (x : A) → replicate (n + 1) x ≡ replicate n x ++ x ∷ []
-replicate-push n x = ap (λ (m : ℕ). replicate m x) (let next : n + 1 ≡ suc n = omega arith in next) ∙ push n x where
-  push : {A : Type 0} (n : ℕ) (x : A) → replicate (suc n) x ≡ replicate n x ++ x ∷ []
-  push zero x = refl
-  push (suc n) x = ap (λ xs. x ∷ xs) (push n x)
 
 -- ---- acts one after the other
 
@@ -84,14 +53,10 @@ range-suc a (suc n) = ap (λ (ms : List ℕ). a ∷ ms) (range-suc (a + 1) n ∙
 pub range-push : (n : ℕ) → range_with_len 0 (n + 1) ≡ range_with_len 0 n ++ n ∷ []
 range-push n = ap (range_with_len 0) (let next : n + 1 ≡ suc n = omega arith in next) ∙ range-suc 0 n ∙ ap (λ (m : ℕ). range_with_len 0 n ++ m ∷ []) (let same : 0 + n ≡ n = omega arith in same)
 
-map-push : (f : ℕ → Act) (ns : List ℕ) (n : ℕ) → map f (ns ++ n ∷ []) ≡ map f ns ++ f n ∷ []
-map-push f [] n = refl
-map-push f (m ∷ ns) n = ap (λ (as' : List Act). f m ∷ as') (map-push f ns n)
-
 -- the first nodes sent, and the next does
 pub posts-push : (w : DotWorld) (p : ℕ) → dot_each w (map Post (range_with_len 0 (p + 1))) ≡ dot_act (dot_each w (map Post (range_with_len 0 p))) (Post p)
 posts-push w p =
-    ap (λ (ns : List ℕ). dot_each w (map Post ns)) (range-push p) ∙ ap (dot_each w) (map-push Post (range_with_len 0 p) p)
+    ap (λ (ns : List ℕ). dot_each w (map Post ns)) (range-push p) ∙ ap (dot_each w) (map_push Post (range_with_len 0 p) p)
     ∙ each-append w (map Post (range_with_len 0 p)) (Post p ∷ [])
 
 -- node p takes the messages of these nodes but its own
@@ -102,24 +67,16 @@ first-taken : (i p m : ℕ) (rest : List ℕ) (b : Bool) → map (λ (k : ℕ). 
 first-taken i p m rest true = refl
 first-taken i p m rest false = refl
 
-append-again : (a b c : List Act) → (a ++ b) ++ c ≡ a ++ (b ++ c)
-append-again [] b c = refl
-append-again (n ∷ a) b c = ap (λ (rest : List Act). n ∷ rest) (append-again a b c)
-
-append-nothing : (a : List Act) → a ++ [] ≡ a
-append-nothing [] = refl
-append-nothing (n ∷ a) = ap (λ (rest : List Act). n ∷ rest) (append-nothing a)
-
 -- what node p takes of node q: nothing of itself
 abbrev pub taken : ℕ → ℕ → ℕ → List Act
 taken i p q = if not (q == p) then Take p (i + q) ∷ [] else []
 
 takes-append : (i p q : ℕ) (ns : List ℕ) → takes_of i p (ns ++ q ∷ []) ≡ takes_of i p ns ++ taken i p q
-takes-append i p q [] = first-taken i p q [] (not (q == p)) ∙ append-nothing (taken i p q)
+takes-append i p q [] = first-taken i p q [] (not (q == p)) ∙ append-nil (taken i p q)
 takes-append i p q (m ∷ ns) =
     first-taken i p m (filter (λ k. not (k == p)) (ns ++ q ∷ [])) (not (m == p))
     ∙ ap (λ (rest : List Act). taken i p m ++ rest) (takes-append i p q ns)
-    ∙ sym (append-again (taken i p m) (takes_of i p ns) (taken i p q))
+    ∙ sym (append_assoc (taken i p m) (takes_of i p ns) (taken i p q))
     ∙ ap (λ (first : List Act). first ++ taken i p q) (sym (first-taken i p m (filter (λ k. not (k == p)) ns) (not (m == p))))
 
 -- the messages of the first nodes were taken, and the next's is
@@ -134,8 +91,8 @@ pub taken-own : (w : DotWorld) (i p q : ℕ) → not (q == p) ≡ false → dot_
 taken-own w i p q own = ap (λ (b : Bool). dot_each w (if b then Take p (i + q) ∷ [] else [])) own
 
 flat-push : (nodes i p : ℕ) (ns : List ℕ) → flat_map (takes nodes i) (ns ++ p ∷ []) ≡ flat_map (takes nodes i) ns ++ takes nodes i p
-flat-push nodes i p [] = append-nothing (takes nodes i p)
-flat-push nodes i p (m ∷ ns) = ap (λ (rest : List Act). takes nodes i m ++ rest) (flat-push nodes i p ns) ∙ sym (append-again (takes nodes i m) (flat_map (takes nodes i) ns) (takes nodes i p))
+flat-push nodes i p [] = append-nil (takes nodes i p)
+flat-push nodes i p (m ∷ ns) = ap (λ (rest : List Act). takes nodes i m ++ rest) (flat-push nodes i p ns) ∙ sym (append_assoc (takes nodes i m) (flat_map (takes nodes i) ns) (takes nodes i p))
 
 -- the first nodes took the messages of all others, and the next does
 pub all-push : (w : DotWorld) (nodes i p : ℕ) → dot_each w (flat_map (takes nodes i) (range_with_len 0 (p + 1))) ≡ dot_each (dot_each w (flat_map (takes nodes i) (range_with_len 0 p))) (takes nodes i p)
@@ -150,10 +107,6 @@ sync-done w v u first number size posted taken =
     taken
     ∙ (λ k. dot_each (posted k) (flat_map (takes (size k) (number k)) (range_with_len 0 (size k))))
     ∙ sym (each-append w (map Post (range_with_len 0 (length w.nodes))) (flat_map (takes (length w.nodes) (length w.sent)) (range_with_len 0 (length w.nodes))))
-
-pub on-ok : {A B P Q : Type 0} (r : Result A B) → (P → Q) → OnOk r P → OnOk r Q
-on-ok (Ok x) f h = f h
-on-ok (Err e) f h = h
 
 pub other-node : (q p : ℕ) → (q ≡ p → ⊥) → not (q == p) ≡ true
 other-node q p other = ap not (ne_eqb q p other)

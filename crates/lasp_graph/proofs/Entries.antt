@@ -9,7 +9,8 @@ use Rattle.std.proofs.lemmas.List.{length-map, map-append}
 use Rattle.std.proofs.lemmas.Slice.Eq.{bytes_eq-Decides}
 use Rattle.indexmap.specs.IndexMap.{insert_entry}
 use Rattle.model_graph.specs.Graph.{Decl}
-use Rattle.model_graph.specs.Lawful.{variable_limit, width_of, widths_from, widths}
+use Rattle.model_graph.specs.Lawful.{variable_limit, width_of, widths}
+use Rattle.model_graph.proofs.WidthLaws.{widths_from-append}
 use Rattle.model_readings.specs.Graph.{place_of}
 use Rattle.model_readings.specs.Lawful.{IsNext, IsGraph}
 use Rattle.model_readings.proofs.Graphs.{graph-push}
@@ -60,10 +61,6 @@ named_push k d (e ∷ es) h same =
     let head = named_head e es h in
     let tail = named_push k d es (named_tail e es h) same in
     λ i. head i ∷ tail i
-
-widths_from-append : (g h : List Decl) (done : List ℕ) → widths_from (g ++ h) done ≡ widths_from h (widths_from g done)
-widths_from-append [] h done = refl
-widths_from-append (d ∷ g) h done = widths_from-append g h (done ++ width_of d.kind done ∷ [])
 
 -- a declaration more has its width last
 pub widths-push : (g : List Decl) (d : Decl) → widths (g ++ d ∷ []) ≡ widths g ++ width_of d.kind (widths g) ∷ []

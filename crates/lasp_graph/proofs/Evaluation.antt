@@ -2,10 +2,10 @@
 use Rattle.std.proofs.Common.{◌≡◌, ◌∙◌, sym, ap, refl, subst, ℕ, zero, suc, ◌+◌, ◌<◌, ◌≤◌, List, [], ◌∷◌, ◌++◌, length, take, Err, Bool, IsTrue, IsFalse, true, false, Some, None, nat_lt, if◌then◌else◌, append_assoc, length-append, Result, Ok, IfOk, arith}
 use Rattle.std.proofs.lemmas.List.{append-nil, length-map, map-append}
 use Rattle.std.proofs.lemmas.Bool.{lt-ltb, le-ltb}
-use Rattle.std.proofs.lemmas.Grind.{common_steps}
 use Rattle.std.specs.List.{slice_get}
 use Rattle.std.proofs.lemmas.Option.{slice_get_within, get_or_from_slice_get}
-use Rattle.model_states.specs.Content.{Content, least, size_of, row_limit}
+use Rattle.model_values.proofs.ListLaws.{length-take_least}
+use Rattle.model_states.specs.Content.{Content, size_of, row_limit}
 use Rattle.model_states.specs.Threshold.{Shape, set}
 use Rattle.model_graph.specs.Graph.{Kind, OrSet, GSet, Counter, MaxReg, Union, Product, Intersection, Map, Filter, Fold, Decl, no_decl, kind_at, is_source, is_set}
 use Rattle.model_graph.specs.Evaluation.{content_at, equation, evaluated, eval_from, eval, first_large}
@@ -35,12 +35,6 @@ pub small-push : (done : List Content) (s : Content) → AreSmall done → size_
 small-push [] s small last = (last, tt)
 small-push (r ∷ done) s small last = (small.0, small-push done s small.1 last)
 
-pub first_large-small : (x : ℕ) (contents : List Content) → AreSmall contents → first_large x contents ≡ None
-first_large-small x [] small = refl
-first_large-small x (s ∷ contents) small =
-    let test : nat_lt row_limit (size_of s) ≡ false = le-ltb _ _ small.0 in
-    rw test (first_large-small (x + 1) contents small.1)
-
 pub first_large-found : (x : ℕ) (done : List Content) (s : Content) (rest : List Content) → AreSmall done → row_limit < size_of s
     → first_large x (done ++ s ∷ rest) ≡ Some (x + length done)
 first_large-found x [] s rest small large =
@@ -53,9 +47,6 @@ first_large-found x (r ∷ done) s rest small large =
 -- the variable's kind is that of its declaration
 pub kind_at-is : (g : List Decl) (x : ℕ) (d : Decl) → slice_get g x ≡ Some d → kind_at g x ≡ d.kind
 kind_at-is g x d at = ap (λ e. e.kind) (get_or_from_slice_get g x d no_decl at)
-
-length-take_least : (g : List Decl) (n : ℕ) → length (take n g) ≤ n
-length-take_least g n = grind (arith, common_steps)
 
 -- the inputs of a process are earlier sets
 pub record IsEarlierSet (g : List Decl) (x i : ℕ) : Type 0 where
@@ -141,9 +132,6 @@ source-inputs (Intersection i j) e = cc
 source-inputs (Map i place ops) e = cc
 source-inputs (Filter i place ops) e = cc
 source-inputs (Fold i op place lift) e = cc
-
-content-at : (contents : List Content) (x : ℕ) (s : Content) → slice_get contents x ≡ Some s → content_at contents x ≡ s
-content-at contents x s at = get_or_from_slice_get contents x s least at
 
 -- what a list of states has at a place
 pub content-held : (states : List Held) (x : ℕ) (h : Held) → slice_get states x ≡ Some h → content_at (contents_of states) x ≡ h.content

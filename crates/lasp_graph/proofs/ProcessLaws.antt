@@ -5,6 +5,7 @@ use Rattle.std.specs.Prelude.{if◌then◌else◌}
 use Rattle.std.specs.FinMap.Entries.{by_order}
 use Rattle.std.specs.declared.cmp.Ordering.{Ordering}
 use Rattle.std.specs.declared.cmp.Ordering.TheVariants.{Less, Equal, Greater}
+use Rattle.std.proofs.lemmas.Option.{same_Some}
 use Rattle.model_values.specs.Value.{Val}
 use Rattle.model_values.specs.Row.{Row, key_cmp}
 use Rattle.model_functions.specs.Library.{operations_at}
@@ -17,12 +18,9 @@ place-within [] (suc place) ops e = cc
 place-within (f ∷ functions) zero ops e = omega arith
 place-within (f ∷ functions) (suc place) ops e = omega (arith, place-within functions place ops e)
 
-same_ops : {A : Type 0} (a b : A) → Some a ≡ Some b → a ≡ b
-same_ops a b e = cc
-
 -- the function that was found is the one that was meant
 pub ops-found : {A : Type 0} (functions : List (List ℕ × A)) (place : ℕ) (found meant : A) → operations_at functions place ≡ Some found → operations_at functions place ≡ Some meant → found ≡ meant
-ops-found functions place found meant e f = same_ops found meant (sym e ∙ f)
+ops-found functions place found meant e f = same_Some found meant (sym e ∙ f)
 
 length-by_order : (o : Ordering) (a b c : List Row) (n : ℕ) → length a ≤ n → length b ≤ n → length c ≤ n → length (by_order o a b c) ≤ n
 length-by_order Less a b c n h k l = h

@@ -199,7 +199,7 @@ sources_again (d ∷ g) states (suc x) within source = by (is_source d.kind) (so
     by true h = h
     by false h = h
 
-held-content : (states : List Held) (x : ℕ) → content_at (contents_of states) x ≡ (held_at states x).content
+pub held-content : (states : List Held) (x : ℕ) → content_at (contents_of states) x ≡ (held_at states x).content
 held-content [] zero = refl
 held-content [] (suc x) = refl
 held-content (h ∷ states) zero = refl

@@ -1,7 +1,7 @@
 -- Which job is next in an idle core, what it stands for, and what its result leaves clean.
 use Rattle.std.proofs.Common.{zero, suc, ℕ, ◌≡◌, ◌+◌, ◌-◌, ◌≤◌, ◌<◌, ◌⊎◌, inl, inr, Bool, true, false, not, cond, IsTrue, nat_lt, filter, refl, sym, ap, subst, ◌∙◌, append-nil, append_assoc, arith}
 use Rattle.std.specs.Prelude.{List, [], ◌∷◌, ◌++◌, length, drop, slice_set, slice_index_or, Some, None}
-use Rattle.std.proofs.lemmas.List.{length-append}
+use Rattle.std.proofs.lemmas.List.{length-append, drop_at}
 use Rattle.std.specs.List.{AllByRecursion}
 use Rattle.std.proofs.lemmas.Bool.Decides.{nat_tests}
 use Rattle.model_states.specs.Content.{Content, size_of, row_limit}
@@ -14,10 +14,11 @@ use Rattle.model_journal.specs.Clean.{IsClean, applied, version}
 use Rattle.model_journal.specs.Legal.{IsLegal}
 use Rattle.model_world.specs.World.{Peer}
 use Rattle.model_core.specs.Core.{Core, IsCore, IsParked, Read, is_met, entered}
-use Rattle.model_core.proofs.CleanLaws.{clean-before, clean-after-bind, large-first, settled-all, settled-small}
+use Rattle.model_core.proofs.CleanLaws.{clean-before, clean-after-bind, large-first, settled-small}
 use Rattle.model_core.proofs.LegalLaws.{legal-bind-now}
 use Rattle.model_core.proofs.PeerLaws.{graph-bound, peer-bound}
 use Rattle.model_core.proofs.ReadLaws.{all-kept, met-stays}
+use Rattle.model_journal.proofs.CleanLaws.{all-clean}
 use Rattle.lasp_replica.proofs.OneLaws.{same-or-apart}
 use Rattle.lasp_job.specs.declared.job.Job.{Job}
 use Rattle.lasp_replica.specs.Jobs.{IsUnclean, IsFirst, IsNext, IsJobNow, greatest_count, counted_up, unread_rows}
@@ -236,7 +237,7 @@ pub small-settled : (many : ℕ) (a b : Core) → HasBoundIn 0 many a b → IsLe
 small-settled many a b bound legal settled = large-bound many a b bound ∙ settled-small b.frame b.entries legal settled
 
 pub shown-settled : (many : ℕ) (a b : Core) → HasBoundIn 0 many a b → IsLegal b.frame b.entries → IsSettled b → vals b.frame b.entries ≡ eval (graph a.frame a.entries) (sources a.frame a.entries)
-shown-settled many a b bound legal settled = settled-all b.frame b.entries legal settled ∙ (λ i. eval (bound.graph_is i) (ap (λ (r : Peer). r.contents) bound.peer i))
+shown-settled many a b bound legal settled = all-clean b.frame b.entries legal settled ∙ (λ i. eval (bound.graph_is i) (ap (λ (r : Peer). r.contents) bound.peer i))
 
 -- what was reached so far: the variables below some number, which is at least this one, are clean, by binds of those alone
 pub record IsBoundBelow (many : ℕ) (old new : Core) : Type 0 where
@@ -278,10 +279,6 @@ module _ (many : ℕ) (a b out c : Core) (y rows : ℕ) (core : IsLegal c.frame 
 
 -- ---- what it costs
 
-drop-behind : (h k : List Entry) → drop (length h) (h ++ k) ≡ k
-drop-behind [] k = refl
-drop-behind (e ∷ h) k = drop-behind h k
-
 rows-more : (X : Frame) (h es : List Entry) (e : Entry) → rows_bound X h (es ++ e ∷ []) ≡ rows_bound X h es + rows_behind X (h ++ es) e.act
 rows-more X h [] e =
     let same : rows_behind X (h ++ []) e.act ≡ rows_behind X h e.act = ap (λ (k : List Entry). rows_behind X k e.act) (append-nil h) in
@@ -292,7 +289,7 @@ rows-more X h (d ∷ es) e =
     omega (arith, rest, same)
 
 rows-are : (a c : Core) (es : List Entry) → c.entries ≡ a.entries ++ es → rows_since a c ≡ rows_bound a.frame a.entries es
-rows-are a c es is = ap (rows_bound a.frame a.entries) (ap (λ (h : List Entry). drop (length a.entries) h) is ∙ drop-behind a.entries es)
+rows-are a c es is = ap (rows_bound a.frame a.entries) (ap (λ (h : List Entry). drop (length a.entries) h) is ∙ (drop_at a.entries es (length a.entries) refl))
 
 -- so many ticks more, and so many rows owed more, as rows changed
 pub record HasCost (old new : Core) (before after : ℕ) : Type 0 where

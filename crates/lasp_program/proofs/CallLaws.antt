@@ -1,25 +1,18 @@
 -- Words, of which each is a text or one is none.
-use Rattle.std.proofs.Common.{◌≡◌, sym, ap, subst, ◌∙◌, ℕ, suc, zero, ◌+◌, ◌<◌, ◌≤◌, refl, List, [], ◌∷◌, ◌++◌, length, take, map, slice_index_or, add-one, arith}
+use Rattle.std.proofs.Common.{◌≡◌, sym, ap, subst, ◌∙◌, ℕ, suc, zero, ◌+◌, ◌≤◌, List, [], ◌∷◌, ◌++◌, length, take, add-one}
 use Rattle.std.specs.Prelude.{string_bytes, slice_get, Some}
 use Rattle.std.specs.Str.{IsUtf8}
 use Rattle.std.specs.declared.string.String.{String}
 use Rattle.std.specs.declared.vec.Vec.{Vec}
+use Rattle.std.proofs.lemmas.Option.{same_Some}
+use Rattle.std.proofs.lemmas.List.{map-append, take_all}
 use Rattle.model_program.specs.Call.{AreTexts}
 use Rattle.lasp_run.specs.Words.{words_of}
 use Rattle.lasp_program.specs.Call.{bytes_of}
 
-some-same : {A : Type 0} (x y : A) → Some x ≡ Some y → x ≡ y
-some-same x y e = cc
-
--- the item of a loop
-pub item-at : {A : Type 0} (xs : List A) (i : ℕ) (x : A) → i < length xs → x ≡ slice_index_or xs i x → slice_get xs i ≡ Some x
-item-at [] i x within e = absurd (omega (arith, within))
-item-at (y ∷ xs) zero x within e = ap Some (sym e)
-item-at (y ∷ xs) (suc i) x within e = item-at xs i x (omega (arith, within)) e
-
 take-next : {A : Type 0} (words : List A) (i : ℕ) (word : A) → slice_get words i ≡ Some word → take (suc i) words ≡ take i words ++ word ∷ []
 take-next [] i word at = absurd cc
-take-next (w ∷ words) zero word at = ap (λ (v : _). v ∷ []) (some-same w word at)
+take-next (w ∷ words) zero word at = ap (λ (v : _). v ∷ []) (same_Some w word at)
 take-next (w ∷ words) (suc i) word at = ap (λ (ws : List _). w ∷ ws) (take-next words i word at)
 
 texts-push : {A : Type 0} (words : List (Vec ℕ A)) (word : Vec ℕ A) → AreTexts (bytes_of words) → IsUtf8 word.items → AreTexts (bytes_of (words ++ word ∷ []))
@@ -31,35 +24,25 @@ pub texts-more : {A : Type 0} (words : List (Vec ℕ A)) (i : ℕ) (word : Vec �
 texts-more words i word at before good =
     rw add-one (subst (λ (ws : List (Vec ℕ _)). AreTexts (bytes_of ws)) (sym (take-next words i word at)) (texts-push (take i words) word before good))
 
-append-map : {A B : Type 0} (f : A → B) (xs ys : List A) → map f (xs ++ ys) ≡ map f xs ++ map f ys
-append-map f [] ys = refl
-append-map f (x ∷ xs) ys = ap (λ (zs : List _). f x ∷ zs) (append-map f xs ys)
-
 pub bytes-more : {A B : Type 0} (words : List (Vec ℕ A)) (texts : List (String B)) (i : ℕ) (word : Vec ℕ A) (text : String B) → slice_get words i ≡ Some word → words_of texts ≡ bytes_of (take i words) → string_bytes text ≡ word.items
     → words_of (texts ++ text ∷ []) ≡ bytes_of (take (i + 1) words)
 bytes-more words texts i word text at before is =
     rw add-one (
-    append-map string_bytes texts (text ∷ [])
+    map-append string_bytes texts (text ∷ [])
     ∙ ap (λ (ws : List (List ℕ)). ws ++ string_bytes text ∷ []) before
     ∙ ap (λ (bytes : List ℕ). bytes_of (take i words) ++ bytes ∷ []) is
-    ∙ sym (append-map (λ (w : Vec ℕ _). w.items) (take i words) (word ∷ []))
+    ∙ sym (map-append (λ (w : Vec ℕ _). w.items) (take i words) (word ∷ []))
     ∙ ap (λ (ws : List (Vec ℕ _)). bytes_of ws) (sym (take-next words i word at)))
 
 -- one that is none
 pub texts-none : {A : Type 0} (words : List (Vec ℕ A)) (i : ℕ) (word : Vec ℕ A) → slice_get words i ≡ Some word → ¬ IsUtf8 word.items → ¬ AreTexts (bytes_of words)
 texts-none [] i word at bad = absurd cc
-texts-none (w ∷ words) zero word at bad = λ all. bad (subst (λ (v : Vec ℕ _). IsUtf8 v.items) (some-same w word at) all.0)
+texts-none (w ∷ words) zero word at bad = λ all. bad (subst (λ (v : Vec ℕ _). IsUtf8 v.items) (same_Some w word at) all.0)
 texts-none (w ∷ words) (suc i) word at bad = λ all. texts-none words i word at bad all.1
-
-take-all : {A : Type 0} (xs : List A) (i : ℕ) → length xs ≤ i → take i xs ≡ xs
-take-all [] zero all = refl
-take-all [] (suc n) all = refl
-take-all (x ∷ xs) zero all = absurd (omega (arith, all))
-take-all (x ∷ xs) (suc n) all = ap (λ (ys : List _). x ∷ ys) (take-all xs n (omega (arith, all)))
 
 -- all are texts
 pub texts-all : {A B : Type 0} (words : List (Vec ℕ A)) (texts : List (String B)) (i : ℕ) → length words ≤ i → words_of texts ≡ bytes_of (take i words) → AreTexts (bytes_of (take i words))
     → AreTexts (bytes_of words) × (words_of texts ≡ bytes_of words)
 texts-all words texts i end is good =
-    let whole = take-all words i end in
+    let whole = take_all i words end in
     (subst (λ (ws : List (Vec ℕ _)). AreTexts (bytes_of ws)) whole good, is ∙ ap (λ (ws : List (Vec ℕ _)). bytes_of ws) whole)

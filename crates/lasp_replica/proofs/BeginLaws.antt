@@ -1,11 +1,10 @@
 -- Whether the sources of a message begin those of a graph, source by source.
 use Rattle.std.proofs.Common.{◌≡◌, ◌↔◌, ℕ, zero, suc, ◌+◌, ◌≤◌, ◌<◌, ◌⊎◌, inl, inr, nat_eq, IsTrue, Bool, true, false, cond, List, [], ◌∷◌, ◌++◌, length, map, drop, Option, Some, refl, sym, ap, subst, ◌∙◌, arith}
 use Rattle.std.specs.Prelude.{slice_get}
-use Rattle.std.specs.List.{AllByRecursion}
 use Rattle.std.specs.Option.{option_map}
 use Rattle.std.proofs.lemmas.Bool.Decides.{nat_tests}
-use Rattle.std.proofs.lemmas.List.{drop_more}
-use Rattle.std.proofs.lemmas.Option.{slice_get_within, get_or_from_slice_get}
+use Rattle.std.proofs.lemmas.List.{drop_all}
+use Rattle.model_values.proofs.ListLaws.{drop-at, each-at}
 use Rattle.model_graph.specs.Graph.{Kind, Decl, is_source}
 use Rattle.model_graph.specs.Lawful.{sources_among}
 use Rattle.model_graph.proofs.PlaceLaws.{below-or-not, map-length}
@@ -29,15 +28,6 @@ AreFirst ds all = (more : List Decl) × (ds ++ more ≡ all)
 abbrev pub BeginsFrom : Message → List Decl → ℕ → ℕ → Type 0
 BeginsFrom m g i x = AreFirst (drop i (declared_in m)) (sources_among (drop x g))
 
-drop-at : {A : Type 0} (xs : List A) (i : ℕ) (x : A) → slice_get xs i ≡ Some x → drop i xs ≡ x ∷ drop (i + 1) xs
-drop-at xs i x e = drop_more xs i x (slice_get_within xs i x e) ∙ ap (λ y. y ∷ drop (i + 1) xs) (get_or_from_slice_get xs i x x e)
-
-drop-all : {A : Type 0} (xs : List A) (i : ℕ) → length xs ≤ i → drop i xs ≡ []
-drop-all [] zero h = refl
-drop-all [] (suc i) h = refl
-drop-all (y ∷ xs) zero h = absurd (omega (arith, h))
-drop-all (y ∷ xs) (suc i) h = drop-all xs i (omega (arith, h))
-
 drop-some : {A : Type 0} (xs : List A) (i : ℕ) → i < length xs → (x : A) × (rest : List A) × (drop i xs ≡ x ∷ rest)
 drop-some [] i h = absurd (omega (arith, h))
 drop-some (x ∷ xs) zero h = (x, xs, refl)
@@ -47,11 +37,6 @@ found : (sources : List Sent) (i : ℕ) (s : Sent) → slice_get sources i ≡ S
 found [] i s e = absurd cc
 found (t ∷ sources) zero s e = cc
 found (t ∷ sources) (suc i) s e = found sources i s e
-
-pub some-source : (sources : List Sent) (i : ℕ) → i < length sources → (s : Sent) × (slice_get sources i ≡ Some s)
-some-source [] i h = absurd (omega (arith, h))
-some-source (s ∷ sources) zero h = (s, refl)
-some-source (s ∷ sources) (suc i) h = some-source sources i (omega (arith, h))
 
 -- the sources from a source on
 among-source : (g : List Decl) (x : ℕ) (d : Decl) → slice_get g x ≡ Some d → is_source d.kind ≡ true → sources_among (drop x g) ≡ d ∷ sources_among (drop (x + 1) g)
@@ -95,13 +80,13 @@ begins-other m g i x d s at source there other h =
 -- no source is left
 pub begins-whole : (m : Message) (g : List Decl) (i x : ℕ) → i ≡ length m.sources → BeginsFrom m g i x
 begins-whole m g i x e =
-    (sources_among (drop x g), ap (λ (ds : List Decl). ds ++ sources_among (drop x g)) (drop-all (declared_in m) i (omega (arith, e, map-length (λ (s : Sent). s.decl) m.sources))))
+    (sources_among (drop x g), ap (λ (ds : List Decl). ds ++ sources_among (drop x g)) (drop_all i (declared_in m) (omega (arith, e, map-length (λ (s : Sent). s.decl) m.sources))))
 
 -- no variable is left, but sources are
 pub begins-short : (m : Message) (g : List Decl) (i x : ℕ) → length g ≤ x → i < length m.sources → BeginsFrom m g i x → ⊥
 begins-short m g i x past low h =
     let mine = drop-some (declared_in m) i (omega (arith, low, map-length (λ (s : Sent). s.decl) m.sources)) in
-    absurd (more mine.0 mine.1 h.0 (ap (λ (ds : List Decl). ds ++ h.0) (sym mine.2) ∙ h.1 ∙ ap sources_among (drop-all g x past))) where
+    absurd (more mine.0 mine.1 h.0 (ap (λ (ds : List Decl). ds ++ h.0) (sym mine.2) ∙ h.1 ∙ ap sources_among (drop_all x g past))) where
       more : (d : Decl) (ds more : List Decl) → (d ∷ ds) ++ more ≡ [] → ⊥
       more d ds rest e = cc
 
@@ -116,12 +101,6 @@ begins-end m g i x n past within long is = (
   choose b (inr high) = grind (arith, nat_tests, high, within, long)
 
 -- ---- one source
-
--- what holds of each source holds of that at a place
-pub each-at : (P : Sent → Type 0) (sources : List Sent) (i : ℕ) (t : Sent) → AllByRecursion P sources → slice_get sources i ≡ Some t → P t
-each-at P [] i t each e = absurd cc
-each-at P (s ∷ sources) zero t each e = let same : s ≡ t = cc in subst P same each.0
-each-at P (s ∷ sources) (suc i) t each e = each-at P sources i t each.1 e
 
 -- a source of a message is a declaration's where the name is, and the kind is and is that of a source
 pub same-source : (m : Message) (i : ℕ) (name : List ℕ) (state : State) (d : Decl) (b : Bool) → IsMessage m → option_map (λ (s : Sent). s.decl.name) (slice_get m.sources i) ≡ Some name

@@ -1,12 +1,13 @@
 -- What a replica keeps before the first entry, and after a declaration: what a declared variable starts with.
-use Rattle.std.proofs.Common.{◌≡◌, ℕ, pos, ◌≤◌, ◌<◌, ◌⊎◌, inl, inr, Bool, true, false, if◌then◌else◌, List, [], ◌∷◌, ◌++◌, length, map, take, slice_index_or, Some, None, refl, sym, ap, subst, ◌∙◌, arith}
+use Rattle.std.proofs.Common.{◌≡◌, ℕ, pos, ◌<◌, Bool, true, false, if◌then◌else◌, List, [], ◌∷◌, ◌++◌, length, map, take, Some, None, refl, sym, ap, subst, ◌∙◌, arith}
+use Rattle.std.proofs.lemmas.List.{get_or_push}
 use Rattle.model_states.specs.Counts.{zeros}
 use Rattle.model_states.specs.Content.{Content, least}
 use Rattle.model_states.specs.Threshold.{set}
 use Rattle.model_graph.specs.Graph.{Decl, Kind, IsInput, is_source, kind_at, decl_at, no_decl}
 use Rattle.model_graph.specs.Evaluation.{content_at, least_of}
 use Rattle.model_graph.specs.Lawful.{IsDerived, IsGraph, shape_of}
-use Rattle.model_graph.proofs.PlaceLaws.{at-append, at-last, at-map-low, map-length, length-push, below-or-not}
+use Rattle.model_graph.proofs.PlaceLaws.{at-append, at-last, at-map-low, map-length, length-push}
 use Rattle.model_journal.specs.Entry.{Extend, Entry, Frame}
 use Rattle.model_journal.specs.Journal.{Snapshot, journal, graph, vals, val}
 use Rattle.model_journal.specs.Clean.{base}
@@ -18,6 +19,7 @@ use Rattle.model_journal.proofs.CleanLaws.{snapshot-take, vals-length}
 use Rattle.model_journal.proofs.EntryLaws.{extend-vals, extend-counts}
 use Rattle.model_core.proofs.PeerLaws.{graph-extended}
 use Rattle.model_core.proofs.BaseLaws.{base-extended}
+use Rattle.model_runs.proofs.HeldLaws.{each-variable}
 use Rattle.lasp_history.specs.History.{no_history, IsHistory}
 use Rattle.lasp_history.proofs.HistoryLaws.{history-fresh, history-declared}
 use Rattle.lasp_graph.specs.States.{Held, held_at, contents_of}
@@ -27,6 +29,7 @@ use Rattle.lasp_replica.specs.Parts.{Parts, IsBaseAt, base_at, history_at, first
 use Rattle.lasp_replica.proofs.KindLaws.{first-input, second-input, number-least}
 use Rattle.lasp_replica.proofs.PartLaws.{base-stays, history-alike, states-long}
 use Rattle.lasp_replica.proofs.OneLaws.{declared-there}
+use Rattle.lasp_graph.proofs.Evaluation.{contents-push}
 
 -- ---- a process that has read nothing
 
@@ -54,20 +57,6 @@ fresh-base X h legal y k is unbound = choose (is_source k) refl where
 
 -- ---- one place more
 
--- what holds of each place of a list and of the next one holds of each place of the list with one more
-each-place : {A : Type 0} (P : ℕ → Type 0) (xs : List A) (x : A) → ((i : ℕ) → i < length xs → P i) → P (length xs) → (i : ℕ) → i < length (xs ++ x ∷ []) → P i
-each-place P xs x old new i there = choose (below-or-not i (length xs)) where
-  choose : (i < length xs) ⊎ (length xs ≤ i) → P i
-  choose (inl low) = old i low
-  choose (inr high) = subst P (let here : length xs ≡ i = omega (arith, high, there, length-push xs x) in here) new
-
-at-end : {A : Type 0} (xs : List A) (x d : A) (n : ℕ) → length xs ≡ n → slice_index_or (xs ++ x ∷ []) n d ≡ x
-at-end xs x d n same = subst (λ i. slice_index_or (xs ++ x ∷ []) i d ≡ x) same (at-last xs x d)
-
-contents-push : (states : List Held) (s : Held) → contents_of (states ++ s ∷ []) ≡ contents_of states ++ s.content ∷ []
-contents-push [] s = refl
-contents-push (r ∷ states) s = ap (λ (rest : List Content). r.content ∷ rest) (contents-push states s)
-
 -- ---- declarations
 
 pub kept-extended : (X : Frame) (h : List Entry) → IsLegal X h → (e : Entry) → IsLegal X (h ++ e ∷ []) → (d : Decl) → e.act ≡ Extend d → (p : Parts) → IsKept X h p
@@ -76,15 +65,15 @@ kept-extended X h legal e after d act p is = record {
   graph = graphs;
   counts = is.counts ∙ sym (extend-counts X h e d act);
   contents = contents-push p.states new ∙ ap (λ (ss : List Content). ss ++ least_of X.nodes d.kind ∷ []) is.contents ∙ sym (extend-vals X h e d act);
-  shapes = each-place (λ (x : ℕ). (held_at (p.states ++ new ∷ []) x).shape ≡ shape_of X.nodes (kind_at (p.graph ++ d ∷ []) x)) p.graph d
+  shapes = each-variable p.graph d (λ (x : ℕ). (held_at (p.states ++ new ∷ []) x).shape ≡ shape_of X.nodes (kind_at (p.graph ++ d ∷ []) x))
       (λ x low. ap (λ (s : Held). s.shape) (state-old x low) ∙ is.shapes x low ∙ ap (λ (c : Decl). shape_of X.nodes c.kind) (sym (decl-old x low)))
       (ap (λ (s : Held). s.shape) state-new ∙ ap (λ (c : Decl). shape_of X.nodes c.kind) (sym decl-new));
-  numbers = λ y derived. each-place (λ (x : ℕ). IsDerived (p.graph ++ d ∷ []) x → (held_at (p.states ++ new ∷ []) x).number ≡ number_by (kind_at (p.graph ++ d ∷ []) x) (held_at (p.states ++ new ∷ []) x).content) p.graph d
+  numbers = λ y derived. each-variable p.graph d (λ (x : ℕ). IsDerived (p.graph ++ d ∷ []) x → (held_at (p.states ++ new ∷ []) x).number ≡ number_by (kind_at (p.graph ++ d ∷ []) x) (held_at (p.states ++ new ∷ []) x).content)
       number-old (λ _. number-new) y derived.declared derived;
   histories_many = omega (arith, length-push p.histories no_history, length-push p.graph d, is.histories_many);
-  histories = each-place (λ (x : ℕ). IsHistory X (h ++ e ∷ []) x (history_at (p.histories ++ no_history ∷ []) x)) p.graph d history-old history-new;
+  histories = each-variable p.graph d (λ (x : ℕ). IsHistory X (h ++ e ∷ []) x (history_at (p.histories ++ no_history ∷ []) x)) history-old history-new;
   bases_many = omega (arith, length-push p.bases (fresh_base d.kind), length-push p.graph d, is.bases_many);
-  bases = each-place (λ (y : ℕ). IsBaseAt X (h ++ e ∷ []) (kind_at (p.graph ++ d ∷ []) y) y (base_at (p.bases ++ fresh_base d.kind ∷ []) y)) p.graph d base-old base-new;
+  bases = each-variable p.graph d (λ (y : ℕ). IsBaseAt X (h ++ e ∷ []) (kind_at (p.graph ++ d ∷ []) y) y (base_at (p.bases ++ fresh_base d.kind ∷ []) y)) base-old base-new;
 } where
   new : Held
   new = fresh_state X.nodes d
@@ -111,7 +100,7 @@ kept-extended X h legal e after d act p is = record {
   state-old x low = at-append p.states (new ∷ []) x none (omega (arith, low, long))
 
   state-new : held_at (p.states ++ new ∷ []) (length p.graph) ≡ new
-  state-new = at-end p.states new none (length p.graph) long
+  state-new = get_or_push p.states new none (length p.graph) long
 
   number-old : (x : ℕ) → x < length p.graph → IsDerived (p.graph ++ d ∷ []) x → (held_at (p.states ++ new ∷ []) x).number ≡ number_by (kind_at (p.graph ++ d ∷ []) x) (held_at (p.states ++ new ∷ []) x).content
   number-old x low derived =
@@ -130,7 +119,7 @@ kept-extended X h legal e after d act p is = record {
       (history-alike X h e x (history_at p.histories x) (is.histories x low) (declared-there X h p is x low) (val-old x low))
 
   history-new : IsHistory X (h ++ e ∷ []) (length p.graph) (history_at (p.histories ++ no_history ∷ []) (length p.graph))
-  history-new = subst (IsHistory X (h ++ e ∷ []) (length p.graph)) (sym (at-end p.histories no_history no_history (length p.graph) is.histories_many))
+  history-new = subst (IsHistory X (h ++ e ∷ []) (length p.graph)) (sym (get_or_push p.histories no_history no_history (length p.graph) is.histories_many))
       (subst (λ (i : ℕ). IsHistory X (h ++ e ∷ []) i no_history) (sym size) (history-declared X h legal e d act))
 
   base-old : (y : ℕ) → y < length p.graph → IsBaseAt X (h ++ e ∷ []) (kind_at (p.graph ++ d ∷ []) y) y (base_at (p.bases ++ fresh_base d.kind ∷ []) y)
@@ -143,7 +132,7 @@ kept-extended X h legal e after d act p is = record {
 
   base-new : IsBaseAt X (h ++ e ∷ []) (kind_at (p.graph ++ d ∷ []) (length p.graph)) (length p.graph) (base_at (p.bases ++ fresh_base d.kind ∷ []) (length p.graph))
   base-new = subst (λ (c : Decl). IsBaseAt X (h ++ e ∷ []) c.kind (length p.graph) (base_at (p.bases ++ fresh_base d.kind ∷ []) (length p.graph))) (sym decl-new)
-      (subst (IsBaseAt X (h ++ e ∷ []) d.kind (length p.graph)) (sym (at-end p.bases (fresh_base d.kind) None (length p.graph) is.bases_many))
+      (subst (IsBaseAt X (h ++ e ∷ []) d.kind (length p.graph)) (sym (get_or_push p.bases (fresh_base d.kind) None (length p.graph) is.bases_many))
       (fresh-base X (h ++ e ∷ []) after (length p.graph) d.kind (ap (λ (g : List Decl). kind_at g (length p.graph)) (sym graphs) ∙ ap (λ (c : Decl). c.kind) decl-new) unbound))
 
 -- ---- before the first entry

@@ -8,8 +8,8 @@ use Rattle.model_messages.specs.Message.{Message, sent_at, source_number, brough
 use Rattle.model_journal.specs.Entry.{Deliver, Entry, Frame}
 use Rattle.model_journal.specs.Journal.{Snapshot, graph, vals, val}
 use Rattle.model_journal.specs.Legal.{IsLegal}
-use Rattle.model_journal.proofs.EntryLaws.{deliver-source, deliver-derived, deliver-counts}
-use Rattle.model_core.proofs.PeerLaws.{pushed-now, graph-delivered}
+use Rattle.model_journal.proofs.EntryLaws.{deliver-source, deliver-derived, deliver-counts, pushed}
+use Rattle.model_core.proofs.PeerLaws.{graph-delivered}
 use Rattle.model_core.proofs.BaseLaws.{base-delivered}
 use Rattle.lasp_history.specs.History.{IsHistory}
 use Rattle.lasp_graph.specs.States.{held_at}
@@ -20,7 +20,7 @@ use Rattle.lasp_replica.proofs.OneLaws.{declared-there, kept-joined, kept-covere
 
 -- the contents after a delivery
 deliver-vals : (X : Frame) (h : List Entry) (e : Entry) (i : ℕ) (m : Message) → e.act ≡ Deliver i m → vals X (h ++ e ∷ []) ≡ gained (brought (graph X h) m) 0 (vals X h)
-deliver-vals X h e i m act = ap (λ (s : Snapshot). s.contents) (pushed-now X h e (Deliver i m) act) ∙ append-nil (gained (brought (graph X h) m) 0 (vals X h))
+deliver-vals X h e i m act = ap (λ (s : Snapshot). s.contents) (pushed X h e (Deliver i m) act) ∙ append-nil (gained (brought (graph X h) m) 0 (vals X h))
 
 delivered-history : (X : Frame) (h : List Entry) → IsLegal X h → (e : Entry) (i : ℕ) (m : Message) → e.act ≡ Deliver i m → (p q : Parts) → IsKept X h p → IsInOrder m p → IsTakenIn m (length h) p q
     → (x : ℕ) → x < length p.graph → IsHistory X (h ++ e ∷ []) x (history_at q.histories x)

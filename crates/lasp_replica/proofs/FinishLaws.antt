@@ -1,5 +1,5 @@
 -- What the result of a job does to a replica.
-use Rattle.std.proofs.Common.{◌≡◌, ℕ, zero, suc, ◌<◌, ◌≤◌, ◌↔◌, Bool, true, false, nat_lt, IsTrue, IsFalse, IsSome, List, [], ◌∷◌, ◌++◌, length, map, take, slice_set, slice_get, slice_index_or, Option, Some, None, refl, sym, ap, subst, ◌∙◌, arith}
+use Rattle.std.proofs.Common.{◌≡◌, ℕ, ◌<◌, ◌≤◌, ◌↔◌, Bool, true, false, nat_lt, IsTrue, IsFalse, IsSome, List, [], ◌∷◌, ◌++◌, length, map, take, slice_set, slice_get, slice_index_or, Option, Some, None, refl, sym, ap, subst, ◌∙◌, arith}
 use Rattle.std.proofs.lemmas.Bool.Decides.{nat_tests}
 use Rattle.std.proofs.lemmas.Option.{get_or_from_slice_get}
 use Rattle.std.specs.Arc.{arc_value}
@@ -47,11 +47,6 @@ use Rattle.lasp_replica.proofs.SuitLaws.{suited-more}
 use Rattle.lasp_replica.specs.declared.entry.Entry.{Entry}
 
 -- ---- places
-
-pub at-set-here : {A : Type 0} (xs : List A) (i : ℕ) (x d : A) → i < length xs → slice_index_or (slice_set xs i x) i d ≡ x
-at-set-here [] i x d low = absurd (omega (arith, low))
-at-set-here (y ∷ xs) zero x d low = refl
-at-set-here (y ∷ xs) (suc i) x d low = at-set-here xs i x d (omega (arith, low))
 
 -- the state that a look-up found
 pub held-found : (states : List Held) (i y : ℕ) (s : State) → i ≡ y → slice_get states i ≡ Some (held_of s) → held_at states y ≡ held_of s

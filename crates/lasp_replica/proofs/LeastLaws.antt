@@ -4,6 +4,7 @@ use Rattle.std.specs.Prelude.{List, [], ◌∷◌, ◌++◌, length, map, replic
 use Rattle.std.specs.Arc.{arc_value}
 use Rattle.std.proofs.Math.Seq.{take-length}
 use Rattle.model_states.specs.Counts.{zeros}
+use Rattle.model_states.proofs.CountLaws.{length-zeros}
 use Rattle.model_graph.specs.Graph.{Decl}
 use Rattle.model_readings.specs.Lawful as readings
 use Rattle.model_journal.specs.Entry.{Frame}
@@ -37,10 +38,6 @@ pub ruleset pushes = (push-replicate)
 pub map-same : {X Y : Type 0} (xs : List X) (y : Y) → map (λ x. y) xs ≡ replicate (length xs) y
 map-same [] y = refl
 map-same (x ∷ xs) y = ap (λ (ys : List _). y ∷ ys) (map-same xs y)
-
-length-zeros : (n : ℕ) → length (zeros n) ≡ n
-length-zeros zero = refl
-length-zeros (suc n) = ap suc (length-zeros n)
 
 -- ---- a fresh replica
 

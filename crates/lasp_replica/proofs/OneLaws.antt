@@ -1,6 +1,6 @@
 -- What a replica keeps where an entry changes one variable: an update, or a bind.
-use Rattle.std.proofs.Common.{◌≡◌, ℕ, pos, ◌+◌, ◌≤◌, ◌<◌, ◌⊎◌, inl, inr, Bool, true, false, ◌==◌, IsTrue, List, [], ◌∷◌, ◌++◌, length, take, slice_set, Option, Some, None, refl, sym, ap, subst, ◌∙◌, arith}
-use Rattle.std.proofs.lemmas.Bool.Decides.{nat_tests}
+use Rattle.std.proofs.Common.{◌≡◌, ℕ, pos, ◌+◌, ◌≤◌, ◌<◌, ◌⊎◌, inl, inr, true, false, IsTrue, List, [], ◌∷◌, ◌++◌, length, take, slice_set, Option, Some, None, refl, sym, ap, subst, ◌∙◌, arith}
+pub use Rattle.std.proofs.lemmas.Bool.{cases_eq as same-or-apart}
 use Rattle.model_states.specs.Counts.{count_at}
 use Rattle.model_states.specs.Content.{Content, least, join_contents, IsContentAtMost, IsOrdered}
 use Rattle.model_states.specs.Threshold.{Shape, set}
@@ -8,7 +8,7 @@ use Rattle.model_states.specs.Update.{Op, delta}
 use Rattle.model_graph.specs.Graph.{Decl, is_source, kind_at}
 use Rattle.model_graph.specs.Evaluation.{content_at, equation}
 use Rattle.model_graph.specs.Lawful.{IsDerived, shape_of}
-use Rattle.model_graph.proofs.PlaceLaws.{at-set, set-length, equal-numbers}
+use Rattle.model_graph.proofs.PlaceLaws.{at-set, set-length}
 use Rattle.model_graph.proofs.EquationLaws.{equation-ordered}
 use Rattle.model_journal.specs.Entry.{Update, Bind, Entry, Frame}
 use Rattle.model_journal.specs.Journal.{graph, vals, val, counts}
@@ -26,12 +26,6 @@ use Rattle.lasp_graph.specs.States.{Held, held_at, contents_of}
 use Rattle.lasp_graph.specs.Evaluated.{number_by}
 use Rattle.lasp_replica.specs.Parts.{Base, Parts, IsBase, IsBaseAt, base_at, history_at, news_of, IsKept}
 use Rattle.lasp_replica.proofs.PartLaws.{base-stays, history-joined, history-covered, history-alike, states-long, held-val, contents-set, kept-step}
-
-pub same-or-apart : (x y : ℕ) → (x ≡ y) ⊎ (x ≡ y → ⊥)
-same-or-apart x y = choose (x == y) refl where
-  choose : (b : Bool) → (x == y) ≡ b → (x ≡ y) ⊎ (x ≡ y → ⊥)
-  choose true e = inl (equal-numbers x y e)
-  choose false e = inr (λ p. grind (arith, nat_tests, e, p))
 
 -- a declared variable is declared after the entries
 pub declared-there : (X : Frame) (h : List Entry) (p : Parts) → IsKept X h p → (x : ℕ) → x < length p.graph → x < length (graph X h)

@@ -8,7 +8,7 @@ use Rattle.model_states.proofs.ContentLaws.{at_most-itself, at_most-chain, at_mo
 use Rattle.model_graph.specs.Graph.{Decl, Kind, kind_at}
 use Rattle.model_graph.specs.Evaluation.{content_at}
 use Rattle.model_graph.specs.Lawful.{IsDerived, shape_of}
-use Rattle.model_graph.proofs.PlaceLaws.{at-map, map-length}
+use Rattle.model_graph.proofs.PlaceLaws.{at-map}
 use Rattle.model_journal.specs.Entry.{Entry, Frame}
 use Rattle.model_journal.specs.Journal.{graph, vals, val, counts}
 use Rattle.model_journal.specs.Clean.{base}
@@ -23,6 +23,7 @@ use Rattle.lasp_graph.specs.States.{Held, held_at, contents_of}
 use Rattle.lasp_graph.specs.Evaluated.{number_by}
 use Rattle.lasp_replica.specs.Parts.{Base, Parts, IsBase, IsBaseAt, base_at, history_at, news_of, IsKept}
 use Rattle.lasp_replica.proofs.KindLaws.{AreNews, news-join}
+use Rattle.lasp_graph.proofs.Evaluation.{length-contents}
 
 -- ---- bases
 
@@ -62,15 +63,12 @@ history-alike X h e x hist is low same = history-still X h x hist is e low (at_m
 
 -- ---- states
 
-pub contents-long : (states : List Held) → length (contents_of states) ≡ length states
-contents-long states = map-length (λ (s : Held). s.content) states
-
 -- there is a state for each variable
 pub states-long : (X : Frame) (h : List Entry) → IsLegal X h → (p : Parts) → IsKept X h p → length p.states ≡ length p.graph
 states-long X h legal p is =
     let contents : length (contents_of p.states) ≡ length (vals X h) = ap (λ (ss : List Content). length ss) is.contents in
     let graphs : length p.graph ≡ length (graph X h) = ap (λ (g : List Decl). length g) is.graph in
-    omega (arith, contents, graphs, contents-long p.states, vals-length X h legal)
+    omega (arith, contents, graphs, length-contents p.states, vals-length X h legal)
 
 -- what a state holds is what its variable does
 pub held-val : (X : Frame) (h : List Entry) (p : Parts) → IsKept X h p → (x : ℕ) → (held_at p.states x).content ≡ val X h x

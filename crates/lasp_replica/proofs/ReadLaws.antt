@@ -1,8 +1,8 @@
 -- What the kept parts tell of the journal: which processes are clean, what changed since a process last read, and what it had then.
 use Rattle.std.proofs.Common.{◌≡◌, ℕ, ◌≤◌, ◌<◌, max, ◌⊎◌, inl, inr, ◌↔◌, Bool, true, false, if◌then◌else◌, nat_lt, IsTrue, List, [], length, take, drop, Option, Some, None, refl, sym, ap, subst, ◌∙◌, arith}
-use Rattle.std.proofs.lemmas.List.{length-take}
 use Rattle.std.proofs.lemmas.Bool.Decides.{nat_tests}
 use Rattle.model_values.specs.Row.{Row}
+use Rattle.model_values.proofs.ListLaws.{length-take_least}
 use Rattle.model_sets.specs.Rows.{mark, IsAscending, of_rows, join, IsAtMost}
 use Rattle.model_sets.specs.Equations.{changed}
 use Rattle.model_sets.proofs.RowLaws.{same_from_mark, mark-join}
@@ -34,13 +34,10 @@ use Rattle.lasp_replica.proofs.PartLaws.{held-val}
 
 -- ---- inputs
 
-take-most : (g : List Decl) (n : ℕ) → length (take n g) ≤ n
-take-most g n = omega (arith, length-take n g)
-
 pub input-earlier : (g : List Decl) → IsGraph g → (y x : ℕ) → y < length g → IsInput (kind_at g y) x → IsEarlierInput g y x
 input-earlier g lawful y x low i =
     let below : x < length (take y g) = (lawful y low).earlier x i in
-    record { earlier = omega (arith, below, take-most g y); declared = omega (arith, below, take-most g y, low); set = input-set g lawful y x i }
+    record { earlier = omega (arith, below, length-take_least g y); declared = omega (arith, below, length-take_least g y, low); set = input-set g lawful y x i }
 
 pub kept-input : (X : Frame) (h : List Entry) → IsLegal X h → (p : Parts) → IsKept X h p → (y x : ℕ) → y < length p.graph → IsInput (kind_at p.graph y) x → IsEarlierInput p.graph y x
 kept-input X h legal p is y x low i = input-earlier p.graph (subst IsGraph (sym is.graph) (journal-graph X h legal)) y x low i

@@ -1,25 +1,12 @@
 -- Growths that are recorded, history by history.
-use Rattle.std.proofs.Common.{◌≡◌, ◌≢◌, ℕ, zero, suc, ◌+◌, ◌≤◌, ◌<◌, ◌⊎◌, inl, inr, Bool, true, false, List, [], ◌∷◌, length, slice_set, refl, sym, ap, subst, ◌∙◌, arith}
+use Rattle.std.proofs.Common.{◌≡◌, ℕ, zero, suc, ◌+◌, ◌≤◌, ◌<◌, ◌⊎◌, inl, inr, Bool, true, false, List, [], ◌∷◌, length, slice_set, refl, sym, ap, subst, ◌∙◌, arith}
 use Rattle.std.specs.Prelude.{slice_index_or}
+use Rattle.std.proofs.lemmas.List.{get_or-set_same, get_or-set_other}
 use Rattle.model_graph.proofs.PlaceLaws.{below-or-not, set-length}
 use Rattle.lasp_history.specs.History.{grown}
 use Rattle.lasp_history.specs.Kept.{Kept}
 use Rattle.lasp_replica.specs.Replica.{no_kept, kept_at}
 use Rattle.lasp_replica.specs.Delivery.{grows_at, recorded, AreRecordedTo}
-
--- what stands at a place that was set
-pub set-here : {A : Type 0} (xs : List A) (x : ℕ) (y d : A) → x < length xs → slice_index_or (slice_set xs x y) x d ≡ y
-set-here [] x y d low = absurd (omega (arith, low))
-set-here (k ∷ xs) zero y d low = refl
-set-here (k ∷ xs) (suc x) y d low = set-here xs x y d (omega (arith, low))
-
--- and at the others
-pub set-other : {A : Type 0} (xs : List A) (x : ℕ) (y d : A) (z : ℕ) → z ≢ x → slice_index_or (slice_set xs x y) z d ≡ slice_index_or xs z d
-set-other [] x y d z n = refl
-set-other (k ∷ xs) zero y d zero n = absurd (n refl)
-set-other (k ∷ xs) zero y d (suc z) n = refl
-set-other (k ∷ xs) (suc x) y d zero n = refl
-set-other (k ∷ xs) (suc x) y d (suc z) n = set-other xs x y d z (λ e. n (ap suc e))
 
 -- the history at a place that there is
 pub kept-here : (histories : List Kept) (x : ℕ) (k : Kept) → x < length histories → k ≡ slice_index_or histories x k → kept_at histories x ≡ k
@@ -37,15 +24,15 @@ module _ (grow : List Bool) (entry : ℕ) (old : List Kept) where
     recorded-grown history low grows is = record {
       many = set-length now x history ∙ h.many;
       done = λ y below. done y (below-or-not y x) below;
-      left = λ y past. set-other now x history no_kept y (omega (arith, past)) ∙ h.left y (omega (arith, past));
+      left = λ y past. get_or-set_other now x y history no_kept (omega (arith, past)) ∙ h.left y (omega (arith, past));
     } where
       here : (kept_at (slice_set now x history) x).history ≡ recorded (grows_at grow x) (kept_at old x) entry
       here =
-          ap (λ (k : Kept). k.history) (set-here now x history no_kept (omega (arith, low, h.many))) ∙ is
+          ap (λ (k : Kept). k.history) (get_or-set_same now x history no_kept (omega (arith, low, h.many))) ∙ is
           ∙ ap (λ (k : Kept). grown k.history k.pending entry) (h.left x (omega arith)) ∙ sym (ap (λ (b : Bool). recorded b (kept_at old x) entry) grows)
 
       done : (y : ℕ) → (y < x) ⊎ (x ≤ y) → y < x + 1 → (kept_at (slice_set now x history) y).history ≡ recorded (grows_at grow y) (kept_at old y) entry
-      done y (inl before) below = ap (λ (k : Kept). k.history) (set-other now x history no_kept y (omega (arith, before))) ∙ h.done y before
+      done y (inl before) below = ap (λ (k : Kept). k.history) (get_or-set_other now x y history no_kept (omega (arith, before))) ∙ h.done y before
       done y (inr past) below = (let same : x ≡ y = omega (arith, past, below) in subst (λ (z : ℕ). (kept_at (slice_set now x history) z).history ≡ recorded (grows_at grow z) (kept_at old z) entry) same here)
 
     -- a history was left

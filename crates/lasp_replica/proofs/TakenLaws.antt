@@ -6,7 +6,9 @@ use Rattle.std.proofs.Math.Seq.{map-set_same}
 use Rattle.std.specs.Option.{option_map}
 use Rattle.std.proofs.lemmas.Bool.Decides.{nat_tests}
 use Rattle.std.proofs.lemmas.Option.{get_or_from_slice_get}
+use Rattle.std.proofs.lemmas.List.{get_or-set_same, get_or-set_other}
 use Rattle.model_values.specs.Row.{Row}
+use Rattle.model_values.proofs.ListLaws.{each-at}
 use Rattle.model_states.specs.Content.{Content, least, join_contents, size_of, row_limit, IsOrdered, IsContentAtMost}
 use Rattle.model_states.specs.Threshold.{Shape, set, grow, counter, register, fold}
 use Rattle.model_states.proofs.ContentLaws.{join-below, join-nothing, at_most-least}
@@ -16,7 +18,7 @@ use Rattle.model_graph.specs.Lawful.{shape_of, sources_among}
 use Rattle.model_graph.proofs.LimitLaws.{large-words, small-words}
 use Rattle.model_graph.proofs.PlaceLaws.{below-or-not, equal-numbers, from-nothing, same-lists, map-length, set-length, at-append, at-last, at-past, length-push}
 use Rattle.model_messages.specs.Message.{Sent, Message, source_number, sent_at, brought, with_gain, gained}
-use Rattle.model_messages.proofs.MessageLaws.{sent-past, gained-length, gained-at}
+use Rattle.model_messages.proofs.MessageLaws.{sent-past, gained-length, gained-at, sent_at-found}
 use Rattle.model_wire.specs.Lawful.{IsSource, IsSent, IsMessage}
 use Rattle.model_wire.specs.Message as wire
 use Rattle.model_runs.specs.Held.{IsSentTo}
@@ -33,10 +35,9 @@ use Rattle.lasp_replica.specs.Parts.{news_of}
 use Rattle.lasp_replica.specs.declared.refused.DeliverRefused.{DeliverRefused}
 use Rattle.lasp_replica.specs.declared.refused.DeliverRefused.TheVariants as refusal
 use Rattle.lasp_replica.specs.Replica.{told, no_kept, kept_at}
-use Rattle.lasp_replica.proofs.BeginLaws.{each-at}
-use Rattle.lasp_replica.proofs.RecordLaws.{set-here, set-other}
 use Rattle.lasp_graph.specs.States.{AreSourcesOfKind}
 use Rattle.lasp_replica.specs.Delivery.{grows_at, IsLike, AreSmall, IsJoined, IsReady, IsTaken, IsReadyFor, IsRefusedAt, AreTaken, AreJoined, IsRefused}
+use Rattle.lasp_graph.proofs.SourceLists.{held-content}
 
 -- ---- states at places
 
@@ -44,25 +45,19 @@ use Rattle.lasp_replica.specs.Delivery.{grows_at, IsLike, AreSmall, IsJoined, Is
 abbrev no_held : Held
 no_held = record { shape = set; content = least; number = pos 0 }
 
-content-at : (states : List Held) (x : ℕ) → content_at (contents_of states) x ≡ (held_at states x).content
-content-at [] zero = refl
-content-at [] (suc x) = refl
-content-at (h ∷ states) zero = refl
-content-at (h ∷ states) (suc x) = content-at states x
-
 -- a state that a content was joined into, put in its place
 pub joined-set : (old new : List Held) (x : ℕ) (h : Held) (s : Content) → x < length old → new ≡ slice_set old x h → h.shape ≡ (held_at old x).shape → h.content ≡ join_contents (held_at old x).content s → IsJoined old x s new
 joined-set old new x h s low e shape content = subst (IsJoined old x s) (sym e) (record {
   long = set-length old x h;
   shapes = λ y. same y (y == x) refl;
-  content = ap (λ (k : Held). k.content) (set-here old x h no_held low) ∙ content;
-  others = λ y n. set-other old x h no_held y n;
+  content = ap (λ (k : Held). k.content) (get_or-set_same old x h no_held low) ∙ content;
+  others = λ y n. get_or-set_other old x y h no_held n;
 }) where
   same : (y : ℕ) (b : Bool) → (y == x) ≡ b → (held_at (slice_set old x h) y).shape ≡ (held_at old y).shape
   same y true t =
       let here : y ≡ x = equal-numbers y x t in
-      subst (λ (z : ℕ). (held_at (slice_set old x h) z).shape ≡ (held_at old z).shape) (sym here) (ap (λ (k : Held). k.shape) (set-here old x h no_held low) ∙ shape)
-  same y false t = ap (λ (k : Held). k.shape) (set-other old x h no_held y (let n : y ≢ x = grind (arith, nat_tests, t) in n))
+      subst (λ (z : ℕ). (held_at (slice_set old x h) z).shape ≡ (held_at old z).shape) (sym here) (ap (λ (k : Held). k.shape) (get_or-set_same old x h no_held low) ∙ shape)
+  same y false t = ap (λ (k : Held). k.shape) (get_or-set_other old x y h no_held (let n : y ≢ x = grind (arith, nat_tests, t) in n))
 
 -- nothing was joined that is not there already
 joined-nothing : (old : List Held) (x : ℕ) (c : Content) → join_contents (held_at old x).content c ≡ (held_at old x).content → IsJoined old x c old
@@ -146,11 +141,6 @@ found : (sources : List Sent) (i : ℕ) (s : State) (o : Option Sent) → slice_
 found sources i s None e h = absurd cc
 found sources i s (Some t) e h = (t, e, cc)
 
-sent-at : (sources : List Sent) (i : ℕ) (t : Sent) → slice_get sources i ≡ Some t → sent_at sources i ≡ t.content
-sent-at [] i t e = absurd cc
-sent-at (s ∷ sources) zero t e = let same : s ≡ t = cc in ap (λ (u : Sent). u.content) same
-sent-at (s ∷ sources) (suc i) t e = sent-at sources i t e
-
 -- a state that a source may hold is of the shape of its kind
 state-shape : (s : State) (nodes : ℕ) → IsSource nodes (kind_of s) (content_of s) → shape s ≡ shape_of nodes (kind_of s)
 state-shape (state.Set rows) nodes h = refl
@@ -160,7 +150,7 @@ state-shape (state.Max m) nodes h = refl
 state-shape (state.Fold rows n) nodes h = absurd h
 
 -- a source is no fold
-no-fold : (nodes : ℕ) (k : Kind) → IsTrue (is_source k) → shape_of nodes k ≡ fold → ⊥
+pub no-fold : (nodes : ℕ) (k : Kind) → IsTrue (is_source k) → shape_of nodes k ≡ fold → ⊥
 no-fold nodes OrSet source e = cc
 no-fold nodes GSet source e = cc
 no-fold nodes Counter source e = cc
@@ -195,7 +185,7 @@ module _ (states : List Held) (x i : ℕ) (m : Message) (s : State) (lawful : Is
 
   -- what the message has is what the state holds
   pub content-sent : content_of s ≡ sent_at m.sources i
-  content-sent = sym (sent-at m.sources i (found m.sources i s (slice_get m.sources i) refl there).0 at ∙ ap (λ (h : wire.Held). h.1) is)
+  content-sent = sym (sent_at-found m.sources i (found m.sources i s (slice_get m.sources i) refl there).0 at ∙ ap (λ (h : wire.Held). h.1) is)
 
 -- ---- sources in their order
 
@@ -301,7 +291,7 @@ module _ (g : List Decl) (m : Message) (old : List Held) where
   gained-here : (y : ℕ) → y < length old → content_at (gained (brought g m) 0 (contents_of old)) y ≡ with_gain (held_at old y).content (brought g m y)
   gained-here y low =
       gained-at (brought g m) 0 (contents_of old) y (omega (arith, low, map-length (λ (k : Held). k.content) old))
-      ∙ ap (λ (n : ℕ). with_gain (content_at (contents_of old) y) (brought g m n)) (sym (from-nothing y)) ∙ ap (λ (c : Content). with_gain c (brought g m y)) (content-at old y)
+      ∙ ap (λ (n : ℕ). with_gain (content_at (contents_of old) y) (brought g m n)) (sym (from-nothing y)) ∙ ap (λ (c : Content). with_gain c (brought g m y)) (held-content old y)
 
   module _ (x i : ℕ) (now : List Held) (histories : List Kept) (grow : List Bool) (h : AreTaken g m old x i now histories grow) where
     pub taken-number : i ≤ x
@@ -352,13 +342,13 @@ module _ (g : List Decl) (m : Message) (old : List Held) where
       here =
           subst (λ (o : Option Content). IsReadyFor (held_at old x) o (grows_at (grow ++ grows ∷ []) x) (kept_at (slice_set histories x history) x)) (sym (brought-source g m x source ∙ ap (λ (n : ℕ). Some (sent_at m.sources n)) (sym h.number)))
           (subst (λ (b : Bool). IsReady (held_at old x) (sent_at m.sources i) b (kept_at (slice_set histories x history) x)) (sym (ap (grows_at (grow ++ grows ∷ [])) (sym h.many) ∙ at-last grow grows false))
-          (subst (λ (k : Kept). IsReady (held_at old x) (sent_at m.sources i) grows k) (sym (set-here histories x history no_kept within))
+          (subst (λ (k : Kept). IsReady (held_at old x) (sent_at m.sources i) grows k) (sym (get_or-set_same histories x history no_kept within))
           (subst (λ (k : Held). IsReady k (sent_at m.sources i) grows history) (h.left x (omega arith)) t.ready)))
 
       ready : (y : ℕ) → (y < x) ⊎ (x ≤ y) → y < x + 1 → IsReadyFor (held_at old y) (brought g m y) (grows_at (grow ++ grows ∷ []) y) (kept_at (slice_set histories x history) y)
       ready y (inl before) below =
           subst (λ (b : Bool). IsReadyFor (held_at old y) (brought g m y) b (kept_at (slice_set histories x history) y)) (sym (at-append grow (grows ∷ []) y false (omega (arith, before, h.many))))
-          (subst (λ (k : Kept). IsReadyFor (held_at old y) (brought g m y) (grows_at grow y) k) (sym (set-other histories x history no_kept y (omega (arith, before)))) (h.ready y before))
+          (subst (λ (k : Kept). IsReadyFor (held_at old y) (brought g m y) (grows_at grow y) k) (sym (get_or-set_other histories x y history no_kept (omega (arith, before)))) (h.ready y before))
       ready y (inr past) below = (let same : x ≡ y = omega (arith, past, below) in subst (λ (z : ℕ). IsReadyFor (held_at old z) (brought g m z) (grows_at (grow ++ grows ∷ []) z) (kept_at (slice_set histories x history) z)) same here)
 
     pub taken-derived : AreSmall old → x < length old → x < length g → IsFalse (is_source (kind_at g x)) → AreTaken g m old (x + 1) i now histories (grow ++ false ∷ [])
@@ -415,8 +405,8 @@ module _ (g : List Decl) (m : Message) (old : List Held) where
           (map-length (λ (k : Held). k.content) now ∙ h.long ∙ sym (map-length (λ (k : Held). k.content) old) ∙ sym (gained-length (brought g m) 0 (contents_of old)))
           (λ y low.
           let here : y < length old = omega (arith, low, map-length (λ (k : Held). k.content) now, h.long) in
-          content-at now y ∙ h.done y (omega (arith, here, long, past)) ∙ sym (gained-here y here))
+          held-content now y ∙ h.done y (omega (arith, here, long, past)) ∙ sym (gained-here y here))
 
       small : (y : ℕ) → (y < x) ⊎ (x ≤ y) → size_of (content_at (contents_of now) y) ≤ row_limit
-      small y (inl low) = subst (λ (c : Content). size_of c ≤ row_limit) (sym (content-at now y)) (h.small y low)
+      small y (inl low) = subst (λ (c : Content). size_of c ≤ row_limit) (sym (held-content now y)) (h.small y low)
       small y (inr high) = subst (λ (c : Content). size_of c ≤ row_limit) (sym (at-past (contents_of now) y least (omega (arith, high, past, long, h.long, map-length (λ (k : Held). k.content) now)))) (omega arith)

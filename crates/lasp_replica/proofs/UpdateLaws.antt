@@ -3,7 +3,6 @@ use Rattle.std.proofs.Common.{ℕ, pos, ◌≡◌, ◌+◌, ◌<◌, ◌≤◌, 
 use Rattle.std.proofs.lemmas.Bool.Decides.{nat_tests}
 use Rattle.std.proofs.lemmas.List.{length-map, get_or_default, map-set, map-append}
 use Rattle.std.proofs.lemmas.Option.{get_or_from_slice_get}
-use Rattle.std.proofs.Math.Seq.{map-set_same}
 use Rattle.std.specs.Prelude.{◌↔◌, get_or, is_ok, IsOk, vec_len, vec_capacity}
 use Rattle.std.specs.Option.{option_map}
 use Rattle.std.specs.Arc.{arc_value}
@@ -27,7 +26,7 @@ use Rattle.model_journal.specs.Journal as journal
 use Rattle.model_journal.specs.Journal.{val}
 use Rattle.model_journal.specs.Legal.{IsLegal}
 use Rattle.lasp_replica.specs.Parts.{Parts, IsKept, history_at, news_of}
-use Rattle.lasp_replica.proofs.PartLaws.{states-long, held-val}
+use Rattle.lasp_replica.proofs.PartLaws.{held-val}
 use Rattle.lasp_replica.proofs.OneLaws.{kept-updated-still, kept-updated-grown}
 use Rattle.lasp_replica.proofs.OrderLaws.{delta-ordered}
 use Rattle.lasp_state.specs.declared.state.State.{State}
@@ -53,6 +52,7 @@ use Rattle.lasp_replica.specs.declared.refused.UpdateRefused.TheVariants as upda
 use Rattle.lasp_history.proofs.KeptLaws.{where-ok}
 use Rattle.lasp_replica.proofs.ReplicaLaws.{frame-same, replica-kept}
 use Rattle.lasp_replica.proofs.SuitLaws.{suited-same, suited-more}
+use Rattle.lasp_replica.proofs.TakenLaws.{no-fold, told-set}
 
 -- ---- kinds and shapes
 
@@ -98,24 +98,7 @@ shape-exact fold (counter m) e = absurd (let p : false ≡ true = e in cc)
 shape-exact fold register e = absurd (let p : false ≡ true = e in cc)
 shape-exact fold fold e = refl
 
--- no source is a fold
-source-apart : (nodes : ℕ) (k : Kind) → IsTrue (is_source k) → shape_of nodes k ≡ fold → ⊥
-source-apart nodes OrSet source e = let p : set ≡ fold = e in cc
-source-apart nodes GSet source e = let p : grow ≡ fold = e in cc
-source-apart nodes Counter source e = let p : counter nodes ≡ fold = e in cc
-source-apart nodes MaxReg source e = let p : register ≡ fold = e in cc
-source-apart nodes (Union x y) source e = let p : false ≡ true = source in cc
-source-apart nodes (Product x y) source e = let p : false ≡ true = source in cc
-source-apart nodes (Intersection x y) source e = let p : false ≡ true = source in cc
-source-apart nodes (Map x place ops) source e = let p : false ≡ true = source in cc
-source-apart nodes (Filter x place ops) source e = let p : false ≡ true = source in cc
-source-apart nodes (Fold x op place lift) source e = let p : false ≡ true = source in cc
-
 -- ---- what a replica has
-
--- there is a state for each variable
-pub state-there : (r : Replica) → IsReplica r → (x y : ℕ) → y ≡ x → x < length (arc_value r.graph) → y < length r.states
-state-there r is x y e low = omega (arith, e, low, states-long (frame_of r) (entries_of r) is.legal (parts_of r) is.kept)
 
 pub history-there : (r : Replica) → IsReplica r → (x : ℕ) → x < length (arc_value r.graph) → x < length r.histories.items
 history-there r is x low = let many : length (map told r.histories.items) ≡ length (arc_value r.graph) = is.kept.histories_many in
@@ -163,10 +146,6 @@ pub on-err : {A E : Type 0} {P : Type 0} (r : Result A E) → P → OnErr r P
 on-err (Ok a) h = tt
 on-err (Err e) h = h
 
--- a history that has made something ready tells what it told
-pub told-still : (histories : List Kept) (x : ℕ) (old new : Kept) → old ≡ get_or histories x old → new.history ≡ old.history → map told (slice_set histories x new) ≡ map told histories
-told-still histories x old new found same = map-set_same (λ (h : Kept). told h) histories x new old (same ∙ ap (λ (h : Kept). told h) found)
-
 pub kept-set : (histories : List Kept) (x : ℕ) (new : Kept) → x < length histories → kept_at (slice_set histories x new) x ≡ new
 kept-set histories x new low = at-set (λ (h : Kept). h ≡ new) histories x new (kept [] [] [] false) x low (λ _. refl) (λ apart. absurd (apart refl))
 
@@ -213,7 +192,7 @@ own-shape : (r : Replica) (x : ℕ) (o : Op) (s : State) → IsReplica r → IsC
 own-shape r x o s is c found = shape-exact (shape_for (length r.counts) o) (shape_of (length r.counts) (kind_at (arc_value r.graph) x)) c.suits ∙ sym (source-shape r x o s is c found)
 
 apart : (r : Replica) (x : ℕ) (o : Op) (s : State) → IsReplica r → IsChecked r x o → held_at r.states x ≡ held_of s → state.shape_of s ≡ fold → ⊥
-apart r x o s is c found e = source-apart (length r.counts) (kind_at (arc_value r.graph) x) c.source (sym (source-shape r x o s is c found) ∙ e)
+apart r x o s is c found e = no-fold (length r.counts) (kind_at (arc_value r.graph) x) c.source (sym (source-shape r x o s is c found) ∙ e)
 
 pub suited : (r : Replica) (x : ℕ) (o : Op) (s : State) → IsReplica r → IsChecked r x o → held_at r.states x ≡ held_of s → IsOpOf o r.me (state.shape_of s)
 suited r x (op.Add v) s is c found = sym (own-shape r x (op.Add v) s is c found)
@@ -268,7 +247,7 @@ prepared x y old new s t d covered place found again order is low before after t
   entries = entries;
   room = room;
   states = states ∙ ap (λ (i : ℕ). slice_set old.states i (grown (held_at old.states i) (held_of d))) place;
-  histories = ap (λ (hs : List Kept). map told hs) histories ∙ told-still old.histories.items x before after there same;
+  histories = ap (λ (hs : List Kept). map told hs) histories ∙ told-set old.histories.items x before after there same;
   ready = ap (λ (h : Kept). h.prepared) own ∙ ready;
   pending = ap (λ (h : Kept). h.pending) own ∙ pending ∙ sym (ap (λ (h : Held). news_of h.shape h.content (content_of d)) again);
   grows_is = subst (λ (h : Held). IsFalse (not covered) ↔ IsContentAtMost (content_of d) h.content) (sym found) (flipped covered (IsContentAtMost (content_of d) (content_of s)) order);
@@ -332,7 +311,7 @@ kind-state nodes k (variant.Set rows) source e = kind-set nodes k source e
 kind-state nodes k (variant.Grow values) source e = kind-grow nodes k source e
 kind-state nodes k (variant.Count counts) source e = kind-counter nodes (length counts) k source e
 kind-state nodes k (variant.Max m) source e = kind-register nodes k source e
-kind-state nodes k (variant.Fold rows n) source e = absurd (source-apart nodes k source (sym (shape-exact fold (shape_of nodes k) e)))
+kind-state nodes k (variant.Fold rows n) source e = absurd (no-fold nodes k source (sym (shape-exact fold (shape_of nodes k) e)))
 
 is-update : (nodes : ℕ) (g : List Decl) (x : ℕ) (o : Op) → IsSmall nodes o → IsInFormat o → IsTrue (is_source (kind_at g x)) → IsTrue (is_for nodes o (kind_at g x)) → IsUpdate nodes g x (op_of o)
 is-update nodes g x (op.Add v) small format source e = (kind-set nodes (kind_at g x) source e, record { size = small; parts = format })

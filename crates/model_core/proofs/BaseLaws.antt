@@ -1,21 +1,23 @@
 -- What a bind does: it raises the base of its variable, and joins in what that base had, or nothing where it read less than the base.
 use Rattle.std.proofs.Common.{◌≡◌, ℕ, zero, suc, ◌≤◌, ◌<◌, max, ◌⊎◌, inl, inr, Bool, true, false, if◌then◌else◌, ◌==◌, IsFalse, List, [], ◌∷◌, ◌++◌, length, take, drop, slice_set, refl, sym, ap, subst, ◌∙◌, arith}
 use Rattle.std.proofs.lemmas.Bool.Decides.{nat_tests}
+use Rattle.std.proofs.lemmas.List.{take-take, take_at}
 use Rattle.model_states.specs.Content.{Content, least, join_contents, IsContentAtMost, IsOrdered}
 use Rattle.model_states.specs.Update.{Op}
 use Rattle.model_states.proofs.ContentLaws.{join-above, join-below}
-use Rattle.model_graph.specs.Graph.{Kind, OrSet, GSet, Counter, MaxReg, Union, Product, Intersection, Map, Filter, Fold, Decl, is_source, decl_at, kind_at}
+use Rattle.model_graph.specs.Graph.{Kind, Decl, is_source, decl_at, kind_at}
 use Rattle.model_graph.specs.Evaluation.{content_at, equation}
 use Rattle.model_graph.specs.Order.{ContentsAtMost}
 use Rattle.model_graph.specs.Lawful.{IsDerived}
 use Rattle.model_graph.proofs.PlaceLaws.{equal-numbers, at-set, below-or-not, at-past, set-length}
 use Rattle.model_graph.proofs.EquationLaws.{equation-monotone, equation-ordered}
+use Rattle.model_graph.proofs.LeastLaws.{equation-flat}
 use Rattle.model_messages.specs.Message.{Message}
 use Rattle.model_journal.specs.Entry.{Act, Update, Deliver, Bind, Extend, Entry, Frame}
 use Rattle.model_journal.specs.Journal.{Snapshot, Journal, binds_after, journal, graph, vals, val}
 use Rattle.model_journal.specs.Clean.{greatest_bound, base}
 use Rattle.model_journal.specs.Legal.{IsLawful, IsLegal}
-use Rattle.model_journal.proofs.PlaceLaws.{take-front, take-whole}
+use Rattle.model_journal.proofs.PlaceLaws.{take-whole}
 use Rattle.model_journal.proofs.JournalLaws.{journal-past, journal-push, journal-good, journal-later, vals-grow}
 use Rattle.model_journal.proofs.CleanLaws.{take-and-drop, snapshot-take, val-based, vals-length}
 use Rattle.model_journal.proofs.EntryLaws.{bind-vals}
@@ -67,26 +69,16 @@ base-extended X h e d y is = base-other X h e y (λ n bind. (let both : Extend d
 
 -- ---- what stood earlier
 
-take-again : (h : List Entry) (m n : ℕ) → m ≤ n → take m (take n h) ≡ take m h
-take-again [] zero zero low = refl
-take-again [] zero (suc n) low = refl
-take-again [] (suc m) zero low = refl
-take-again [] (suc m) (suc n) low = refl
-take-again (e ∷ h) zero zero low = refl
-take-again (e ∷ h) zero (suc n) low = refl
-take-again (e ∷ h) (suc m) zero low = absurd (omega (arith, low))
-take-again (e ∷ h) (suc m) (suc n) low = ap (λ (k : List Entry). e ∷ k) (take-again h m n (omega (arith, low)))
-
--- the first of longer entries
-pub take-first : (h more : List Entry) → take (length h) (h ++ more) ≡ h
-take-first h more = take-front h more (length h) (omega arith) ∙ take-whole h (length h) (omega arith)
-
 -- contents only grow
 pub vals-take : (X : Frame) (h : List Entry) (n : ℕ) → ContentsAtMost (vals X (take n h)) (vals X h)
 vals-take X h n = subst (λ (k : List Entry). ContentsAtMost (vals X (take n h)) (vals X k)) (take-and-drop h n) (vals-grow X (take n h) (drop n h))
 
+-- the first of longer entries
+pub take-first : (h more : List Entry) → take (length h) (h ++ more) ≡ h
+take-first h more = take_at h more (length h) refl
+
 pub vals-between : (X : Frame) (h : List Entry) (m n : ℕ) → m ≤ n → ContentsAtMost (vals X (take m h)) (vals X (take n h))
-vals-between X h m n low = subst (λ (k : List Entry). ContentsAtMost (vals X k) (vals X (take n h))) (take-again h m n low) (vals-take X (take n h) m)
+vals-between X h m n low = subst (λ (k : List Entry). ContentsAtMost (vals X k) (vals X (take n h))) (take-take m n h low) (vals-take X (take n h) m)
 
 -- a declaration stays as it was
 pub decl-later : (X : Frame) (h more : List Entry) (x : ℕ) → x < length (graph X h) → decl_at (graph X (h ++ more)) x ≡ decl_at (graph X h) x
@@ -123,18 +115,6 @@ bound-low X h e y n legal is =
     omega (arith, lawful.0, journal-past X h)
 
 -- ---- what a bind joins in
-
-equation-flat : (k : Kind) (ss : List Content) → length (equation k ss).counts ≡ 0
-equation-flat OrSet ss = refl
-equation-flat GSet ss = refl
-equation-flat Counter ss = refl
-equation-flat MaxReg ss = refl
-equation-flat (Union x y) ss = refl
-equation-flat (Product x y) ss = refl
-equation-flat (Intersection x y) ss = refl
-equation-flat (Map x place ops) ss = refl
-equation-flat (Filter x place ops) ss = refl
-equation-flat (Fold x op place lift) ss = refl
 
 -- the equation of variable y on what stood after the first n entries
 abbrev pub read_at : Frame → List Entry → ℕ → ℕ → Content

@@ -10,22 +10,19 @@ use Rattle.model_graph.proofs.EvalLaws.{graph-earlier, eval-given, eval-derived}
 use Rattle.model_graph.proofs.LimitLaws.{large-words, small-words}
 use Rattle.model_journal.specs.Entry.{Bind, Entry, Frame}
 use Rattle.model_journal.specs.Journal.{graph, vals, val, sources}
-use Rattle.model_journal.specs.Clean.{version, applied, base, IsClean}
+use Rattle.model_journal.specs.Clean.{version, base, IsClean}
 use Rattle.model_journal.specs.Legal.{IsLegal}
 use Rattle.model_journal.proofs.JournalLaws.{journal-graph}
 use Rattle.model_journal.proofs.CleanLaws.{clean-equal, all-clean}
 use Rattle.model_journal.proofs.EntryLaws.{version-still}
 use Rattle.model_journal.proofs.LegalLaws.{legal-first, applied-kept}
-use Rattle.model_journal.proofs.WordLaws as words
 use Rattle.model_core.proofs.SourceLaws.{sources-source}
 use Rattle.model_core.proofs.PeerLaws.{graph-bound}
 use Rattle.model_core.proofs.ValidLaws.{val-small}
 use Rattle.model_core.proofs.BaseLaws.{base-within, base-bind, take-first, kind-later, bound-derived, bind-others}
+use Rattle.model_journal.proofs.WordLaws.{applied-base}
 
 -- ---- clean by the base
-
-pub applied-base : (X : Frame) (h : List Entry) → IsLegal X h → (y x : ℕ) → applied X h y x ≡ version X (take (base X h y) h) x
-applied-base = words.applied-base
 
 pub clean-base : (X : Frame) (h : List Entry) → IsLegal X h → (y : ℕ) → IsClean X h y ↔ ((x : ℕ) → IsInput (kind_at (graph X h) y) x → version X (take (base X h y) h) x ≡ version X h x)
 clean-base X h legal y = (λ clean x i. sym (applied-base X h legal y x) ∙ clean x i, λ at x i. applied-base X h legal y x ∙ at x i)
@@ -70,12 +67,9 @@ large-first X h legal y clean d large = (large-words (eval (graph X h) (sources 
   before = λ z low. subst (λ (s : Content). size_of s ≤ row_limit) (settled-below X h legal y clean z low (omega (arith, low, d.declared))) (val-small X h legal z);
 })
 
-pub settled-all : (X : Frame) (h : List Entry) → IsLegal X h → ((y : ℕ) → IsDerived (graph X h) y → IsClean X h y) → vals X h ≡ eval (graph X h) (sources X h)
-settled-all = all-clean
-
 pub settled-small : (X : Frame) (h : List Entry) → IsLegal X h → ((y : ℕ) → IsDerived (graph X h) y → IsClean X h y) → first_large 0 (eval (graph X h) (sources X h)) ≡ None
 settled-small X h legal clean =
-    subst (λ (ss : List Content). first_large 0 ss ≡ None) (settled-all X h legal clean) ((small-words (vals X h)).1 (val-small X h legal))
+    subst (λ (ss : List Content). first_large 0 ss ≡ None) (all-clean X h legal clean) ((small-words (vals X h)).1 (val-small X h legal))
 
 -- ---- clean after one more entry
 
@@ -121,6 +115,6 @@ clean-after-bind X h e y legal is x i =
       earlier : x < y
       earlier = graph-earlier (graph X h) (journal-graph X h before) y x (subst (λ (g : List Decl). IsInput (kind_at g y) x) (graph-bound X h e y (length h) is) i)
 
-pub ruleset settled = (settled-below, equation-below, large-first, settled-all, settled-small)
+pub ruleset settled = (settled-below, equation-below, large-first, all-clean, settled-small)
 
 pub ruleset clean = (applied-base, clean-base, clean-stays, clean-apart, clean-before, clean-after-bind)

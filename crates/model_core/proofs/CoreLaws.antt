@@ -1,6 +1,8 @@
 -- What each entry leaves of a core.
-use Rattle.std.proofs.Common.{◌≡◌, ℕ, ◌+◌, ◌≤◌, ◌<◌, Bool, true, false, not, IsTrue, IsFalse, List, [], ◌∷◌, ◌++◌, length, map, take, filter, None, refl, ap, ◌∙◌, arith}
+use Rattle.std.proofs.Common.{◌≡◌, ℕ, ◌+◌, ◌≤◌, ◌<◌, Bool, true, not, IsTrue, IsFalse, List, [], ◌∷◌, ◌++◌, length, map, take, filter, None, ap, ◌∙◌, arith}
 use Rattle.std.specs.List.{AllByRecursion}
+use Rattle.std.proofs.lemmas.Bool.{not-true, not_from_false}
+use Rattle.model_values.proofs.ListLaws.{each-weaker}
 use Rattle.model_states.specs.Counts.{count_at}
 use Rattle.model_states.specs.Content.{Content, join_contents, size_of, row_limit}
 use Rattle.model_states.specs.Threshold.{meets}
@@ -13,7 +15,7 @@ use Rattle.model_readings.specs.Lawful as readings
 use Rattle.model_wire.specs.Lawful.{IsMessage}
 use Rattle.model_world.specs.World.{delivered}
 use Rattle.model_runs.specs.Held.{IsHeld, IsUpdate}
-use Rattle.model_runs.proofs.EachLaws.{each-append, each-weaker}
+use Rattle.model_runs.proofs.EachLaws.{each-append}
 use Rattle.model_journal.specs.Entry.{Update, Deliver, Bind, Extend, Entry, Frame}
 use Rattle.model_journal.specs.Journal.{graph, vals, val, counts}
 use Rattle.model_journal.specs.Legal.{IsLegal}
@@ -24,19 +26,11 @@ use Rattle.model_core.proofs.LegalLaws.{legal-start, legal-update, legal-deliver
 use Rattle.model_core.proofs.HeldLaws.{held-start, held-update, held-deliver, held-bind, held-extend}
 use Rattle.model_core.proofs.ReadLaws.{suits-stays, each-kept, all-kept, none-kept}
 
-not-met : (b : Bool) → not b ≡ true → b ≡ false
-not-met true e = cc
-not-met false e = refl
-
-not-unmet : (b : Bool) → b ≡ false → not b ≡ true
-not-unmet true e = cc
-not-unmet false e = refl
-
 parked-later : (X : Frame) (h more : List Entry) (r : Read) → not (is_met X (h ++ more) r) ≡ true → IsParked X h r → IsParked X (h ++ more) r
 parked-later X h more r unmet p = record {
   declared = omega (arith, p.declared, graph-longer X h more);
   suits_it = suits-stays X h more r.var r.threshold p.declared p.suits_it;
-  unmet = not-met (is_met X (h ++ more) r) unmet;
+  unmet = not-true (is_met X (h ++ more) r) unmet;
 }
 
 pub entered-core : (c : Core) (e : Entry) → IsCore c → IsLegal c.frame (c.entries ++ e ∷ []) → IsHeld c.frame.nodes (graph c.frame (c.entries ++ e ∷ [])) (peer_of c.frame (c.entries ++ e ∷ [])) → IsCore (entered e c)
@@ -105,7 +99,7 @@ still-unmet c e (r ∷ reads) parked still = (ap (λ (s : Content). meets r.thre
 pub parked-still : (c : Core) (e : Entry) → IsCore c → AllByRecursion (IsStill e c) c.parked → (entered e c).parked ≡ c.parked
 parked-still c e core still =
     all-kept (λ r. not (is_met c.frame (c.entries ++ e ∷ []) r)) c.parked
-    (each-weaker (λ r. IsFalse (is_met c.frame (c.entries ++ e ∷ []) r)) (λ r. IsTrue (not (is_met c.frame (c.entries ++ e ∷ []) r))) (λ r unmet. not-unmet (is_met c.frame (c.entries ++ e ∷ []) r) unmet) c.parked
+    (each-weaker (λ r. IsFalse (is_met c.frame (c.entries ++ e ∷ []) r)) (λ r. IsTrue (not (is_met c.frame (c.entries ++ e ∷ []) r))) (λ r unmet. not_from_false (is_met c.frame (c.entries ++ e ∷ []) r) unmet) c.parked
     (still-unmet c e c.parked core.parked still))
 
 pub released-still : (c : Core) (e : Entry) → IsCore c → AllByRecursion (IsStill e c) c.parked → released e c ≡ []

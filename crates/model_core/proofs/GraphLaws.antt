@@ -2,16 +2,12 @@
 use Rattle.std.proofs.Common.{◌≡◌, ℕ, zero, suc, ◌<◌, inl, inr, IsTrue, List, [], ◌∷◌, length, take, Some, sym, subst, arith}
 use Rattle.std.specs.Prelude.{slice_get}
 use Rattle.std.proofs.lemmas.List.{length-take}
+use Rattle.std.proofs.lemmas.Option.{slice_get_within}
 use Rattle.model_graph.specs.Graph.{Kind, OrSet, GSet, Counter, MaxReg, Union, Product, Intersection, Map, Filter, Fold, Decl, decl_at, kind_at, is_set, IsInput}
 use Rattle.model_graph.specs.Lawful.{variable_limit, MayFollow, IsGraph}
 use Rattle.model_readings.specs.Lawful as readings
 use Rattle.model_readings.specs.Lawful.{IsSetAt, AreInputs, IsNext}
 use Rattle.model_runs.proofs.HeldLaws.{declared-at}
-
-got-low : (g : List Decl) (x : ℕ) (d : Decl) → slice_get g x ≡ Some d → x < length g
-got-low [] x d e = absurd cc
-got-low (c ∷ g) zero d e = omega arith
-got-low (c ∷ g) (suc x) d e = omega (arith, got-low g x d e)
 
 got-at : (g : List Decl) (x : ℕ) (d : Decl) → slice_get g x ≡ Some d → decl_at g x ≡ d
 got-at [] x d e = absurd cc
@@ -24,7 +20,7 @@ IsInputOf g x = (x < length g) × IsTrue (is_set (kind_at g x))
 
 set-input : (g : List Decl) (a x : ℕ) → IsSetAt g a → x ≡ a → IsInputOf g x
 set-input g a x h e =
-    subst (IsInputOf g) (sym e) (got-low g a h.decl h.declared, subst (λ (d : Decl). IsTrue (is_set d.kind)) (sym (got-at g a h.decl h.declared)) h.set)
+    subst (IsInputOf g) (sym e) (slice_get_within g a h.decl h.declared, subst (λ (d : Decl). IsTrue (is_set d.kind)) (sym (got-at g a h.decl h.declared)) h.set)
 
 inputs-are : (g : List Decl) (k : Kind) → AreInputs g k → (x : ℕ) → IsInput k x → IsInputOf g x
 inputs-are g OrSet h x i = absurd i

@@ -2,13 +2,13 @@
 use Rattle.std.proofs.Common.{◌≡◌, ℕ, suc, Bool, true, false, cond, List, [], ◌∷◌, ◌++◌, length, map, take, drop, refl, sym, ap, subst, ◌∙◌}
 use Rattle.std.specs.List.{AllByRecursion}
 use Rattle.std.proofs.lemmas.List.{take-append-drop}
+use Rattle.model_values.proofs.ListLaws.{each-weaker}
 use Rattle.model_graph.specs.Graph.{Decl, is_source}
 use Rattle.model_graph.specs.Lawful.{sources_among}
 use Rattle.model_messages.specs.Message.{Message}
 use Rattle.model_messages.proofs.MessageLaws.{among-append}
 use Rattle.model_wire.specs.Lawful.{IsSent, IsMessage}
 use Rattle.model_runs.specs.Held.{IsSentSource, IsSentTo}
-use Rattle.model_runs.proofs.EachLaws.{each-weaker}
 
 -- the first sources of a graph are the sources of some first declarations
 first-sources : (g ds more : List Decl) → ds ++ more ≡ sources_among g → (n : ℕ) × (ds ≡ sources_among (take n g))

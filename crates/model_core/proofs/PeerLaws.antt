@@ -8,36 +8,29 @@ use Rattle.model_graph.specs.Evaluation.{least_of, content_at}
 use Rattle.model_graph.specs.Lawful.{IsDerived}
 use Rattle.model_messages.specs.Message.{Sent, Message, brought, gained}
 use Rattle.model_world.specs.World.{fresh_peer, updated, delivered, extended, message_at}
-use Rattle.model_journal.specs.Entry.{Act, Update, Deliver, Bind, Extend, Entry, Frame}
-use Rattle.model_journal.specs.Journal.{Journal, Snapshot, snapshot_after, journal, graph, vals, val, counts, sources_from, sources}
+use Rattle.model_journal.specs.Entry.{Update, Deliver, Bind, Extend, Entry, Frame}
+use Rattle.model_journal.specs.Journal.{Snapshot, graph, vals, val, counts, sources_from, sources}
 use Rattle.model_journal.specs.Legal.{IsLegal}
 use Rattle.model_journal.specs.Message.{message}
-use Rattle.model_journal.proofs.JournalLaws.{journal-push, counts-length}
+use Rattle.model_journal.proofs.JournalLaws.{counts-length}
 use Rattle.model_journal.proofs.CleanLaws.{vals-length}
-use Rattle.model_journal.proofs.EntryLaws.{update-vals, update-counts, bind-vals, bind-counts, deliver-counts, extend-vals, extend-counts}
+use Rattle.model_journal.proofs.EntryLaws.{update-vals, update-counts, bind-vals, bind-counts, deliver-counts, extend-vals, extend-counts, pushed}
 use Rattle.model_core.specs.Peer.{peer_of}
 use Rattle.model_core.proofs.SourceLaws.{sources-least, sources-source, sources-set, sources-unset, sources-gained, sources-push, sources-sent}
-
--- what stands after one more entry
-pub pushed-now : (X : Frame) (h : List Entry) (e : Entry) (act : Act) → e.act ≡ act → (journal X (h ++ e ∷ [])).now ≡ snapshot_after X (journal X h) act
-pushed-now X h e act is = ap (λ (j : Journal). j.now) (journal-push X h e) ∙ ap (λ (a : Act). snapshot_after X (journal X h) a) is
 
 -- ---- the graph
 
 pub graph-updated : (X : Frame) (h : List Entry) (e : Entry) (y : ℕ) (op : Op) → e.act ≡ Update y op → graph X (h ++ e ∷ []) ≡ graph X h
-graph-updated X h e y op is = ap (λ (s : Snapshot). s.graph) (pushed-now X h e (Update y op) is)
+graph-updated X h e y op is = ap (λ (s : Snapshot). s.graph) (pushed X h e (Update y op) is)
 
 pub graph-delivered : (X : Frame) (h : List Entry) (e : Entry) (i : ℕ) (m : Message) → e.act ≡ Deliver i m → graph X (h ++ e ∷ []) ≡ graph X h
-graph-delivered X h e i m is = ap (λ (s : Snapshot). s.graph) (pushed-now X h e (Deliver i m) is)
+graph-delivered X h e i m is = ap (λ (s : Snapshot). s.graph) (pushed X h e (Deliver i m) is)
 
 pub graph-bound : (X : Frame) (h : List Entry) (e : Entry) (y n : ℕ) → e.act ≡ Bind y n → graph X (h ++ e ∷ []) ≡ graph X h
-graph-bound X h e y n is = ap (λ (s : Snapshot). s.graph) (pushed-now X h e (Bind y n) is)
+graph-bound X h e y n is = ap (λ (s : Snapshot). s.graph) (pushed X h e (Bind y n) is)
 
 pub graph-extended : (X : Frame) (h : List Entry) (e : Entry) (d : Decl) → e.act ≡ Extend d → graph X (h ++ e ∷ []) ≡ graph X h ++ d ∷ []
-graph-extended X h e d is = ap (λ (s : Snapshot). s.graph) (pushed-now X h e (Extend d) is)
-
-pub counts-long : (X : Frame) (h : List Entry) → IsLegal X h → length (counts X h) ≡ X.nodes
-counts-long = counts-length
+graph-extended X h e d is = ap (λ (s : Snapshot). s.graph) (pushed X h e (Extend d) is)
 
 -- ---- peers
 
@@ -60,7 +53,7 @@ pub peer-delivered : (X : Frame) (h : List Entry) → IsLegal X h → (e : Entry
 peer-delivered X h legal e i m is = λ j. record { contents = contents j; counts = deliver-counts X h e i m is j } where
   contents : sources X (h ++ e ∷ []) ≡ gained (brought (graph X h) m) 0 (sources X h)
   contents =
-      ap (λ (s : Snapshot). sources_from s.graph s.contents) (pushed-now X h e (Deliver i m) is)
+      ap (λ (s : Snapshot). sources_from s.graph s.contents) (pushed X h e (Deliver i m) is)
       ∙ ap (λ (ss : List Content). sources_from (graph X h) ss) (append-nil (gained (brought (graph X h) m) 0 (vals X h)))
       ∙ sources-gained (graph X h) m (vals X h) (vals-length X h legal)
 
@@ -68,8 +61,8 @@ pub peer-bound : (X : Frame) (h : List Entry) → IsLegal X h → (e : Entry) (y
 peer-bound X h legal e y n is d = λ i. record { contents = contents i; counts = bind-counts X h e y n is i } where
   contents : sources X (h ++ e ∷ []) ≡ sources X h
   contents =
-      ap (λ (s : Snapshot). sources_from s.graph s.contents) (pushed-now X h e (Bind y n) is)
-      ∙ ap (λ (ss : List Content). sources_from (graph X h) ss) (sym (ap (λ (s : Snapshot). s.contents) (pushed-now X h e (Bind y n) is)) ∙ bind-vals X h legal e y n is d.declared)
+      ap (λ (s : Snapshot). sources_from s.graph s.contents) (pushed X h e (Bind y n) is)
+      ∙ ap (λ (ss : List Content). sources_from (graph X h) ss) (sym (ap (λ (s : Snapshot). s.contents) (pushed X h e (Bind y n) is)) ∙ bind-vals X h legal e y n is d.declared)
       ∙ sources-unset (graph X h) (vals X h) y _ d.declared d.process
 
 pub peer-extended : (X : Frame) (h : List Entry) → IsLegal X h → (e : Entry) (d : Decl) → e.act ≡ Extend d → peer_of X (h ++ e ∷ []) ≡ extended X.nodes d (peer_of X h)
@@ -85,4 +78,4 @@ peer-message X h = ap (λ (sent : List Sent). record { counts = counts X h; sour
 
 pub ruleset peers = (peer-fresh, peer-updated, peer-delivered, peer-bound, peer-extended, peer-message)
 
-pub ruleset graphs = (graph-updated, graph-delivered, graph-bound, graph-extended, counts-long)
+pub ruleset graphs = (graph-updated, graph-delivered, graph-bound, graph-extended, counts-length)

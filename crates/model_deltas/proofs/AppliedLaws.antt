@@ -1,5 +1,5 @@
 -- What comes of applying a delta, cause by cause.
-use Rattle.std.proofs.Common.{◌≡◌, ℕ, zero, suc, ◌+◌, ◌≤◌, ◌<◌, ◌↔◌, Bool, true, false, if◌then◌else◌, nat_lt, List, [], ◌∷◌, Option, Some, None, Result, Ok, Err, refl, sym, ap, subst, ◌∙◌, arith}
+use Rattle.std.proofs.Common.{◌≡◌, ℕ, zero, suc, ◌+◌, ◌≤◌, ◌<◌, ◌↔◌, Bool, true, false, if◌then◌else◌, nat_lt, List, [], ◌∷◌, Option, Some, None, Result, Ok, Err, refl, sym, ap, subst, ◌∙◌, arith, add-zero, zero-add}
 use Rattle.std.proofs.lemmas.Bool.Decides.{nat_tests}
 use Rattle.model_states.specs.Counts.{count_at, AreCountsAtMost}
 use Rattle.model_graph.specs.Evaluation.{first_large}
@@ -8,6 +8,7 @@ use Rattle.model_graph.proofs.LimitLaws.{large-words, small-words}
 use Rattle.model_messages.specs.Message.{Message}
 use Rattle.model_deltas.specs.Delta.{Delta, carried}
 use Rattle.model_deltas.specs.Applied.{Cause, Gap, TooManyRows, first_gap, IsFirstGap, joined, contents_of, small_or, limited, unless, applied}
+use Rattle.model_world.proofs.StopLaws.{shifted}
 
 -- ---- gaps, from replica q on
 
@@ -23,21 +24,15 @@ pub record IsFound (q : ℕ) (counts from : List ℕ) (i : ℕ) : Type 0 where
 abbrev gap_at : ℕ → List ℕ → List ℕ → ℕ → Cause
 gap_at q counts from i = Gap (q + i) (count_at counts (q + i)) (count_at from i)
 
-here : (q : ℕ) → q + 0 ≡ q
-here q = omega arith
-
-there : (q i : ℕ) → (q + 1) + i ≡ q + suc i
-there q i = omega arith
-
 none-later : (q need : ℕ) (counts from : List ℕ) → need ≤ count_at counts q → HasNone (q + 1) counts from → HasNone q counts (need ∷ from)
-none-later q need counts from small rest zero = subst (λ (n : ℕ). need ≤ count_at counts n) (sym (here q)) small
-none-later q need counts from small rest (suc j) = subst (λ (n : ℕ). count_at from j ≤ count_at counts n) (there q j) (rest j)
+none-later q need counts from small rest zero = subst (λ (n : ℕ). need ≤ count_at counts n) (sym (add-zero q)) small
+none-later q need counts from small rest (suc j) = subst (λ (n : ℕ). count_at from j ≤ count_at counts n) (shifted q j) (rest j)
 
 found-later : (q need : ℕ) (counts from : List ℕ) (i : ℕ) → need ≤ count_at counts q → IsFound (q + 1) counts from i → IsFound q counts (need ∷ from) (suc i)
-found-later q need counts from i small rest = record { short = subst (λ (n : ℕ). count_at counts n < count_at from i) (there q i) rest.short; before = before } where
+found-later q need counts from i small rest = record { short = subst (λ (n : ℕ). count_at counts n < count_at from i) (shifted q i) rest.short; before = before } where
   before : (j : ℕ) → j < suc i → count_at (need ∷ from) j ≤ count_at counts (q + j)
-  before zero low = subst (λ (n : ℕ). need ≤ count_at counts n) (sym (here q)) small
-  before (suc j) low = subst (λ (n : ℕ). count_at from j ≤ count_at counts n) (there q j) (rest.before j (omega (arith, low)))
+  before zero low = subst (λ (n : ℕ). need ≤ count_at counts n) (sym (add-zero q)) small
+  before (suc j) low = subst (λ (n : ℕ). count_at from j ≤ count_at counts n) (shifted q j) (rest.before j (omega (arith, low)))
 
 gap-found : (q : ℕ) (counts from : List ℕ) (cause : Cause) → first_gap q counts from ≡ Some cause → (i : ℕ) × (cause ≡ gap_at q counts from i) × IsFound q counts from i
 gap-found q counts [] cause e = absurd cc
@@ -50,27 +45,27 @@ gap-found q counts (need ∷ from) cause e = choose (λ h. gap-found (q + 1) cou
   choose later true t h =
       let same : cause ≡ Gap q (count_at counts q) need = cc in
       let short : count_at counts q < need = grind (arith, nat_tests, t) in
-      (0, same ∙ ap (λ (n : ℕ). Gap n (count_at counts n) need) (sym (here q)), record { short = subst (λ (n : ℕ). count_at counts n < need) (sym (here q)) short; before = λ j low. absurd (omega (arith, low)) })
+      (0, same ∙ ap (λ (n : ℕ). Gap n (count_at counts n) need) (sym (add-zero q)), record { short = subst (λ (n : ℕ). count_at counts n < need) (sym (add-zero q)) short; before = λ j low. absurd (omega (arith, low)) })
   choose later false t h =
       let found = later h in
       let small : need ≤ count_at counts q = grind (arith, nat_tests, t) in
-      (suc found.0, found.1 ∙ ap (λ (n : ℕ). Gap n (count_at counts n) (count_at from found.0)) (there q found.0), found-later q need counts from found.0 small found.2)
+      (suc found.0, found.1 ∙ ap (λ (n : ℕ). Gap n (count_at counts n) (count_at from found.0)) (shifted q found.0), found-later q need counts from found.0 small found.2)
 
 gap-is : (q : ℕ) (counts from : List ℕ) (i : ℕ) → IsFound q counts from i → first_gap q counts from ≡ Some (gap_at q counts from i)
 gap-is q counts [] zero found = absurd (let short = found.short in omega (arith, short))
 gap-is q counts [] (suc i) found = absurd (let short = found.short in omega (arith, short))
 gap-is q counts (need ∷ from) zero found =
-    let short : count_at counts q < need = subst (λ (n : ℕ). count_at counts n < need) (here q) found.short in
+    let short : count_at counts q < need = subst (λ (n : ℕ). count_at counts n < need) (add-zero q) found.short in
     let test : nat_lt (count_at counts q) need ≡ true = grind (arith, nat_tests, short) in
-    ap (λ (b : Bool). if b then Some (Gap q (count_at counts q) need) else first_gap (q + 1) counts from) test ∙ ap (λ (n : ℕ). Some (Gap n (count_at counts n) need)) (sym (here q))
+    ap (λ (b : Bool). if b then Some (Gap q (count_at counts q) need) else first_gap (q + 1) counts from) test ∙ ap (λ (n : ℕ). Some (Gap n (count_at counts n) need)) (sym (add-zero q))
 gap-is q counts (need ∷ from) (suc i) found =
-    let small : need ≤ count_at counts q = subst (λ (n : ℕ). need ≤ count_at counts n) (here q) (found.before 0 (omega arith)) in
+    let small : need ≤ count_at counts q = subst (λ (n : ℕ). need ≤ count_at counts n) (add-zero q) (found.before 0 (omega arith)) in
     let test : nat_lt (count_at counts q) need ≡ false = grind (arith, nat_tests, small) in
     ap (λ (b : Bool). if b then Some (Gap q (count_at counts q) need) else first_gap (q + 1) counts from) test
     ∙ gap-is (q + 1) counts from i (record {
-      short = subst (λ (n : ℕ). count_at counts n < count_at from i) (sym (there q i)) found.short;
-      before = λ j low. subst (λ (n : ℕ). count_at from j ≤ count_at counts n) (sym (there q j)) (found.before (suc j) (omega (arith, low)));
-    }) ∙ ap (λ (n : ℕ). Some (Gap n (count_at counts n) (count_at from i))) (there q i)
+      short = subst (λ (n : ℕ). count_at counts n < count_at from i) (sym (shifted q i)) found.short;
+      before = λ j low. subst (λ (n : ℕ). count_at from j ≤ count_at counts n) (sym (shifted q j)) (found.before (suc j) (omega (arith, low)));
+    }) ∙ ap (λ (n : ℕ). Some (Gap n (count_at counts n) (count_at from i))) (shifted q i)
 
 none-found : (q : ℕ) (counts from : List ℕ) → first_gap q counts from ≡ None → HasNone q counts from
 none-found q counts [] e zero = omega arith
@@ -84,25 +79,22 @@ none-found q counts (need ∷ from) e j = choose (λ h. none-found (q + 1) count
 none-is : (q : ℕ) (counts from : List ℕ) → HasNone q counts from → first_gap q counts from ≡ None
 none-is q counts [] none = refl
 none-is q counts (need ∷ from) none =
-    let small : need ≤ count_at counts q = subst (λ (n : ℕ). need ≤ count_at counts n) (here q) (none 0) in
+    let small : need ≤ count_at counts q = subst (λ (n : ℕ). need ≤ count_at counts n) (add-zero q) (none 0) in
     let test : nat_lt (count_at counts q) need ≡ false = grind (arith, nat_tests, small) in
     ap (λ (b : Bool). if b then Some (Gap q (count_at counts q) need) else first_gap (q + 1) counts from) test
-    ∙ none-is (q + 1) counts from (λ j. subst (λ (n : ℕ). count_at from j ≤ count_at counts n) (sym (there q j)) (none (suc j)))
-
-at-start : (i : ℕ) → 0 + i ≡ i
-at-start i = omega arith
+    ∙ none-is (q + 1) counts from (λ j. subst (λ (n : ℕ). count_at from j ≤ count_at counts n) (sym (shifted q j)) (none (suc j)))
 
 -- no count is below one that is needed
 pub no-gap : (counts from : List ℕ) → first_gap 0 counts from ≡ None ↔ AreCountsAtMost from counts
 no-gap counts from = (
-  λ e j. subst (λ (n : ℕ). count_at from j ≤ count_at counts n) (at-start j) (none-found 0 counts from e j),
-  λ h. none-is 0 counts from (λ j. subst (λ (n : ℕ). count_at from j ≤ count_at counts n) (sym (at-start j)) (h j)),
+  λ e j. subst (λ (n : ℕ). count_at from j ≤ count_at counts n) (zero-add j) (none-found 0 counts from e j),
+  λ h. none-is 0 counts from (λ j. subst (λ (n : ℕ). count_at from j ≤ count_at counts n) (sym (zero-add j)) (h j)),
 )
 
 pub gap-words : (counts from : List ℕ) (q have need : ℕ) → first_gap 0 counts from ≡ Some (Gap q have need) ↔ IsFirstGap counts from q have need
 gap-words counts from q have need = (forth, back) where
   parts : (i : ℕ) → Gap q have need ≡ gap_at 0 counts from i → (i ≡ q) × (count_at counts i ≡ have) × (count_at from i ≡ need)
-  parts i e = plain (subst (λ (n : ℕ). Gap q have need ≡ Gap n (count_at counts n) (count_at from i)) (at-start i) e) where
+  parts i e = plain (subst (λ (n : ℕ). Gap q have need ≡ Gap n (count_at counts n) (count_at from i)) (zero-add i) e) where
     plain : Gap q have need ≡ Gap i (count_at counts i) (count_at from i) → (i ≡ q) × (count_at counts i ≡ have) × (count_at from i ≡ need)
     plain e = (cc, cc, cc)
 
@@ -110,15 +102,15 @@ gap-words counts from q have need = (forth, back) where
   forth e =
       let found = gap-found 0 counts from (Gap q have need) e in
       let p = parts found.0 found.1 in
-      let short : count_at counts found.0 < count_at from found.0 = subst (λ (n : ℕ). count_at counts n < count_at from found.0) (at-start found.0) found.2.short in
+      let short : count_at counts found.0 < count_at from found.0 = subst (λ (n : ℕ). count_at counts n < count_at from found.0) (zero-add found.0) found.2.short in
       subst (λ (n : ℕ). IsFirstGap counts from n have need) p.0
-      (record { has = p.1; needs = p.2; short = omega (arith, short, p.1, p.2); before = λ j low. subst (λ (n : ℕ). count_at from j ≤ count_at counts n) (at-start j) (found.2.before j low) })
+      (record { has = p.1; needs = p.2; short = omega (arith, short, p.1, p.2); before = λ j low. subst (λ (n : ℕ). count_at from j ≤ count_at counts n) (zero-add j) (found.2.before j low) })
 
   back : IsFirstGap counts from q have need → first_gap 0 counts from ≡ Some (Gap q have need)
   back h =
       let short : count_at counts q < count_at from q = (let s = h.short in omega (arith, s, h.has, h.needs)) in
-      gap-is 0 counts from q (record { short = subst (λ (n : ℕ). count_at counts n < count_at from q) (sym (at-start q)) short; before = λ j low. subst (λ (n : ℕ). count_at from j ≤ count_at counts n) (sym (at-start j)) (h.before j low) })
-      ∙ ap (λ (n : ℕ). Some (Gap n (count_at counts n) (count_at from q))) (at-start q) ∙ (λ i. Some (Gap q (h.has i) (h.needs i)))
+      gap-is 0 counts from q (record { short = subst (λ (n : ℕ). count_at counts n < count_at from q) (sym (zero-add q)) short; before = λ j low. subst (λ (n : ℕ). count_at from j ≤ count_at counts n) (sym (zero-add j)) (h.before j low) })
+      ∙ ap (λ (n : ℕ). Some (Gap n (count_at counts n) (count_at from q))) (zero-add q) ∙ (λ i. Some (Gap q (h.has i) (h.needs i)))
 
 -- ---- the causes
 

@@ -1,5 +1,5 @@
 -- Deltas beside their spellings.
-use Rattle.std.proofs.Common.{◌≡◌, ℕ, zero, suc, ◌+◌, ◌<◌, ◌≤◌, true, eqb, List, [], ◌∷◌, ◌++◌, length, Result, Ok, Err, ◌⊎◌, inl, inr, refl, sym, ap, subst, ◌∙◌, append_assoc, append-nil, arith}
+use Rattle.std.proofs.Common.{◌≡◌, ℕ, zero, suc, ◌+◌, ◌<◌, ◌≤◌, true, eqb, List, [], ◌∷◌, ◌++◌, length, Ok, ◌⊎◌, inl, inr, refl, sym, ap, subst, ◌∙◌, append_assoc, append-nil, arith, add-zero}
 use Rattle.std.specs.List.{AllByRecursion, flat_map}
 use Rattle.std.specs.Int.{w8, w64, to_be_bytes}
 use Rattle.std.proofs.lemmas.Bool.{eqb-true, eq-eqb}
@@ -9,7 +9,6 @@ use Rattle.model_graph.proofs.PlaceLaws.{below-or-not, at-past}
 use Rattle.model_states.specs.Counts.{count_at, AreCountsAtMost}
 use Rattle.model_messages.specs.Message.{Sent}
 use Rattle.model_messages.specs.Spelling.{spelled_counts, spelled_source}
-use Rattle.model_wire.specs.declared.wire_why.WireWhy.{WireWhy}
 use Rattle.model_wire.specs.declared.wire_why.WireWhy.TheVariants as why
 use Rattle.model_wire.specs.Reader.{Reading, Reader, both_at, counted, list_at, ranged_at, magic_at}
 use Rattle.model_wire.specs.Message.{update_limit, sources_at, counts_at, decoded_from}
@@ -17,11 +16,12 @@ use Rattle.model_wire.specs.Spelling.{spelled_source_in}
 use Rattle.model_wire.specs.Lawful.{IsNodes, AreAtMost, IsSent}
 use Rattle.model_wire.proofs.Codecs.{IsBytes, IsCodec, wide64, HasBoth, spell_both, both_codec, spell_counted, HasCounted, counted_codec, made_codec, has_codec, AllHave, HasMany, spell_all, list_codec, passed, test_passed}
 use Rattle.model_wire.proofs.ValueLaws.{HasRange, ranged_codec, within_range, in_range}
-use Rattle.model_wire.proofs.MessageLaws.{AreCounts, spelled_all_counts, counts_codec, AreSources, spelled_sources, sources_codec, Magic, magic_codec, behind_magic, sources_written}
+use Rattle.model_wire.proofs.MessageLaws.{AreCounts, spelled_all_counts, counts_codec, AreSources, spelled_sources, sources_codec, Magic, magic_codec, behind_magic, sources_written, decoded_from-ok}
 use Rattle.model_deltas.specs.Delta.{Delta}
 use Rattle.model_deltas.specs.Before.{IsDelta}
 use Rattle.model_deltas.specs.Spelling.{spelled_delta}
 use Rattle.model_deltas.specs.Reader.{later_count_at, next_replica, later_counts_at, Span, span_at, delta_made, delta_body_at, delta_version_at, delta_at, nothing_behind_it, read_delta, decoded_delta}
+use Rattle.model_world.proofs.StopLaws.{shifted}
 
 -- ---- counts that are not below others
 
@@ -32,27 +32,21 @@ HasLater from q = HasRange 18446744073709551616 (count_at from q) 100000
 abbrev AreLaterFrom : List ℕ → ℕ → List ℕ → Type 0
 AreLaterFrom from q counts = AreAtMost 100000 counts × ((j : ℕ) → j < length counts → count_at from (q + j) ≤ count_at counts j)
 
-here : (q : ℕ) → q ≡ q + 0
-here q = omega arith
-
-there : (q j : ℕ) → (q + 1) + j ≡ q + suc j
-there q j = omega arith
-
 later_known : (from : List ℕ) (q : ℕ) (xs : List ℕ) → AllHave ℕ ℕ (HasLater from) next_replica q xs → AreLaterFrom from q xs
 later_known from q [] h = (tt, λ j low. absurd (omega (arith, low)))
 later_known from q (x ∷ xs) h = after (within_range (count_at from q) 100000 x h.0.1) (later_known from (q + 1) xs h.1) where
   after : (count_at from q ≤ x) × (x ≤ 100000) → AreLaterFrom from (q + 1) xs → AreLaterFrom from q (x ∷ xs)
   after range rest = ((range.1, rest.0), each) where
     each : (j : ℕ) → j < suc (length xs) → count_at from (q + j) ≤ count_at (x ∷ xs) j
-    each zero low = subst (λ (n : ℕ). count_at from n ≤ x) (here q) range.0
-    each (suc j) low = subst (λ (n : ℕ). count_at from n ≤ count_at xs j) (there q j) (rest.1 j (omega (arith, low)))
+    each zero low = subst (λ (n : ℕ). count_at from n ≤ x) ((sym (add-zero q))) range.0
+    each (suc j) low = subst (λ (n : ℕ). count_at from n ≤ count_at xs j) (shifted q j) (rest.1 j (omega (arith, low)))
 
 later_ranged : (from : List ℕ) (q : ℕ) (xs : List ℕ) → AreLaterFrom from q xs → AllHave ℕ ℕ (HasLater from) next_replica q xs
 later_ranged from q [] h = tt
 later_ranged from q (x ∷ xs) h =
-    let low : count_at from q ≤ x = subst (λ (n : ℕ). count_at from n ≤ x) (sym (here q)) (h.1 0 (omega arith)) in (
+    let low : count_at from q ≤ x = subst (λ (n : ℕ). count_at from n ≤ x) (sym ((sym (add-zero q)))) (h.1 0 (omega arith)) in (
       (omega (arith, h.0.0), in_range (count_at from q) 100000 x low h.0.0),
-      later_ranged from (q + 1) xs (h.0.1, λ j small. subst (λ (n : ℕ). count_at from n ≤ count_at xs j) (sym (there q j)) (h.1 (suc j) (omega (arith, small)))),
+      later_ranged from (q + 1) xs (h.0.1, λ j small. subst (λ (n : ℕ). count_at from n ≤ count_at xs j) (sym (shifted q j)) (h.1 (suc j) (omega (arith, small)))),
     )
 
 abbrev AreLater : List ℕ → List ℕ → Type 0
@@ -178,13 +172,9 @@ known_read d has =
     let one : delta_at (spelled_parts d) ≡ Ok (d, []) = ap delta_at (sym (append-nil (spelled_parts d))) ∙ delta_codec.again d [] has in
     ap (λ (b : List ℕ). delta_at b >>= nothing_behind_it) (delta_spelled d) ∙ ap (λ (r : Reading Delta). r >>= nothing_behind_it) one
 
-kept : (bytes : List ℕ) (r : Result Delta (ℕ × WireWhy)) (d : Delta) → decoded_from bytes r ≡ Ok d → r ≡ Ok d
-kept bytes (Ok n) d e = e
-kept bytes (Err x) d e = absurd cc
-
 pub decoded_known : (bytes : List ℕ) (d : Delta) → IsBytes bytes → decoded_delta bytes ≡ Ok d → IsDelta d × (bytes ≡ spelled_delta d)
 unfolding decoded_delta
-decoded_known bytes d fits e = read_known bytes d fits (kept bytes (read_delta bytes) d e)
+decoded_known bytes d fits e = read_known bytes d fits (decoded_from-ok bytes (read_delta bytes) d e)
 
 pub known_decoded : (d : Delta) → IsDelta d → decoded_delta (spelled_delta d) ≡ Ok d
 unfolding decoded_delta

@@ -4,6 +4,7 @@ use Rattle.std.specs.List.{AllByRecursion}
 use Rattle.std.specs.Ordering.{int_eq}
 use Rattle.model_values.specs.Value.{Val}
 use Rattle.model_values.specs.Row.{Row}
+use Rattle.model_values.proofs.ListLaws.{length-filter_least}
 use Rattle.model_sets.specs.Rows.{mark, level}
 use Rattle.model_sets.specs.Values.{held}
 use Rattle.model_sets.proofs.EquationLaws.{ascending-changed}
@@ -44,13 +45,6 @@ each-kept P test (x ∷ xs) h = choose (test x) (each-kept P test xs h.1) where
   choose : (b : Bool) → AllByRecursion P (filter test xs) → AllByRecursion P (cond b (x ∷ filter test xs) (filter test xs))
   choose true rest = (h.0, rest)
   choose false rest = rest
-
-pub length-kept : {A : Type 0} (test : A → Bool) (xs : List A) → length (filter test xs) ≤ length xs
-length-kept test [] = omega arith
-length-kept test (x ∷ xs) = choose (test x) (length-kept test xs) where
-  choose : (b : Bool) → length (filter test xs) ≤ length xs → length (cond b (x ∷ filter test xs) (filter test xs)) ≤ suc (length xs)
-  choose true rest = omega (arith, rest)
-  choose false rest = omega (arith, rest)
 
 -- ---- counts and registers
 
@@ -97,7 +91,7 @@ pub changed-lawful : (nodes : ℕ) (k : Kind) (s t : Content) → IsSource nodes
 changed-lawful nodes OrSet s t h = (
   record {
     ascending = ascending-changed s.rows t.rows h.0.ascending;
-    few = omega (arith, h.0.few, length-kept (λ (r : Row). nat_lt (mark s.rows r.0.0 r.0.1) (level r.1)) t.rows);
+    few = omega (arith, h.0.few, length-filter_least (λ (r : Row). nat_lt (mark s.rows r.0.0 r.0.1) (level r.1)) t.rows);
     each = each-kept (IsRow nodes) (λ r. nat_lt (mark s.rows r.0.0 r.0.1) (level r.1)) t.rows h.0.each;
   },
   λ i. record {
@@ -110,7 +104,7 @@ changed-lawful nodes OrSet s t h = (
 changed-lawful nodes GSet s t h = (
   record {
     ascending = ascending-filter (λ v. held s.values v == 0) t.values h.0.ascending;
-    few = omega (arith, h.0.few, length-kept (λ (v : Val). held s.values v == 0) t.values);
+    few = omega (arith, h.0.few, length-filter_least (λ (v : Val). held s.values v == 0) t.values);
     each = each-kept IsSourceValue (λ v. held s.values v == 0) t.values h.0.each;
   },
   λ i. record {

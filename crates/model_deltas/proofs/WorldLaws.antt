@@ -1,5 +1,5 @@
 -- Deltas between messages that carry what is known by their counts.
-use Rattle.std.proofs.Common.{◌≡◌, ℕ, zero, suc, ◌+◌, ◌≤◌, ◌<◌, max, ◌⊎◌, inl, inr, Bool, true, false, if◌then◌else◌, IsTrue, List, [], ◌∷◌, length, Option, Some, None, Result, refl, sym, ap, subst, ◌∙◌, arith}
+use Rattle.std.proofs.Common.{◌≡◌, ℕ, zero, suc, ◌+◌, ◌≤◌, ◌<◌, max, ◌⊎◌, inl, inr, Bool, true, false, if◌then◌else◌, IsTrue, List, [], ◌∷◌, length, Option, Some, None, Result, refl, sym, ap, subst, ◌∙◌, arith, add-zero}
 use Rattle.std.specs.List.{AllByRecursion}
 use Rattle.model_states.specs.Counts.{zeros, count_at, larger, AreCountsAtMost}
 use Rattle.model_states.specs.Content.{Content, least, join_contents, Key, at_row, at_value, at_count, at_top, content_mark, IsContentAtMost, IsOrdered}
@@ -27,6 +27,7 @@ use Rattle.model_deltas.specs.Before.{AreSourcesBefore, IsBefore, AreAlike}
 use Rattle.model_deltas.specs.World.{IsMessageIn}
 use Rattle.model_deltas.proofs.ChangeLaws.{changed-onto, changed-from_nothing}
 use Rattle.model_deltas.proofs.AppliedLaws.{no-gap}
+use Rattle.model_world.proofs.StopLaws.{shifted}
 
 -- ---- sources of three messages at one place: what it was, what it is at the third, what it became
 
@@ -39,25 +40,19 @@ pub record IsStep (s m t : Content) : Type 0 where
 abbrev pub AreSteps : List Sent → ℕ → List Sent → List Sent → Type 0
 AreSteps before i ss ts = (j : ℕ) → j < length ts → IsStep (sent_at before (i + j)) (sent_at ss j) (sent_at ts j)
 
-here : (i : ℕ) → i + 0 ≡ i
-here i = omega arith
-
-there : (i j : ℕ) → i + suc j ≡ (i + 1) + j
-there i j = omega arith
-
 pub joined-changed : (before : List Sent) (i : ℕ) (ss ts : List Sent) → AreSteps before i ss ts → joined_sources ss (changed_sources before i ts) ≡ joined_sources ss ts
 joined-changed before i ss [] steps = refl
 joined-changed before i [] (t ∷ ts) steps =
-    let first : IsStep (sent_at before i) least t.content = subst (λ (n : ℕ). IsStep (sent_at before n) least t.content) (here i) (steps 0 (omega arith)) in
+    let first : IsStep (sent_at before i) least t.content = subst (λ (n : ℕ). IsStep (sent_at before n) least t.content) (add-zero i) (steps 0 (omega arith)) in
     let same : changed_content (sent_at before i) t.content ≡ t.content = changed-from_nothing (sent_at before i) t.content first.ordered first.long first.later first.known in
-    let rest : changed_sources before (i + 1) ts ≡ ts = joined-changed before (i + 1) [] ts (λ j low. subst (λ (n : ℕ). IsStep (sent_at before n) least (sent_at ts j)) (there i j) (steps (suc j) (omega (arith, low)))) in
+    let rest : changed_sources before (i + 1) ts ≡ ts = joined-changed before (i + 1) [] ts (λ j low. subst (λ (n : ℕ). IsStep (sent_at before n) least (sent_at ts j)) ((sym (shifted i j))) (steps (suc j) (omega (arith, low)))) in
     λ k. record { decl = t.decl; content = same k } ∷ rest k
 joined-changed before i (s ∷ ss) (t ∷ ts) steps =
-    let first : IsStep (sent_at before i) s.content t.content = subst (λ (n : ℕ). IsStep (sent_at before n) s.content t.content) (here i) (steps 0 (omega arith)) in
+    let first : IsStep (sent_at before i) s.content t.content = subst (λ (n : ℕ). IsStep (sent_at before n) s.content t.content) (add-zero i) (steps 0 (omega arith)) in
     let same : join_contents s.content (changed_content (sent_at before i) t.content) ≡ join_contents s.content t.content =
     changed-onto s.content (sent_at before i) t.content first.ordered first.long first.later first.known in
     let rest : joined_sources ss (changed_sources before (i + 1) ts) ≡ joined_sources ss ts =
-    joined-changed before (i + 1) ss ts (λ j low. subst (λ (n : ℕ). IsStep (sent_at before n) (sent_at ss j) (sent_at ts j)) (there i j) (steps (suc j) (omega (arith, low)))) in
+    joined-changed before (i + 1) ss ts (λ j low. subst (λ (n : ℕ). IsStep (sent_at before n) (sent_at ss j) (sent_at ts j)) ((sym (shifted i j))) (steps (suc j) (omega (arith, low)))) in
     λ k. record { decl = s.decl; content = same k } ∷ rest k
 
 -- ---- from an earlier message to a later one
@@ -131,7 +126,7 @@ module _ (g : List Decl) (nodes : ℕ) (all : List (List known.Delta)) where
     knows h =
         let x = h.var in
         let l = least_of nodes (kind_at g x) in
-        let here : join_contents l (sent_at b.sources j) ≡ known.known g nodes all b.counts x = ap (λ (i : ℕ). join_contents l (sent_at b.sources i)) (sym h.place) ∙ cb.knows x h.declared h.source in
+        let joined : join_contents l (sent_at b.sources j) ≡ known.known g nodes all b.counts x = ap (λ (i : ℕ). join_contents l (sent_at b.sources i)) (sym h.place) ∙ cb.knows x h.declared h.source in
         let other : join_contents l (sent_at m.sources j) ≡ known.known g nodes all m.counts x = ap (λ (i : ℕ). join_contents l (sent_at m.sources i)) (sym h.place) ∙ cm.knows x h.declared h.source in
         let both : known.known g nodes all m.counts x ≡ join_contents (known.known g nodes all b.counts x) (known.known g nodes all m.counts x) =
         ap (λ (cs : List ℕ). known.known g nodes all cs x) (sym (larger-at_most b.counts m.counts long counts)) ∙ known-larger g nodes all b.counts m.counts x in
@@ -141,7 +136,7 @@ module _ (g : List Decl) (nodes : ℕ) (all : List (List known.Delta)) where
           content_mark-join l (sent_at m.sources j) k,
           content_mark-join (known.known g nodes all b.counts x) (known.known g nodes all m.counts x) k,
           nothing-held nodes (kind_at g x) k,
-          ap (λ (c : Content). content_mark c k) here,
+          ap (λ (c : Content). content_mark c k) joined,
           ap (λ (c : Content). content_mark c k) other,
           ap (λ (c : Content). content_mark c k) both,
         )

@@ -10,6 +10,7 @@ use Rattle.model_states.specs.Update.{Op, Add, Remove}
 use Rattle.model_graph.specs.Graph.{Decl, kind_at}
 use Rattle.model_graph.specs.Evaluation.{content_at, rows_at, least_of}
 use Rattle.model_graph.proofs.PlaceLaws.{below-or-not, at-past, at-set, at-replicate, set-length, pairs-push, length-push, length-replicate}
+use Rattle.model_graph.proofs.LeastLaws.{least_of-rows}
 use Rattle.model_messages.specs.Message.{Message}
 use Rattle.model_world.specs.Command as command
 use Rattle.model_world.specs.Command.{Command}
@@ -22,7 +23,7 @@ use Rattle.model_known.proofs.EffectLaws.{followed}
 use Rattle.model_known.proofs.VariableLaws.{known-ordered}
 use Rattle.model_known.proofs.UpdateLaws.{known-kept, own-holds}
 use Rattle.model_known.proofs.KnownLaws.{known-larger, known-nothing}
-use Rattle.model_known.proofs.SoundLaws.{IsSound, sound-begin, sound-act}
+use Rattle.model_known.proofs.SoundLaws.{IsSound, sound-begin, sound-act, first-empty}
 use Rattle.model_known.proofs.FollowLaws.{afters, bound, step-effect}
 use Rattle.model_known.proofs.RoundLaws.{AreCalm, calm-sync}
 use Rattle.model_known.proofs.PlayLaws.{IsAt, stage_of, step-sound, place-sound}
@@ -30,7 +31,7 @@ use Rattle.model_dots.specs.Dots.{Dots, no_dots, join_dots, raised, dots_of}
 use Rattle.model_dots.proofs.StandLaws.{stands-add, stands-remove, stands-join, live-visible}
 use Rattle.model_dot_worlds.specs.Counted.{IsFree}
 use Rattle.model_dot_worlds.specs.DotWorld.{one_set, DotWorld, dots_at, dot_start, IsDotCommand, AreDotCommands, dot_acts, dots_updated, dot_act, dot_each, dot_play}
-use Rattle.model_dot_worlds.proofs.CountedLaws.{least-rows, Counted, counted-take, counted-post, counted-begin, counted-step, first-empty, has-counted}
+use Rattle.model_dot_worlds.proofs.CountedLaws.{Counted, counted-take, counted-post, counted-begin, counted-step, has-counted}
 
 -- what stands for all that is known of the set by these counts
 abbrev pub dots_known : List Decl → ℕ → List (List Delta) → List ℕ → Dots
@@ -45,7 +46,7 @@ pub record Agrees (nodes : ℕ) (f : Followed) (w : DotWorld) : Type 0 where
   pub messages : (i : ℕ) → dots_at w.sent i ≡ dots_known f.run.graph nodes f.deltas (sent_number f.run.sent i).counts
 
 known-none : (g : List Decl) (nodes : ℕ) (all : List (List Delta)) → no_dots 0 ≡ dots_known g nodes all []
-known-none g nodes all = ap (λ (rows : List Row). dots_of rows []) (sym (ap (λ (s : Content). s.rows) (known-nothing g nodes all 0) ∙ least-rows nodes (kind_at g 0)))
+known-none g nodes all = ap (λ (rows : List Row). dots_of rows []) (sym (ap (λ (s : Content). s.rows) (known-nothing g nodes all 0) ∙ least_of-rows nodes (kind_at g 0)))
 
 module _ (nodes : ℕ) (f : Followed) (w : DotWorld) (s : IsSound nodes f) (c : Counted nodes f) (a : Agrees nodes f w) where
   declared : 0 < length f.run.graph

@@ -1,6 +1,7 @@
 -- In a run in which nothing is bound each row that is known has the token of a counted update, and a counted row is known.
-use Rattle.std.proofs.Common.{◌≡◌, ℕ, zero, suc, ◌+◌, ◌≤◌, ◌<◌, ◌⊎◌, inl, inr, Bool, true, false, ◌==◌, nat_lt, List, [], ◌∷◌, ◌++◌, length, slice_index_or, slice_set, replicate, Some, None, Ok, refl, sym, ap, subst, ◌∙◌, arith}
+use Rattle.std.proofs.Common.{◌≡◌, ℕ, zero, suc, ◌+◌, ◌≤◌, ◌<◌, ◌⊎◌, inl, inr, Bool, true, false, ◌==◌, nat_lt, List, [], ◌∷◌, ◌++◌, length, slice_index_or, slice_set, replicate, Some, Ok, refl, sym, ap, subst, ◌∙◌, arith}
 use Rattle.std.proofs.lemmas.Bool.Decides.{nat_tests}
+use Rattle.std.proofs.lemmas.Option.{none-some}
 use Rattle.model_values.specs.Value.{Val}
 use Rattle.model_values.specs.Token.{Tok, single, both}
 use Rattle.model_values.specs.Row.{Row}
@@ -12,14 +13,15 @@ use Rattle.model_states.specs.Content as content
 use Rattle.model_states.specs.Update.{Op, Add, Remove, Insert, Inc, Max, Join}
 use Rattle.model_states.proofs.CountLaws.{count_at-larger}
 use Rattle.model_states.proofs.DeltaLaws.{add-row, remove-row}
-use Rattle.model_graph.specs.Graph.{Kind, OrSet, GSet, Counter, MaxReg, Union, Product, Intersection, Map, Filter, Fold, Decl, kind_at}
+use Rattle.model_graph.specs.Graph.{Kind, Decl, kind_at}
 use Rattle.model_graph.specs.Evaluation.{content_at, rows_at, least_of}
 use Rattle.model_graph.proofs.PlaceLaws.{below-or-not, at-append, at-last, at-past, at-push, at-set, at-map-low, at-replicate, set-length, length-push, equal-numbers}
+use Rattle.model_graph.proofs.LeastLaws.{least_of-rows}
 use Rattle.model_world.specs.Command as command
 use Rattle.model_world.specs.Command.{Command}
 use Rattle.model_world.specs.Lawful.{Stage, opening_stage, stage_after, MayBeDone, AreLawful}
-use Rattle.model_world.specs.World.{Peer, Act, Update, Keep, Post, Take, Point, Show, Open, Reach, Extend, no_peer, fresh_peer, peer_at, updated, delivered, extended, message_at, no_message, sent_number, sync_acts, acts}
-use Rattle.model_known.specs.Delta.{Delta, deltas_at, first_deltas, brought_to, join_all, known}
+use Rattle.model_world.specs.World.{Peer, Act, Update, Post, Take, Extend, no_peer, fresh_peer, peer_at, updated, delivered, extended, message_at, no_message, sent_number, sync_acts, acts}
+use Rattle.model_known.specs.Delta.{Delta, deltas_at, brought_to, join_all, known}
 use Rattle.model_known.specs.Owner.{no_delta, delta_at}
 use Rattle.model_known.specs.Follow.{Followed, delta_of, follow_step, follow, begin}
 use Rattle.model_known.specs.Holds.{AreMade, IsPlaceOf}
@@ -29,30 +31,19 @@ use Rattle.model_known.proofs.UpdateLaws.{known-kept, own-holds}
 use Rattle.model_known.proofs.HoldLaws.{each-var}
 use Rattle.model_known.proofs.TokenLaws.{known-owned}
 use Rattle.model_known.proofs.KnownLaws.{known-above, known-larger, known-nothing}
-use Rattle.model_known.proofs.SoundLaws.{IsSound, Fits, sound-begin, sound-act}
+use Rattle.model_known.proofs.SoundLaws.{IsSound, sound-begin, sound-act, first-empty}
 use Rattle.model_known.proofs.FollowLaws.{afters, bound, step-effect}
 use Rattle.model_known.proofs.RoundLaws.{AreCalm, calm-sync}
 use Rattle.model_known.proofs.PlayLaws.{IsAt, stage_of, step-sound, place-sound}
 use Rattle.model_dots.specs.Dots.{is_counted, IsGiven, raised, AreGiven, HasWhatIsCounted}
 use Rattle.model_dots.proofs.StandLaws.{raised-own, given-raised}
 use Rattle.model_dot_worlds.specs.Counted.{IsFree, AreFree, AreCovered, AreNumbered}
+use Rattle.model_dots.proofs.DotLaws.{given-more}
 
 -- ---- rows
 
-pub least-rows : (nodes : ℕ) (k : Kind) → (least_of nodes k).rows ≡ []
-least-rows nodes OrSet = refl
-least-rows nodes GSet = refl
-least-rows nodes Counter = refl
-least-rows nodes MaxReg = refl
-least-rows nodes (Union x y) = refl
-least-rows nodes (Product x y) = refl
-least-rows nodes (Intersection x y) = refl
-least-rows nodes (Map x place ops) = refl
-least-rows nodes (Filter x place ops) = refl
-least-rows nodes (Fold x op place lift) = refl
-
 given-least : (s : Content) (nodes : ℕ) (k : Kind) (counts : List ℕ) → s ≡ least_of nodes k → AreGiven s.rows counts
-given-least s nodes k counts e v t h = absurd (omega (arith, (subst (λ (rows : List Row). 0 < mark rows v t) (ap (λ (c : Content). c.rows) e ∙ least-rows nodes k) h)))
+given-least s nodes k counts e v t h = absurd (omega (arith, (subst (λ (rows : List Row). 0 < mark rows v t) (ap (λ (c : Content). c.rows) e ∙ least_of-rows nodes k) h)))
 
 has-either : (s t : List Row) (v : Val) (w : Tok) → HasRow (join s t) v w → HasRow s v w ⊎ HasRow t v w
 has-either s t v w h = choose (nat_lt 0 (mark s v w)) refl where
@@ -62,10 +53,6 @@ has-either s t v w h = choose (nat_lt 0 (mark s v w)) refl where
       let none : mark s v w ≡ 0 = grind (arith, nat_tests, e) in
       inr (omega (arith, h, mark-join s t v w, none))
 
-given-more : (s t : List ℕ) (w : Tok) → ((q : ℕ) → count_at s q ≤ count_at t q) → IsGiven s w → IsGiven t w
-given-more s t (single q k) more h = (h.0, omega (arith, h.1, more q))
-given-more s t (both w u) more h = absurd h
-
 given-join : (s t : List Row) (c d : List ℕ) → AreGiven s c → AreGiven t d → AreGiven (join s t) (larger c d)
 given-join s t c d h g v w some = choose (has-either s t v w some) where
   choose : HasRow s v w ⊎ HasRow t v w → IsGiven (larger c d) w
@@ -73,9 +60,6 @@ given-join s t c d h g v w some = choose (has-either s t v w some) where
   choose (inr b) = given-more d (larger c d) w (λ q. omega (arith, count_at-larger c d q)) (g v w b)
 
 -- ---- numbered deltas
-
-none-added : (v : Val) → None ≡ Some v → ⊥
-none-added v e = cc
 
 module _ (all : List (List Delta)) (p : ℕ) (d : Delta) where
   abbrev pushed : List (List Delta)
@@ -106,11 +90,11 @@ added-row : (r : Peer) (p x : ℕ) (op : Op) (n : ℕ) → count_at r.counts p �
 added-row r p x (Add u) n own v e = (add-row u (content_at r.contents x) p (count_at r.counts p + 1) v (single p (suc n))).1 (sym (same e), λ i. single p (let k : suc n ≡ count_at r.counts p + 1 = omega (arith, own) in k i)) where
   same : Some u ≡ Some v → u ≡ v
   same f = cc
-added-row r p x (Remove u) n own v e = absurd (none-added v e)
-added-row r p x (Insert u) n own v e = absurd (none-added v e)
-added-row r p x (Inc by) n own v e = absurd (none-added v e)
-added-row r p x (Max m) n own v e = absurd (none-added v e)
-added-row r p x (Join s) n own v e = absurd (none-added v e)
+added-row r p x (Remove u) n own v e = absurd (none-some v e)
+added-row r p x (Insert u) n own v e = absurd (none-some v e)
+added-row r p x (Inc by) n own v e = absurd (none-some v e)
+added-row r p x (Max m) n own v e = absurd (none-some v e)
+added-row r p x (Join s) n own v e = absurd (none-some v e)
 
 pub numbered-push : (all : List (List Delta)) (r : Peer) (p x : ℕ) (op : Op) → p < length all → count_at r.counts p ≡ length (deltas_at all p) → AreNumbered all → AreNumbered (slice_set all p (deltas_at all p ++ delta_of r p x op ∷ []))
 numbered-push all r p x op few own numbered q j v e = choose (below-or-not j (length (deltas_at all q))) where
@@ -121,13 +105,13 @@ numbered-push all r p x op few own numbered q j v e = choose (below-or-not j (le
   Has c = c.added ≡ Some v → HasRow c.content.rows v (single q (suc j))
 
   nothing : Has no_delta
-  nothing f = absurd (none-added v f)
+  nothing f = absurd (none-some v f)
 
   choose : (j < length (deltas_at all q)) ⊎ (length (deltas_at all q) ≤ j) → HasRow (delta_at (pushed all p (delta_of r p x op)) q j).content.rows v (single q (suc j))
   choose (inl low) = subst (λ (c : Delta). c.added ≡ Some v → HasRow c.content.rows v (single q (suc j))) (sym (delta-kept all p (delta_of r p x op) q j low)) (numbered q j v) e
   choose (inr high) = is-new (q == p) (j == length (deltas_at all p)) refl refl where
     past : (q ≡ p → j ≡ length (deltas_at all p) → ⊥) → HasRow (delta_at (pushed all p (delta_of r p x op)) q j).content.rows v (single q (suc j))
-    past other = subst (λ (c : Delta). c.added ≡ Some v → HasRow c.content.rows v (single q (suc j))) (sym (delta-past all p (delta_of r p x op) q j few high other)) (λ f. absurd (none-added v f)) e
+    past other = subst (λ (c : Delta). c.added ≡ Some v → HasRow c.content.rows v (single q (suc j))) (sym (delta-past all p (delta_of r p x op) q j few high other)) (λ f. absurd (none-some v f)) e
 
     is-new : (b c : Bool) → (q == p) ≡ b → (j == length (deltas_at all p)) ≡ c → HasRow (delta_at (pushed all p (delta_of r p x op)) q j).content.rows v (single q (suc j))
     is-new true true f g =
@@ -245,17 +229,6 @@ module _ (nodes : ℕ) (f : Followed) (s : IsSound nodes f) (c : Counted nodes f
     messages = λ i. covered-longer d (sent_number f.run.sent i).counts (c.messages i);
   }
 
-pub counted-act : (nodes : ℕ) (f : Followed) (a : Act) → IsSound nodes f → Fits nodes f a → IsFreeAct a → Counted nodes f → Counted nodes (followed f a)
-counted-act nodes f (Update p x op) s h free c = counted-update nodes f s c p x op h.0 h.1 free
-counted-act nodes f (Take p i) s h free c = counted-take nodes f s c p i
-counted-act nodes f (Post p) s h free c = counted-post nodes f s c p
-counted-act nodes f (Extend d) s h free c = counted-extend nodes f s c d
-counted-act nodes f (Keep p x) s h free c = record { numbered = c.numbered; peers = c.peers; messages = c.messages }
-counted-act nodes f Point s h free c = record { numbered = c.numbered; peers = c.peers; messages = c.messages }
-counted-act nodes f (Show p x) s h free c = record { numbered = c.numbered; peers = c.peers; messages = c.messages }
-counted-act nodes f (Open p x until) s h free c = record { numbered = c.numbered; peers = c.peers; messages = c.messages }
-counted-act nodes f (Reach p x until) s h free c = record { numbered = c.numbered; peers = c.peers; messages = c.messages }
-
 -- ---- the beginning
 
 no-added : (n q j : ℕ) → delta_at (replicate n []) q j ≡ no_delta
@@ -263,15 +236,9 @@ no-added zero q j = refl
 no-added (suc n) zero j = refl
 no-added (suc n) (suc q) j = no-added n q j
 
-pub first-empty : (n : ℕ) (cs : List ℕ) → first_deltas (replicate n []) cs ≡ []
-first-empty zero cs = refl
-first-empty (suc n) [] = refl
-first-empty (suc n) (zero ∷ cs) = first-empty n cs
-first-empty (suc n) (suc c ∷ cs) = first-empty n cs
-
 pub counted-begin : (g : List Decl) (nodes : ℕ) → Counted nodes (begin g nodes)
 counted-begin g nodes = record {
-  numbered = λ q j v e. absurd (none-added v (sym (ap (λ (d : Delta). d.added) (no-added nodes q j)) ∙ e));
+  numbered = λ q j v e. absurd (none-some v (sym (ap (λ (d : Delta). d.added) (no-added nodes q j)) ∙ e));
   peers = λ p low. subst (λ (z : Peer). AreCovered g nodes (replicate nodes []) z.counts) (sym (at-replicate nodes p (fresh_peer g nodes) no_peer low)) fresh;
   messages = λ i. covered-none g nodes (replicate nodes []);
 } where

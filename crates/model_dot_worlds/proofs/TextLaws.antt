@@ -1,6 +1,7 @@
 -- Replicas without tombstones print what those of the run print.
 use Rattle.std.proofs.Common.{◌≡◌, ℕ, suc, ◌+◌, ◌<◌, List, [], ◌∷◌, ◌++◌, length, codes, Ok, refl, sym, ap, subst, ◌∙◌, arith}
 use Rattle.std.specs.Fmt.{decimal}
+use Rattle.std.proofs.lemmas.List.{append-nil, append_assoc}
 use Rattle.model_values.specs.Text.{shown_values}
 use Rattle.model_values.specs.Value.{Val}
 use Rattle.model_sets.specs.Values.{visible}
@@ -13,14 +14,13 @@ use Rattle.model_world.specs.Command.{Command, Script}
 use Rattle.model_world.specs.Lawful.{Stage, opening_stage, stage_after, MayBeDone, AreLawful, IsLawful}
 use Rattle.model_world.specs.Line.{line, known_line, print_line}
 use Rattle.model_world.specs.Report.{known_lines, read_lines, report_of}
-use Rattle.model_world.specs.World.{Peer, Run, Opened, Act, Post, Take, Point, peer_at, shown_content_at, sync_acts, acts, act, ended}
+use Rattle.model_world.specs.World.{Peer, Run, Opened, Point, peer_at, shown_content_at, sync_acts, acts, act, ended}
 use Rattle.model_world.proofs.StopLaws.{point-same}
 use Rattle.model_known.specs.Delta.{known}
 use Rattle.model_known.specs.Follow.{Followed, follow_step, follow, begin}
-use Rattle.model_known.proofs.EffectLaws.{followed}
 use Rattle.model_known.proofs.SoundLaws.{IsSound, sound-begin}
 use Rattle.model_known.proofs.FollowLaws.{afters, bound, step-effect, follow-play}
-use Rattle.model_known.proofs.RoundLaws.{AreCalm, calm-sync}
+use Rattle.model_known.proofs.RoundLaws.{calm-sync}
 use Rattle.model_known.proofs.PlayLaws.{IsAt, stage_of, step-sound, follow-sound}
 use Rattle.model_dots.specs.Dots.{Dots}
 use Rattle.model_dots.proofs.StandLaws.{live-visible}
@@ -28,14 +28,7 @@ use Rattle.model_dot_worlds.specs.DotWorld.{one_set, DotWorld, dots_at, dot_star
 use Rattle.model_dot_worlds.specs.DotReport.{dot_print, dot_text, dot_known, dot_report}
 use Rattle.model_dot_worlds.proofs.CountedLaws.{Counted, counted-begin, counted-step}
 use Rattle.model_dot_worlds.proofs.AgreeLaws.{Agrees, free-command, begin-agrees, step-agrees, follow-agrees}
-
-append-nothing : (text : List ℕ) → text ≡ text ++ []
-append-nothing [] = refl
-append-nothing (c ∷ text) = ap (λ (rest : List ℕ). c ∷ rest) (append-nothing text)
-
-append-again : (a b c : List ℕ) → (a ++ b) ++ c ≡ a ++ (b ++ c)
-append-again [] b c = refl
-append-again (n ∷ a) b c = ap (λ (rest : List ℕ). n ∷ rest) (append-again a b c)
+use Rattle.model_known.proofs.DirectLaws.{calm-text}
 
 -- ---- one line
 
@@ -54,20 +47,14 @@ line-agrees nodes f w p x s a member low =
 
 -- ---- the text
 
-calm-text : (f : Followed) (many : List Act) → AreCalm many → (afters f many).run.text ≡ f.run.text
-calm-text f [] h = refl
-calm-text f (Post p ∷ rest) h = calm-text (followed f (Post p)) rest h.1
-calm-text f (Take p i ∷ rest) h = calm-text (followed f (Take p i)) rest h.1
-calm-text f (a ∷ rest) h = absurd h.0
-
 step-text : (nodes : ℕ) (f : Followed) (w : DotWorld) (k : Command) → IsSound nodes f → MayBeDone nodes (stage_of f) k → IsDotCommand k → Agrees nodes f w → (afters f (acts f.run k)).run.text ≡ f.run.text ++ dot_print w k
 step-text nodes f w (command.Print p x) s h dot a = ap (λ (words : List ℕ). f.run.text ++ words) (line-agrees nodes f w p x s a h.0 h.1)
-step-text nodes f w command.Sync s h dot a = calm-text f (sync_acts (length f.run.peers) (length f.run.sent)) (calm-sync (length f.run.peers) (length f.run.sent)) ∙ append-nothing f.run.text
-step-text nodes f w (command.Add p x v) s h dot a = append-nothing f.run.text
-step-text nodes f w (command.Remove p x v) s h dot a = append-nothing f.run.text
-step-text nodes f w (command.Send p) s h dot a = append-nothing f.run.text
-step-text nodes f w (command.Deliver p i) s h dot a = append-nothing f.run.text
-step-text nodes f w command.Settle s h dot a = append-nothing f.run.text
+step-text nodes f w command.Sync s h dot a = calm-text f (sync_acts (length f.run.peers) (length f.run.sent)) (calm-sync (length f.run.peers) (length f.run.sent)) ∙ (sym (append-nil f.run.text))
+step-text nodes f w (command.Add p x v) s h dot a = (sym (append-nil f.run.text))
+step-text nodes f w (command.Remove p x v) s h dot a = (sym (append-nil f.run.text))
+step-text nodes f w (command.Send p) s h dot a = (sym (append-nil f.run.text))
+step-text nodes f w (command.Deliver p i) s h dot a = (sym (append-nil f.run.text))
+step-text nodes f w command.Settle s h dot a = (sym (append-nil f.run.text))
 step-text nodes f w (command.Insert p x v) s h dot a = absurd dot
 step-text nodes f w (command.Inc p x k) s h dot a = absurd dot
 step-text nodes f w (command.Max p x n) s h dot a = absurd dot
@@ -80,7 +67,7 @@ step-text nodes f w (command.Declare d) s h dot a = absurd dot
 follow-text : (nodes c : ℕ) (stage : Stage) (f last : Followed) (w : DotWorld) (commands : List Command) → IsAt nodes stage f → AreLawful nodes stage commands → AreDotCommands commands → follow c f commands ≡ Ok last
     → Counted nodes f → Agrees nodes f w → last.run.text ≡ f.run.text ++ dot_text w commands
 unfolding follow dot_text
-follow-text nodes c stage f last w [] at lawful dots e counted a = ap (λ (z : Followed). z.run.text) (let same : last ≡ f = cc in same) ∙ append-nothing f.run.text
+follow-text nodes c stage f last w [] at lawful dots e counted a = ap (λ (z : Followed). z.run.text) (let same : last ≡ f = cc in same) ∙ (sym (append-nil f.run.text))
 follow-text nodes c stage f last w (k ∷ rest) at lawful dots e counted a =
     let both = bound (follow_step c f k) (λ next. follow (c + 1) next rest) last e in
     let may : MayBeDone nodes (stage_of f) k = subst (λ (z : Stage). MayBeDone nodes z k) at.stands lawful.0 in
@@ -89,7 +76,7 @@ follow-text nodes c stage f last w (k ∷ rest) at lawful dots e counted a =
     (subst (Counted nodes) (sym is) (counted-step nodes f k at.sound may (free-command k dots.0) counted))
     (subst (λ (z : Followed). Agrees nodes z (dot_each w (dot_acts w k))) (sym is) (step-agrees nodes f w k at.sound counted may dots.0 a))
     ∙ ap (λ (words : List ℕ). words ++ dot_text (dot_each w (dot_acts w k)) rest) (ap (λ (z : Followed). z.run.text) is ∙ step-text nodes f w k at.sound may dots.0 a)
-    ∙ append-again f.run.text (dot_print w k) (dot_text (dot_each w (dot_acts w k)) rest)
+    ∙ append_assoc f.run.text (dot_print w k) (dot_text (dot_each w (dot_acts w k)) rest)
 
 -- ---- what each replica knows
 
@@ -118,6 +105,6 @@ report-agrees script last lawful dots e =
     known-agrees 0 f.run.peers (dot_play (dot_start script.nodes) script.commands).nodes (omega (arith, a.many, s.many)) (λ i low. ap (λ (d : Dots). d.counts) (a.peers i (omega (arith, low, s.many)))) in
     ap report_of same
     ∙ (λ k. text k ++ known_text k ++ no-reads f.run f.run.reads a.reads k)
-    ∙ sym (append-nothing (dot_report script.nodes script.commands))
+    ∙ sym ((sym (append-nil (dot_report script.nodes script.commands))))
 
 pub ruleset reports = (report-agrees)

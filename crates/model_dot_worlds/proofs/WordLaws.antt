@@ -1,6 +1,7 @@
 -- The first command of another word.
 use Rattle.std.proofs.Common.{◌≡◌, ℕ, zero, suc, ◌+◌, ◌⊎◌, inl, inr, Bool, true, false, List, [], ◌∷◌, take, Some, None, refl, sym, ap, subst, ◌∙◌, arith}
 use Rattle.std.specs.Prelude.{◌↔◌, Option, if◌then◌else◌, slice_get}
+use Rattle.std.proofs.lemmas.Option.{same_Some}
 use Rattle.model_world.specs.Command as command
 use Rattle.model_world.specs.Command.{Command}
 use Rattle.model_dot_worlds.specs.DotWorld.{IsDotCommand, AreDotCommands}
@@ -62,12 +63,6 @@ known-command (command.Declare d) h = absurd h
 abbrev chosen : Bool → ℕ → List Command → Option ℕ
 chosen b number rest = if b then first_other (number + 1) rest else Some number
 
-some-same : (x y : ℕ) → Some x ≡ Some y → x ≡ y
-some-same x y e = cc
-
-some-command : (k l : Command) → Some k ≡ Some l → k ≡ l
-some-command k l e = cc
-
 -- ---- the first of another word
 
 pub other-told : (number told : ℕ) (commands : List Command) → first_other number commands ≡ Some told → (place : ℕ) × (told ≡ number + place) × IsFirstOther commands place
@@ -79,14 +74,14 @@ other-told number told (k ∷ rest) e = choose (is_dot_command k) refl (other-to
       let there = later (sym (ap (λ (b : Bool). chosen b number rest) known) ∙ e) in
       (suc there.0, omega (arith, there.1), record { other = there.2.other; at = there.2.at; unknown = there.2.unknown; before = (command-known k known, there.2.before) })
   choose false other later =
-      (0, omega (arith, some-same number told (sym (ap (λ (b : Bool). chosen b number rest) other) ∙ e)), record { other = k; at = refl; unknown = command-unknown k other; before = tt })
+      (0, omega (arith, same_Some number told (sym (ap (λ (b : Bool). chosen b number rest) other) ∙ e)), record { other = k; at = refl; unknown = command-unknown k other; before = tt })
 
 other-is : (number place : ℕ) (commands : List Command) → IsFirstOther commands place → first_other number commands ≡ Some (number + place)
 unfolding first_other
 other-is number place [] h = absurd (let at = h.at in cc)
 other-is number zero (k ∷ rest) h = choose (is_dot_command k) refl where
   choose : (b : Bool) → is_dot_command k ≡ b → chosen (is_dot_command k) number rest ≡ Some (number + zero)
-  choose true known = absurd (h.unknown (subst IsDotCommand (some-command k h.other h.at) (command-known k known)))
+  choose true known = absurd (h.unknown (subst IsDotCommand (same_Some k h.other h.at) (command-known k known)))
   choose false other = ap (λ (b : Bool). chosen b number rest) other ∙ ap (λ (n : ℕ). Some n) (let same : number ≡ number + zero = omega arith in same)
 other-is number (suc place) (k ∷ rest) h =
     ap (λ (b : Bool). chosen b number rest) (known-command k h.before.0)

@@ -118,7 +118,7 @@ same_from_dot_mark s t h g wide same = λ i. record { rows = rows i; counts = co
 
 -- ---- joins and least elements are states
 
-given-more : (s t : List ℕ) (w : Tok) → ((q : ℕ) → count_at s q ≤ count_at t q) → IsGiven s w → IsGiven t w
+pub given-more : (s t : List ℕ) (w : Tok) → ((q : ℕ) → count_at s q ≤ count_at t q) → IsGiven s w → IsGiven t w
 given-more s t (single q k) more h = (h.0, omega (arith, h.1, more q))
 given-more s t (both w u) more h = absurd h
 

@@ -1,5 +1,5 @@
 -- The loops compute the join and the order.
-use Rattle.std.proofs.Common.{◌≡◌, ℕ, ◌≤◌, ◌<◌, max, Bool, true, false, cond, not, ◌||◌, nat_lt, ◌==◌, if◌then◌else◌, IsTrue, ◌↔◌, List, [], ◌∷◌, filter, refl, sym, ap, subst, ◌∙◌, arith}
+use Rattle.std.proofs.Common.{◌≡◌, ℕ, ◌≤◌, ◌<◌, max, Bool, true, false, not, ◌||◌, nat_lt, ◌==◌, if◌then◌else◌, IsTrue, ◌↔◌, List, [], ◌∷◌, refl, sym, ap, subst, ◌∙◌, arith}
 use Rattle.std.proofs.lemmas.Bool.Decides.{nat_tests}
 use Rattle.std.specs.List.{list_all}
 use Rattle.std.specs.Ordering.{is_lt, ordering_reverse, eq_by_cmp}
@@ -10,7 +10,7 @@ use Rattle.model_values.specs.Token.{Tok, single, both}
 use Rattle.model_values.specs.Row.{Key, Row, key_cmp, key_total, key_exact}
 use Rattle.model_sets.specs.Rows.{level, row_mark, mark, HasRow, IsAscending}
 use Rattle.model_sets.proofs.RowLaws.{and-left, and-right, and-both, is-Equal, below-chain, mark-below, same_from_mark, ascending-join}
-use Rattle.model_sets.proofs.EquationLaws.{tied_key, ascending-kept}
+use Rattle.model_sets.proofs.EquationLaws.{tied_key, ascending-kept, below-kept}
 use Rattle.model_states.specs.Counts.{count_at, AreCountsAtMost, are_counts_at_most}
 use Rattle.model_states.proofs.CountLaws.{count_at-larger, counts-test}
 use Rattle.model_dots.specs.Dots.{Dots, is_counted, IsState, HaveSameNodes, outlives, kept, join_dots, IsAtMost}
@@ -182,17 +182,8 @@ below-uncounted k counts r rest h g = at (is_counted counts r.0.1) where
   at true = g
   at false = and-both (is_lt (key_cmp k r.0)) (below_all key_cmp k rest) h g
 
-below-kept : (k : Key) (test : Row → Bool) (s : List Row) → IsTrue (below_all key_cmp k s) → IsTrue (below_all key_cmp k (filter test s))
-below-kept k test [] h = refl
-below-kept k test (r ∷ s) h =
-    let rest = below-kept k test s (and-right (is_lt (key_cmp k r.0)) (below_all key_cmp k s) h) in
-    elim (test r) as (λ b. IsTrue (below_all key_cmp k (cond b (r ∷ filter test s) (filter test s)))) [
-      | true ↦ and-both (is_lt (key_cmp k r.0)) (below_all key_cmp k (filter test s)) (and-left (is_lt (key_cmp k r.0)) (below_all key_cmp k s) h) rest
-      | false ↦ rest
-    ]
-
 below-weave : (k : Key) (c d : List ℕ) (s t : List Row) → IsTrue (below_all key_cmp k s) → IsTrue (below_all key_cmp k t) → IsTrue (below_all key_cmp k (weave c d s t))
-below-weave k c d [] t h g = below-kept k (λ q. not (is_counted c q.0.1)) t g
+below-weave k c d [] t h g = below-kept (λ q. not (is_counted c q.0.1)) k t g
 below-weave k c d (r ∷ s) [] h g =
     below-uncounted k d r (weave c d s []) (and-left (is_lt (key_cmp k r.0)) (below_all key_cmp k s) h) (below-weave k c d s [] (and-right (is_lt (key_cmp k r.0)) (below_all key_cmp k s) h) g)
 below-weave k c d (r ∷ s) (q ∷ t) h g =

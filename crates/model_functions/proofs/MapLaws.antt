@@ -1,20 +1,12 @@
 -- Mapped values are no larger.
-use Rattle.std.proofs.Common.{◌≡◌, ℕ, ℤ, pos, negsuc, ◌+ℤ◌, ◌*ℤ◌, neg_ℤ, unsigned_abs, ◌≤◌, ◌<◌, ◌^◌, List, [], ◌∷◌, length, map, FitsSigned, refl, arith}
+use Rattle.std.proofs.Common.{ℕ, ℤ, pos, negsuc, ◌+ℤ◌, ◌*ℤ◌, neg_ℤ, unsigned_abs, ◌≤◌, ◌<◌, ◌^◌, List, [], ◌∷◌, FitsSigned, arith}
 use Rattle.std.specs.Int.{saturate_signed}
 use Rattle.std.specs.Char.{to_ascii_lowercase}
+use Rattle.std.proofs.lemmas.List.{length-map}
 use mir.Syntax.{w64}
 use Rattle.model_values.specs.Value.{Val, int, text, pair}
 use Rattle.model_values.specs.Size.{leaves, text_bytes, HasSmallInts, IsSized, IsOfWidth}
 use Rattle.model_functions.specs.Map.{MapOp, Add, Times, Neg, Abs, First, Second, Swap, Length, Lower, mapped, mapped_once}
-
-length-map : {A B : Type 0} (f : A → B) (xs : List A) → length (map f xs) ≡ length xs
-length-map f [] = refl
-length-map f (x ∷ xs) = omega (arith, length-map f xs)
-
-some-leaf : (v : Val) → 1 ≤ leaves v
-some-leaf (int n) = omega arith
-some-leaf (text t) = omega arith
-some-leaf (pair a b) = omega (arith, some-leaf a)
 
 mapped_once-leaves : (op : MapOp) (v : Val) → leaves (mapped_once op v) ≤ leaves v
 mapped_once-leaves (Add k) (int n) = omega arith
@@ -63,7 +55,7 @@ mapped_once-bytes First (text t) = omega arith
 mapped_once-bytes Second (text t) = omega arith
 mapped_once-bytes Swap (text t) = omega arith
 mapped_once-bytes Length (text t) = omega arith
-mapped_once-bytes Lower (text t) = omega (arith, length-map to_ascii_lowercase t)
+mapped_once-bytes Lower (text t) = omega (arith, length-map t to_ascii_lowercase)
 mapped_once-bytes (Add k) (pair a b) = omega arith
 mapped_once-bytes (Times k) (pair a b) = omega arith
 mapped_once-bytes Neg (pair a b) = omega arith

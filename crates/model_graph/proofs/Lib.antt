@@ -1,5 +1,7 @@
 pub mod PlaceLaws
 pub mod EquationLaws
+pub mod ChainLaws
+pub mod LeastLaws
 pub mod EvalLaws
 pub mod ShownLaws
 pub mod WidthLaws

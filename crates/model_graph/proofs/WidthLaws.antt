@@ -15,6 +15,10 @@ use Rattle.model_graph.specs.Lawful.{width_at, width_of, widths_from, widths}
 use Rattle.model_graph.specs.Width.{HasWidth}
 use Rattle.model_graph.proofs.PlaceLaws.{length-append, pairs-push, from-nothing}
 
+pub widths_from-append : (g h : List Decl) (done : List ℕ) → widths_from (g ++ h) done ≡ widths_from h (widths_from g done)
+widths_from-append [] h done = refl
+widths_from-append (d ∷ g) h done = widths_from-append g h (done ++ width_of d.kind done ∷ [])
+
 -- ---- wider
 
 wide-value : (w x : ℕ) (v : Val) → w ≤ x → IsOfWidth w v → IsOfWidth x v

@@ -1,6 +1,6 @@
 -- What clean means, what a derived variable is worth, and how it stands to plain evaluation.
-use Rattle.std.proofs.Common.{◌≡◌, ℕ, zero, suc, ◌≤◌, ◌<◌, max, ◌⊎◌, inl, inr, Bool, true, false, if◌then◌else◌, ◌==◌, List, [], ◌∷◌, ◌++◌, length, take, drop, refl, sym, ap, subst, ◌∙◌, arith}
-use Rattle.std.proofs.lemmas.List.{length-take}
+use Rattle.std.proofs.Common.{◌≡◌, ℕ, zero, suc, ◌≤◌, ◌<◌, max, ◌⊎◌, inl, inr, Bool, true, false, if◌then◌else◌, ◌==◌, List, [], ◌∷◌, ◌++◌, length, take, drop, sym, ap, subst, ◌∙◌, arith}
+use Rattle.std.proofs.lemmas.List.{length-take, take-append-drop}
 use Rattle.model_states.specs.Content.{Content, least, IsContentAtMost}
 use Rattle.model_states.proofs.ContentLaws.{at_most-least, at_most-same, same-content}
 use Rattle.model_graph.specs.Graph.{Decl, is_source, kind_at, IsInput}
@@ -22,10 +22,7 @@ use Rattle.model_journal.proofs.StandLaws.{input-was-flat}
 -- ---- what stood after the first n entries
 
 pub take-and-drop : (h : List Entry) (n : ℕ) → take n h ++ drop n h ≡ h
-take-and-drop [] zero = refl
-take-and-drop [] (suc n) = refl
-take-and-drop (e ∷ h) zero = refl
-take-and-drop (e ∷ h) (suc n) = ap (λ (k : List Entry). e ∷ k) (take-and-drop h n)
+take-and-drop h n = take-append-drop n h
 
 pub snapshot-take : (X : Frame) (h : List Entry) (n : ℕ) → snapshot_at (journal X h) n ≡ (journal X (take n h)).now
 snapshot-take X h n = choose (below-or-not n (length h)) where

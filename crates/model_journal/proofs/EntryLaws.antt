@@ -41,7 +41,7 @@ none-gained n [] = refl
 none-gained n (s ∷ ss) = ap (λ (ts : List Content). s ∷ ts) (none-gained (n + 1) ss)
 
 -- the snapshot after one more entry
-pushed : (X : Frame) (h : List Entry) (e : Entry) (act : Act) → e.act ≡ act → (journal X (h ++ e ∷ [])).now ≡ snapshot_after X (journal X h) act
+pub pushed : (X : Frame) (h : List Entry) (e : Entry) (act : Act) → e.act ≡ act → (journal X (h ++ e ∷ [])).now ≡ snapshot_after X (journal X h) act
 pushed X h e act is = ap (λ (j : Journal). j.now) (journal-push X h e) ∙ ap (λ (a : Act). snapshot_after X (journal X h) a) is
 
 pub update-vals : (X : Frame) (h : List Entry) → IsLegal X h → (e : Entry) (y : ℕ) (op : Op) → e.act ≡ Update y op → y < length (graph X h)

@@ -20,18 +20,6 @@ gain-wider s (Some t) = omega (arith, counts-join s t)
 
 -- ---- before anything happened
 
-pub least_of-ordered : (nodes : ℕ) (k : Kind) → IsOrdered (least_of nodes k)
-least_of-ordered nodes OrSet = record { rows = refl; values = refl }
-least_of-ordered nodes GSet = record { rows = refl; values = refl }
-least_of-ordered nodes Counter = record { rows = refl; values = refl }
-least_of-ordered nodes MaxReg = record { rows = refl; values = refl }
-least_of-ordered nodes (Union x y) = record { rows = refl; values = refl }
-least_of-ordered nodes (Product x y) = record { rows = refl; values = refl }
-least_of-ordered nodes (Intersection x y) = record { rows = refl; values = refl }
-least_of-ordered nodes (Map x place ops) = record { rows = refl; values = refl }
-least_of-ordered nodes (Filter x place ops) = record { rows = refl; values = refl }
-least_of-ordered nodes (Fold x op place lift) = record { rows = refl; values = refl }
-
 -- a set is least
 pub least_of-set : (nodes : ℕ) (k : Kind) → IsTrue (is_set k) → least_of nodes k ≡ least
 least_of-set nodes OrSet e = refl

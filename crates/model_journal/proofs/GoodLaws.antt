@@ -6,10 +6,11 @@ use Rattle.model_graph.specs.Evaluation.{least_of, content_at, equation}
 use Rattle.model_graph.specs.Lawful.{IsGraph, IsDerived}
 use Rattle.model_graph.proofs.PlaceLaws.{at-past, at-map, map-length, below-or-not}
 use Rattle.model_graph.proofs.EquationLaws.{equation-least}
+use Rattle.model_graph.proofs.LeastLaws.{least_of-ordered}
 use Rattle.model_journal.specs.Entry.{Frame}
 use Rattle.model_journal.specs.Journal.{Snapshot, Journal, snapshot_at, start}
 use Rattle.model_journal.specs.Clean.{greatest_bound}
-use Rattle.model_journal.proofs.GainLaws.{least_of-ordered, least_of-set, least_of-derived}
+use Rattle.model_journal.proofs.GainLaws.{least_of-set, least_of-derived}
 use Rattle.model_journal.proofs.GraphLaws.{input-set}
 use Rattle.model_journal.proofs.StepLaws.{IsLater, later-itself}
 

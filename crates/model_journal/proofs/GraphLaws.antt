@@ -1,12 +1,13 @@
 -- Graphs that grow by a declaration, and the inputs of a graph.
 use Rattle.std.proofs.Common.{◌≡◌, ℕ, ◌≤◌, ◌<◌, ◌⊎◌, inl, inr, IsTrue, List, [], ◌∷◌, ◌++◌, length, take, refl, sym, ap, subst, ◌∙◌, arith}
+use Rattle.std.proofs.lemmas.List.{get_or-take}
 use Rattle.model_graph.specs.Graph.{Decl, no_decl, decl_at, kind_at, is_set, IsInput}
 use Rattle.model_graph.specs.Lawful.{MayFollow, IsGraph}
 use Rattle.model_graph.proofs.PlaceLaws.{at-append, at-past, at-last, length-append, below-or-not}
 use Rattle.model_graph.proofs.EvalLaws.{graph-earlier}
 use Rattle.model_journal.specs.Entry.{Act, Update, Deliver, Bind, Extend}
 use Rattle.model_journal.specs.Journal.{graph_after}
-use Rattle.model_journal.proofs.PlaceLaws.{take-front, take-whole, at-take}
+use Rattle.model_journal.proofs.PlaceLaws.{take-front, take-whole}
 
 pub graph-push : (g : List Decl) (d : Decl) → IsGraph g → MayFollow g d → IsGraph (g ++ d ∷ [])
 graph-push g d ok may y low = choose (below-or-not y (length g)) where
@@ -30,7 +31,7 @@ input-declared g ok y x i = choose (below-or-not y (length g)) where
 pub input-set : (g : List Decl) → IsGraph g → (y x : ℕ) → IsInput (kind_at g y) x → IsTrue (is_set (kind_at g x))
 input-set g ok y x i = choose (below-or-not y (length g)) where
   choose : (y < length g) ⊎ (length g ≤ y) → IsTrue (is_set (kind_at g x))
-  choose (inl h) = subst (λ (d : Decl). IsTrue (is_set d.kind)) (at-take g y x no_decl (graph-earlier g ok y x i)) ((ok y h).sets x i)
+  choose (inl h) = subst (λ (d : Decl). IsTrue (is_set d.kind)) (get_or-take y g x no_decl (graph-earlier g ok y x i)) ((ok y h).sets x i)
   choose (inr h) = absurd (subst (λ (d : Decl). IsInput d.kind x) (at-past g y no_decl h) i)
 
 pub graph-keeps : (g : List Decl) (act : Act) (y : ℕ) → y < length g → decl_at (graph_after g act) y ≡ decl_at g y

@@ -1,15 +1,17 @@
 -- What holds of every journal is kept by each lawful entry.
-use Rattle.std.proofs.Common.{◌≡◌, ℕ, ◌+◌, ◌≤◌, ◌<◌, max, ◌⊎◌, inl, inr, Bool, true, false, if◌then◌else◌, ◌==◌, IsTrue, IsFalse, List, [], ◌∷◌, ◌++◌, length, Option, Some, None, refl, sym, ap, subst, ◌∙◌, arith}
+use Rattle.std.proofs.Common.{◌≡◌, ℕ, ◌+◌, ◌≤◌, ◌<◌, max, ◌⊎◌, inl, inr, Bool, true, false, if◌then◌else◌, ◌==◌, IsTrue, IsFalse, [], ◌∷◌, ◌++◌, length, Option, Some, None, refl, sym, ap, subst, ◌∙◌, arith}
 use Rattle.std.proofs.lemmas.Bool.Decides.{nat_tests}
+use Rattle.std.proofs.lemmas.Bool.{eq-eqb}
 use Rattle.model_states.specs.Content.{Content, least, join_contents, IsOrdered}
 use Rattle.model_states.specs.Update.{Op, Add, Remove, Insert, Inc, Max, Join}
 use Rattle.model_states.proofs.ContentLaws.{join-above, join-below}
-use Rattle.model_graph.specs.Graph.{Kind, OrSet, GSet, Counter, MaxReg, Union, Product, Intersection, Map, Filter, Fold, Decl, is_source, is_set, kind_at, decl_at, no_decl, IsInput}
+use Rattle.model_graph.specs.Graph.{Kind, Decl, is_source, is_set, kind_at, decl_at, no_decl, IsInput}
 use Rattle.model_graph.specs.Evaluation.{least_of, content_at, equation}
 use Rattle.model_graph.specs.Lawful.{IsGraph, IsDerived}
 use Rattle.model_graph.proofs.PlaceLaws.{at-append, at-last, length-append, below-or-not, equal-numbers}
 use Rattle.model_graph.proofs.EquationLaws.{equation-ordered, equation-monotone, equation-least}
 use Rattle.model_graph.proofs.EvalLaws.{graph-earlier}
+pub use Rattle.model_graph.proofs.LeastLaws.{equation-flat}
 use Rattle.model_messages.specs.Message.{with_gain, gained}
 use Rattle.model_journal.specs.Entry.{Act, Update, Deliver, Bind, Extend, Entry, Frame}
 use Rattle.model_journal.specs.Journal.{Snapshot, Journal, snapshot_at, gain, opened, contents_after, graph_after, snapshot_after, binds_after, next}
@@ -76,19 +78,6 @@ op-of-source k (Inc by) e = ap is_source e
 op-of-source k (Max n) e = ap is_source e
 op-of-source k (Join t) e = e
 
--- a derived variable's content has no counts
-pub equation-flat : (k : Kind) (ss : List Content) → length (equation k ss).counts ≡ 0
-equation-flat OrSet ss = refl
-equation-flat GSet ss = refl
-equation-flat Counter ss = refl
-equation-flat MaxReg ss = refl
-equation-flat (Union a b) ss = refl
-equation-flat (Product a b) ss = refl
-equation-flat (Intersection a b) ss = refl
-equation-flat (Map a place ops) ss = refl
-equation-flat (Filter a place ops) ss = refl
-equation-flat (Fold a op place lift) ss = refl
-
 -- the greater of two bases has the greater equation
 join-of-bases : (X : Frame) (j : Journal) → IsGood X j → (k : Kind) (m n : ℕ) → join_contents (equation k (snapshot_at j m).contents) (equation k (snapshot_at j n).contents) ≡ equation k (snapshot_at j (max n m)).contents
 join-of-bases X j good k m n = choose (below-or-not m n) where
@@ -122,9 +111,6 @@ bind-based X j y n by good low d =
     ∙ ap (λ (s : Snapshot). equation (kind_at j.now.graph y) s.contents)
     (sym (at-kept j.past j.now (snapshot_after X j (Bind y n)) (max n (greatest_bound j.binds y)) (omega (arith, low, good.within y))))
 
-same-number : (y : ℕ) → (y == y) ≡ true
-same-number y = grind (arith, nat_tests)
-
 other-number : (y z : ℕ) → (z == y) ≡ false → (y == z) ≡ false
 other-number y z e = grind (arith, nat_tests, e)
 
@@ -135,9 +121,9 @@ IsBasedAfter X j e y = content_at (contents_after X j e.act) y ≡ equation (kin
 bound-based : (X : Frame) (j : Journal) (by y n : ℕ) → IsGood X j → n ≤ length j.past → IsDerived j.now.graph y → IsBasedAfter X j (record { by = by; act = Bind y n }) y
 bound-based X j by y n good low d =
     after-at X j (Bind y n) y (omega (arith, d.declared, good.shape))
-    ∙ ap (λ (b : Bool). with_gain (content_at j.now.contents y) (if b then Some (equation (kind_at j.now.graph y) (snapshot_at j n).contents) else None)) (same-number y)
+    ∙ ap (λ (b : Bool). with_gain (content_at j.now.contents y) (if b then Some (equation (kind_at j.now.graph y) (snapshot_at j n).contents) else None)) ((eq-eqb y y refl))
     ∙ bind-based X j y n by good low d
-    ∙ ap (λ (b : Bool). equation (kind_at j.now.graph y) (snapshot_at (next X j (record { by = by; act = Bind y n })) (if b then max n (greatest_bound j.binds y) else greatest_bound j.binds y)).contents) (sym (same-number y))
+    ∙ ap (λ (b : Bool). equation (kind_at j.now.graph y) (snapshot_at (next X j (record { by = by; act = Bind y n })) (if b then max n (greatest_bound j.binds y) else greatest_bound j.binds y)).contents) (sym ((eq-eqb y y refl)))
 
 -- a variable that is declared is least, as its equation was before the first entry
 extended-based : (X : Frame) (j : Journal) (by : ℕ) (c : Decl) → IsGood X j → IsLawful X j (Extend c) → (y : ℕ) → y ≡ length j.now.graph → IsFalse (is_source c.kind) → IsBasedAfter X j (record { by = by; act = Extend c }) y

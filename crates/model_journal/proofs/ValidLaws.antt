@@ -1,28 +1,27 @@
 -- What keeps contents valid: joins, the deltas of updates, and what a variable has before anything happened.
-use Rattle.std.proofs.Common.{◌≡◌, ℕ, ℤ, suc, ◌≤◌, ◌<◌, max, ◌⊎◌, inl, inr, Bool, true, false, cond, ◌==◌, List, [], ◌∷◌, length, map, filter, Option, Some, None, FitsSigned, int_lt, refl, sym, subst, ◌∙◌, arith}
+use Rattle.std.proofs.Common.{◌≡◌, ℕ, ℤ, ◌≤◌, ◌<◌, max, ◌⊎◌, inl, inr, Bool, true, false, ◌==◌, length, FitsSigned, refl, sym, subst, ◌∙◌, arith}
 use Rattle.std.proofs.lemmas.Bool.Decides.{nat_tests}
 use mir.Syntax.{w64}
 use Rattle.model_values.specs.Value.{Val}
 use Rattle.model_values.specs.Token.{Tok}
-use Rattle.model_values.specs.Row.{Row}
 use Rattle.model_values.specs.Size.{IsSized, IsTokenOfWidth}
-use Rattle.model_sets.specs.Rows.{mark, HasRow, remove_delta, is_of, buried}
+use Rattle.model_sets.specs.Rows.{mark, HasRow}
 use Rattle.model_sets.specs.Values.{held, IsHeld}
 use Rattle.model_sets.proofs.RowLaws.{mark-join}
 use Rattle.model_sets.proofs.ValueLaws.{held-unite, held-small}
+use Rattle.model_sets.proofs.UpdateLaws.{length-remove_delta}
 use Rattle.model_states.specs.Counts.{count_max, count_at}
-use Rattle.model_states.specs.Register.{later}
 use Rattle.model_states.specs.Content.{Content, least, join_contents, size_of, row_limit}
 use Rattle.model_states.specs.Shape.{HasShape}
 use Rattle.model_states.specs.Update.{Op, Add, Remove, Insert, Inc, Max, Join, delta}
 use Rattle.model_states.proofs.CountLaws.{count_at-larger, count_at-zeros, length-zeros}
 use Rattle.model_states.proofs.ContentLaws.{ordered-join}
 use Rattle.model_states.proofs.DeltaLaws.{shape-join, add-row, remove-row, remove-shape, insert-value, inc-own, inc-others, inc-shape}
+use Rattle.model_states.proofs.RegisterLaws.{fits-later}
 use Rattle.model_graph.specs.Graph.{Kind, OrSet, GSet, Counter, MaxReg, Union, Product, Intersection, Map, Filter, Fold}
 use Rattle.model_graph.specs.Evaluation.{least_of}
 use Rattle.model_graph.specs.Lawful.{width_limit, shape_of}
 use Rattle.model_graph.proofs.PlaceLaws.{below-or-not, equal-numbers}
-use Rattle.model_states.specs.Register.{FitsTop}
 use Rattle.model_journal.specs.Legal.{IsTokenOf, IsValidValue, IsValid, IsOpOf, IsSmallOp, count_limit}
 
 positive-max : (a b : ℕ) → 0 < max a b → (0 < a) ⊎ (0 < b)
@@ -39,14 +38,6 @@ value-of-join s t v h = choose (positive-max (held s.values v) (held t.values v)
   choose : (0 < held s.values v) ⊎ (0 < held t.values v) → IsHeld s.values v ⊎ IsHeld t.values v
   choose (inl p) = inl (omega (arith, p, held-small s.values v))
   choose (inr p) = inr (omega (arith, p, held-small t.values v))
-
-fits-later : (s t : Option ℤ) → FitsTop s → FitsTop t → FitsTop (later s t)
-fits-later None t p q = q
-fits-later (Some m) None p q = p
-fits-later (Some m) (Some n) p q = choose (int_lt n m) where
-  choose : (b : Bool) → FitsSigned w64 (cond b m n)
-  choose true = p
-  choose false = q
 
 pub valid-join : (nodes : ℕ) (k : Kind) (w : ℕ) (s t : Content) → IsValid nodes k w s → IsValid nodes k w t → size_of (join_contents s t) ≤ row_limit → IsValid nodes k w (join_contents s t)
 valid-join nodes k w s t p q small = record {
@@ -120,19 +111,11 @@ valid-add nodes replica number v s ok member some most = record {
   top = tt;
 }
 
-removed-length : (v : Val) (s : List Row) → length (remove_delta v s) ≤ length s
-removed-length v [] = omega arith
-removed-length v (r ∷ s) =
-    elim (is_of v r) as (λ b. length (map buried (cond b (r ∷ filter (is_of v) s) (filter (is_of v) s))) ≤ suc (length s)) [
-      | true ↦ omega (arith, removed-length v s)
-      | false ↦ omega (arith, removed-length v s)
-    ]
-
 valid-remove : (nodes replica number : ℕ) (v : Val) (s : Content) → IsValid nodes OrSet 1 s → IsValid nodes OrSet 1 (delta (Remove v) s replica number)
 valid-remove nodes replica number v s p = record {
   ordered = (remove-shape v s replica number p.ordered).0;
   shape = refl;
-  few = omega (arith, removed-length v s.rows, p.few);
+  few = omega (arith, length-remove_delta v s.rows, p.few);
   values = λ u t h. (let row = (remove-row v s replica number u t).0 h in subst (λ (z : Val). IsValidValue 1 z) (sym row.0) (p.values v t row.1));
   tokens = λ u t h. p.tokens v t ((remove-row v s replica number u t).0 h).1;
   elements = λ u h. absurd (omega (arith, h));

@@ -5,7 +5,7 @@ use Rattle.model_graph.specs.Graph.{Kind, OrSet, GSet, Counter, MaxReg, Union, P
 use Rattle.model_graph.specs.Lawful.{width_limit, width_at, width_of, widths_from, widths, IsGraph}
 use Rattle.model_graph.proofs.PlaceLaws.{at-append, at-last, length-append, from-nothing}
 use Rattle.model_graph.proofs.EvalLaws.{graph-earlier}
-use Rattle.model_graph.proofs.WidthLaws.{widths-length}
+use Rattle.model_graph.proofs.WidthLaws.{widths-length, widths_from-append}
 
 -- a width looks at those of the inputs alone
 pub width-alike : (k : Kind) (us ws : List ℕ) → ((x : ℕ) → IsInput k x → width_at us x ≡ width_at ws x) → width_of k us ≡ width_of k ws
@@ -62,15 +62,11 @@ same-below g h ok_g ok_h long same (suc n) x low small =
 pub widths-same : (g h : List Decl) → IsGraph g → IsGraph h → length g ≤ length h → ((y : ℕ) → y < length g → decl_at h y ≡ decl_at g y) → (x : ℕ) → x < length g → width_at (widths g) x ≡ width_at (widths h) x
 widths-same g h ok_g ok_h long same x small = same-below g h ok_g ok_h long same (suc x) x (omega arith) small
 
-widths-append : (g h : List Decl) (done : List ℕ) → widths_from (g ++ h) done ≡ widths_from h (widths_from g done)
-widths-append [] h done = refl
-widths-append (d ∷ g) h done = widths-append g h (done ++ width_of d.kind done ∷ [])
-
 -- the first declarations have the widths that they have in the whole
 widths-front : (g : List Decl) (y x : ℕ) → x < y → y ≤ length g → width_at (widths (take y g)) x ≡ width_at (widths g) x
 widths-front g y x low long =
     sym (ap (λ (h : List Decl). width_at (widths h) x) (sym (take-append-drop y g))
-    ∙ ap (λ (ws : List ℕ). width_at ws x) (widths-append (take y g) (drop y g) [])
+    ∙ ap (λ (ws : List ℕ). width_at ws x) (widths_from-append (take y g) (drop y g) [])
     ∙ widths-keep (drop y g) (widths (take y g)) x (omega (arith, widths-length (take y g), length-take y g, low, long)))
 
 -- no variable of a graph is too wide

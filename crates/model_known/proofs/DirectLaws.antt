@@ -1,6 +1,7 @@
 -- What is printed can be told from what is known alone.
 use Rattle.std.proofs.Common.{◌≡◌, ℕ, ◌+◌, ◌<◌, Bool, List, [], ◌∷◌, ◌++◌, length, Result, Ok, refl, sym, ap, subst, ◌∙◌}
 use Rattle.std.specs.Fmt.{decimal, signed_decimal}
+use Rattle.std.proofs.lemmas.List.{append-nil, append_assoc}
 use Rattle.model_values.specs.Text.{shown_values}
 use Rattle.model_sets.specs.Rows.{IsAscending}
 use Rattle.model_states.specs.Content.{Content}
@@ -67,15 +68,7 @@ line-direct nodes f p x s member low =
 
 -- ---- the text
 
-append-nothing : (text : List ℕ) → text ≡ text ++ []
-append-nothing [] = refl
-append-nothing (c ∷ text) = ap (λ (rest : List ℕ). c ∷ rest) (append-nothing text)
-
-append-again : (a b c : List ℕ) → (a ++ b) ++ c ≡ a ++ (b ++ c)
-append-again [] b c = refl
-append-again (n ∷ a) b c = ap (λ (rest : List ℕ). n ∷ rest) (append-again a b c)
-
-calm-text : (f : Followed) (many : List Act) → AreCalm many → (afters f many).run.text ≡ f.run.text
+pub calm-text : (f : Followed) (many : List Act) → AreCalm many → (afters f many).run.text ≡ f.run.text
 calm-text f [] h = refl
 calm-text f (Post p ∷ rest) h = calm-text (followed f (Post p)) rest h.1
 calm-text f (Take p i ∷ rest) h = calm-text (followed f (Take p i)) rest h.1
@@ -83,25 +76,25 @@ calm-text f (a ∷ rest) h = absurd h.0
 
 step-text : (nodes : ℕ) (f : Followed) (k : Command) → IsSound nodes f → MayBeDone nodes (stage_of f) k → (afters f (acts f.run k)).run.text ≡ f.run.text ++ direct_print nodes f k
 step-text nodes f (command.Print p x) s h = ap (λ (words : List ℕ). f.run.text ++ words) (line-direct nodes f p x s h.0 h.1)
-step-text nodes f command.Sync s h = calm-text f _ (calm-sync (length f.run.peers) (length f.run.sent)) ∙ append-nothing f.run.text
-step-text nodes f (command.Add p x v) s h = append-nothing f.run.text
-step-text nodes f (command.Remove p x v) s h = append-nothing f.run.text
-step-text nodes f (command.Insert p x v) s h = append-nothing f.run.text
-step-text nodes f (command.Inc p x k) s h = append-nothing f.run.text
-step-text nodes f (command.Max p x n) s h = append-nothing f.run.text
-step-text nodes f (command.Mark p x) s h = append-nothing f.run.text
-step-text nodes f (command.Bind p x m) s h = append-nothing f.run.text
-step-text nodes f (command.Send p) s h = append-nothing f.run.text
-step-text nodes f (command.Deliver p i) s h = append-nothing f.run.text
-step-text nodes f command.Settle s h = append-nothing f.run.text
-step-text nodes f (command.Read p x until) s h = append-nothing f.run.text
-step-text nodes f (command.Await p x until) s h = append-nothing f.run.text
-step-text nodes f (command.Declare d) s h = append-nothing f.run.text
+step-text nodes f command.Sync s h = calm-text f _ (calm-sync (length f.run.peers) (length f.run.sent)) ∙ (sym (append-nil f.run.text))
+step-text nodes f (command.Add p x v) s h = (sym (append-nil f.run.text))
+step-text nodes f (command.Remove p x v) s h = (sym (append-nil f.run.text))
+step-text nodes f (command.Insert p x v) s h = (sym (append-nil f.run.text))
+step-text nodes f (command.Inc p x k) s h = (sym (append-nil f.run.text))
+step-text nodes f (command.Max p x n) s h = (sym (append-nil f.run.text))
+step-text nodes f (command.Mark p x) s h = (sym (append-nil f.run.text))
+step-text nodes f (command.Bind p x m) s h = (sym (append-nil f.run.text))
+step-text nodes f (command.Send p) s h = (sym (append-nil f.run.text))
+step-text nodes f (command.Deliver p i) s h = (sym (append-nil f.run.text))
+step-text nodes f command.Settle s h = (sym (append-nil f.run.text))
+step-text nodes f (command.Read p x until) s h = (sym (append-nil f.run.text))
+step-text nodes f (command.Await p x until) s h = (sym (append-nil f.run.text))
+step-text nodes f (command.Declare d) s h = (sym (append-nil f.run.text))
 
 follow-text : (nodes c : ℕ) (stage : Stage) (f last : Followed) (commands : List Command) → IsAt nodes stage f → AreLawful nodes stage commands → follow c f commands ≡ Ok last
     → last.run.text ≡ f.run.text ++ direct_text nodes c f commands
 unfolding follow direct_text
-follow-text nodes c stage f last [] at lawful e = ap (λ (z : Followed). z.run.text) (let same : last ≡ f = cc in same) ∙ append-nothing f.run.text
+follow-text nodes c stage f last [] at lawful e = ap (λ (z : Followed). z.run.text) (let same : last ≡ f = cc in same) ∙ (sym (append-nil f.run.text))
 follow-text nodes c stage f last (k ∷ rest) at lawful e =
     let both = bound (follow_step c f k) (λ next. follow (c + 1) next rest) last e in
     let mid = both.0 in
@@ -109,7 +102,7 @@ follow-text nodes c stage f last (k ∷ rest) at lawful e =
     ap (λ (z : Followed). z.run.text) (step-effect c f mid k both.1) ∙ step-text nodes f k at.sound (subst (λ (z : Stage). MayBeDone nodes z k) at.stands lawful.0) in
     follow-text nodes (c + 1) (stage_after nodes stage k) mid last rest (step-sound nodes c stage f mid k at lawful.0 both.1) lawful.1 both.2
     ∙ ap (λ (words : List ℕ). words ++ direct_text nodes (c + 1) mid rest) here
-    ∙ append-again f.run.text (direct_print nodes f k) (direct_text nodes (c + 1) mid rest)
+    ∙ append_assoc f.run.text (direct_print nodes f k) (direct_text nodes (c + 1) mid rest)
     ∙ ap (λ (r : Result Followed Stop). f.run.text ++ (direct_print nodes f k ++ after_step r (λ next. direct_text nodes (c + 1) next rest))) (sym both.1)
 
 -- the report of a lawful script whose run comes to its end is the direct one

@@ -14,7 +14,7 @@ pub bind-again : {A B C : Type 0} (r : Result A Stop) (f : A → Result B Stop) 
 bind-again (Ok x) f g = refl
 bind-again (Err e) f g = refl
 
-pub bind-alike : {A B : Type 0} (r : Result A Stop) (f g : A → Result B Stop) → ((x : A) → f x ≡ g x) → (r >>= f) ≡ (r >>= g)
+pub bind-alike : {A B E : Type 0} (r : Result A E) (f g : A → Result B E) → ((x : A) → f x ≡ g x) → (r >>= f) ≡ (r >>= g)
 bind-alike (Ok x) f g same = same x
 bind-alike (Err e) f g same = refl
 

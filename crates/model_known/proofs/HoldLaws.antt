@@ -7,12 +7,13 @@ use Rattle.model_states.proofs.ContentLaws.{ordered-join, join-nothing}
 use Rattle.model_graph.specs.Graph.{Kind, Decl, is_source, no_decl, kind_at}
 use Rattle.model_graph.specs.Evaluation.{content_at, least_of}
 use Rattle.model_graph.proofs.PlaceLaws.{below-or-not, from-nothing, at-append, at-last, length-push}
+use Rattle.model_graph.proofs.LeastLaws.{least_of-ordered}
 use Rattle.model_messages.specs.Message.{Message, message_of, source_number, sent_at, brought, gained, with_gain}
 use Rattle.model_messages.proofs.MessageLaws.{sent-is, sent-past, sent-length, number-append, number-rises, gained-length, gained-at}
 use Rattle.model_known.specs.Delta.{Delta, first_deltas, brought_to, known}
 use Rattle.model_known.specs.Holds.{Holds, Carries, Keeps}
 use Rattle.model_known.proofs.MeasureLaws.{same_from_measures, measure-all, total-larger, Each, each-weaker}
-use Rattle.model_known.proofs.VariableLaws.{IsOfSource, kind-append, known-append, known-derived, known-later, known-ordered, least-ordered}
+use Rattle.model_known.proofs.VariableLaws.{IsOfSource, kind-append, known-append, known-derived, known-later, known-ordered}
 
 -- ---- a message
 
@@ -109,7 +110,7 @@ module _ (g : List Decl) (nodes : ℕ) (all : List (List Delta)) (d : Decl) (sou
     new : IsTrue (is_source (kind_at longer (length g))) → join_contents (least_of nodes (kind_at longer (length g))) (sent_at m.sources (source_number longer (length g))) ≡ known longer nodes all m.counts (length g)
     new source =
         ap (λ (s : Content). join_contents (least_of nodes (kind_at longer (length g))) s) (sent-past m.sources (source_number longer (length g)) (omega (arith, c.few, number-append g (d ∷ []) (length g) (omega arith))))
-        ∙ join-nothing (least_of nodes (kind_at longer (length g))) (least-ordered nodes (kind_at longer (length g)))
+        ∙ join-nothing (least_of nodes (kind_at longer (length g))) (least_of-ordered nodes (kind_at longer (length g)))
         ∙ sym (known-later g d nodes all m.counts sources)
 
   pub keeps-longer : (x : ℕ) (s : Content) → Keeps g nodes all x s → Keeps longer nodes all x s

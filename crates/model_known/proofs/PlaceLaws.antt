@@ -1,6 +1,7 @@
 -- Two places of one run with equal counts have equal contents: what is known stays known, and known by the counts alone.
 use Rattle.std.proofs.Common.{◌≡◌, ℕ, zero, suc, ◌+◌, ◌≤◌, ◌<◌, List, [], ◌∷◌, ◌++◌, length, map, Ok, refl, sym, ap, subst, ◌∙◌, arith}
 use Rattle.std.specs.List.{range_with_len}
+use Rattle.std.proofs.lemmas.List.FromFn.{length-map-range_with_len}
 use Rattle.model_states.specs.Counts.{count_at, larger, AreCountsAtMost}
 use Rattle.model_states.specs.Content.{Content, least}
 use Rattle.model_states.proofs.CountLaws.{larger-commutative, larger-at_most}
@@ -28,13 +29,9 @@ known-range f a zero x h = absurd (omega (arith, h))
 known-range f a (suc n) zero h = ap f (let here : a ≡ a + 0 = omega arith in here)
 known-range f a (suc n) (suc x) h = known-range f (a + 1) n x (omega (arith, h)) ∙ ap f (let there : (a + 1) + x ≡ a + suc x = omega arith in there)
 
-map-range-length : (f : ℕ → Content) (a n : ℕ) → length (map f (range_with_len a n)) ≡ n
-map-range-length f a zero = refl
-map-range-length f a (suc n) = omega (arith, map-range-length f (a + 1) n)
-
 pub known_contents-length : (g : List Decl) (nodes : ℕ) (all : List (List Delta)) (cs : List ℕ) → length (known_contents g nodes all cs) ≡ length g
 unfolding known_contents
-known_contents-length g nodes all cs = map-range-length (known g nodes all cs) 0 (length g)
+known_contents-length g nodes all cs = length-map-range_with_len (known g nodes all cs) 0 (length g)
 
 pub known_contents-at : (g : List Decl) (nodes : ℕ) (all : List (List Delta)) (cs : List ℕ) (x : ℕ) → x < length g → content_at (known_contents g nodes all cs) x ≡ known g nodes all cs x
 unfolding known_contents

@@ -1,6 +1,7 @@
 -- A round of sends and deliveries: acts that change no graph, no mark and no log.
-use Rattle.std.proofs.Common.{◌≡◌, ℕ, zero, suc, ◌+◌, List, [], ◌∷◌, ◌++◌, length, map, flat_map, filter, not, ◌==◌, refl, arith}
+use Rattle.std.proofs.Common.{◌≡◌, ℕ, ◌+◌, List, [], ◌∷◌, ◌++◌, length, map, flat_map, filter, not, ◌==◌, refl, arith}
 use Rattle.std.specs.List.{range_with_len}
+use Rattle.std.proofs.lemmas.List.FromFn.{length-range_with_len}
 use Rattle.model_world.specs.World.{Act, Post, Take, takes, sync_acts}
 
 -- sends and deliveries may be done anywhere
@@ -57,9 +58,5 @@ posts-all : (nodes i : ℕ) (ps : List ℕ) → posts (flat_map (takes nodes i) 
 posts-all nodes i [] = refl
 posts-all nodes i (p ∷ ps) = omega (arith, posts-append (takes nodes i p) (flat_map (takes nodes i) ps), posts-takes p i (filter (λ q. not (q == p)) (range_with_len 0 nodes)), posts-all nodes i ps)
 
-pub range-length : (a n : ℕ) → length (range_with_len a n) ≡ n
-range-length a zero = refl
-range-length a (suc n) = omega (arith, range-length (a + 1) n)
-
 pub posts-sync : (nodes i : ℕ) → posts (sync_acts nodes i) ≡ nodes
-posts-sync nodes i = omega (arith, posts-append (map Post (range_with_len 0 nodes)) (flat_map (takes nodes i) (range_with_len 0 nodes)), posts-each (range_with_len 0 nodes), posts-all nodes i (range_with_len 0 nodes), range-length 0 nodes)
+posts-sync nodes i = omega (arith, posts-append (map Post (range_with_len 0 nodes)) (flat_map (takes nodes i) (range_with_len 0 nodes)), posts-each (range_with_len 0 nodes), posts-all nodes i (range_with_len 0 nodes), length-range_with_len 0 nodes)

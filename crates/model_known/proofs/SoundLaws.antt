@@ -8,6 +8,7 @@ use Rattle.model_states.proofs.ContentLaws.{join-nothing}
 use Rattle.model_graph.specs.Graph.{Decl, is_source, no_decl, kind_at}
 use Rattle.model_graph.specs.Evaluation.{content_at, least_of}
 use Rattle.model_graph.proofs.PlaceLaws.{below-or-not, at-append, at-last, at-past, at-push, at-set, at-map-low, at-replicate, length-replicate, length-push, set-length, map-length}
+use Rattle.model_graph.proofs.LeastLaws.{least_of-ordered}
 use Rattle.model_messages.specs.Message.{Message, sent_from}
 use Rattle.model_world.specs.World.{Peer, Marked, Act, Update, Keep, Post, Take, Point, Show, Open, Reach, Extend, fresh_peer, no_peer, peer_at, updated, delivered, extended, message_at, no_message, sent_number, no_mark, mark_at}
 use Rattle.model_known.specs.Delta.{Delta, deltas_at, first_deltas, brought_to, join_all}
@@ -16,7 +17,7 @@ use Rattle.model_known.specs.Holds.{Holds, Carries, Keeps}
 use Rattle.model_known.specs.Owner.{AreOwned}
 use Rattle.model_known.proofs.MeasureLaws.{Each, each-push, each-weaker}
 use Rattle.model_known.proofs.EffectLaws.{followed}
-use Rattle.model_known.proofs.VariableLaws.{least-ordered, IsOfSource}
+use Rattle.model_known.proofs.VariableLaws.{IsOfSource}
 use Rattle.model_known.proofs.UpdateLaws.{holds-kept, carries-kept, keeps-kept, own-holds, own-all}
 use Rattle.model_known.proofs.HoldLaws.{sends-known, takes-known, extends-known, carries-longer, keeps-longer, sources-longer}
 use Rattle.model_known.proofs.TokenLaws.{AreAllOwned, owned-kept, delta-owned, known-owned}
@@ -42,7 +43,7 @@ pub first-none : (all : List (List Delta)) → first_deltas all [] ≡ []
 first-none [] = refl
 first-none (deltas ∷ all) = refl
 
-first-empty : (n : ℕ) (cs : List ℕ) → first_deltas (replicate n []) cs ≡ []
+pub first-empty : (n : ℕ) (cs : List ℕ) → first_deltas (replicate n []) cs ≡ []
 first-empty zero cs = refl
 first-empty (suc n) [] = refl
 first-empty (suc n) (zero ∷ cs) = first-empty n cs
@@ -62,7 +63,7 @@ carries-nothing g nodes all = record {
   narrow = omega arith;
   few = omega arith;
   made = λ q. omega arith;
-  knows = λ x low source. join-nothing (least_of nodes (kind_at g x)) (least-ordered nodes (kind_at g x))
+  knows = λ x low source. join-nothing (least_of nodes (kind_at g x)) (least_of-ordered nodes (kind_at g x))
       ∙ ap (λ (ds : List Delta). join_all (least_of nodes (kind_at g x)) (brought_to x ds)) (sym (first-none all));
 }
 

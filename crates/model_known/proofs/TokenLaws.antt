@@ -11,9 +11,10 @@ use Rattle.model_states.specs.Counts.{count_at}
 use Rattle.model_states.specs.Content.{Content}
 use Rattle.model_states.specs.Update.{Op, Add, Remove, Insert, Inc, Max, Join}
 use Rattle.model_states.proofs.DeltaLaws.{add-row, remove-row}
-use Rattle.model_graph.specs.Graph.{Kind, OrSet, GSet, Counter, MaxReg, Union, Product, Intersection, Map, Filter, Fold, Decl, kind_at}
+use Rattle.model_graph.specs.Graph.{Decl, kind_at}
 use Rattle.model_graph.specs.Evaluation.{content_at, rows_at, least_of}
 use Rattle.model_graph.proofs.PlaceLaws.{below-or-not, at-append, at-last, at-past, at-set, equal-numbers}
+use Rattle.model_graph.proofs.LeastLaws.{least_of-rows}
 use Rattle.model_world.specs.World.{Peer}
 use Rattle.model_known.specs.Delta.{Delta, deltas_at, first_deltas, brought_to, known}
 use Rattle.model_known.specs.Follow.{delta_of}
@@ -80,18 +81,6 @@ delta-owned all r p x (Join s) few own here joined u t h = owned-kept all p (del
 
 -- ---- what is known
 
-least-rows : (nodes : ℕ) (k : Kind) → (least_of nodes k).rows ≡ []
-least-rows nodes OrSet = refl
-least-rows nodes GSet = refl
-least-rows nodes Counter = refl
-least-rows nodes MaxReg = refl
-least-rows nodes (Union x y) = refl
-least-rows nodes (Product x y) = refl
-least-rows nodes (Intersection x y) = refl
-least-rows nodes (Map x place ops) = refl
-least-rows nodes (Filter x place ops) = refl
-least-rows nodes (Fold x op place lift) = refl
-
 -- the rows of each delta have tokens of its variable
 abbrev pub AreAllOwned : List (List Delta) → List (List Delta) → Type 0
 AreAllOwned all deltas = Each (λ d. AreOwned all d.var d.content.rows) deltas
@@ -120,7 +109,7 @@ total-owned all x v t (d ∷ ds) owned h = choose (λ g. total-owned all x v t d
 pub known-owned : (g : List Decl) (nodes : ℕ) (all : List (List Delta)) (cs : List ℕ) (x : ℕ) → AreAllOwned all all → AreOwned all x (known g nodes all cs x).rows
 known-owned g nodes all cs x owned v t h =
     total-owned all x v t (first_deltas all cs) (each-first (λ d. AreOwned all d.var d.content.rows) all cs owned)
-    (omega (arith, h, measure-all (row_measure v t) (is-measure v t) (least_of nodes (kind_at g x)) (brought_to x (first_deltas all cs)), ap (λ (rows : List Row). mark rows v t) (least-rows nodes (kind_at g x))))
+    (omega (arith, h, measure-all (row_measure v t) (is-measure v t) (least_of nodes (kind_at g x)) (brought_to x (first_deltas all cs)), ap (λ (rows : List Row). mark rows v t) (least_of-rows nodes (kind_at g x))))
 
 -- ---- the test of dead tokens
 

@@ -1,27 +1,15 @@
 -- Of which variables something is known, and that more declarations change none of it.
 use Rattle.std.proofs.Common.{◌≡◌, ℕ, ◌<◌, Bool, true, false, ◌==◌, IsTrue, IsFalse, List, [], ◌∷◌, ◌++◌, length, refl, ap, subst, arith}
 use Rattle.model_states.specs.Content.{Content, IsOrdered}
-use Rattle.model_states.proofs.ContentLaws.{ordered-least}
-use Rattle.model_graph.specs.Graph.{Kind, OrSet, GSet, Counter, MaxReg, Union, Product, Intersection, Map, Filter, Fold, Decl, is_source, no_decl, kind_at}
+use Rattle.model_graph.specs.Graph.{Kind, Decl, is_source, no_decl, kind_at}
 use Rattle.model_graph.specs.Evaluation.{least_of}
 use Rattle.model_graph.proofs.PlaceLaws.{at-append, equal-numbers}
+use Rattle.model_graph.proofs.LeastLaws.{least_of-ordered}
 use Rattle.model_known.specs.Delta.{Delta, first_deltas, brought_to, join_all, known}
 use Rattle.model_known.proofs.MeasureLaws.{ordered-all, Each, each-first, each-weaker, nothing-brought}
 
-pub least-ordered : (nodes : ℕ) (k : Kind) → IsOrdered (least_of nodes k)
-least-ordered nodes OrSet = ordered-least
-least-ordered nodes GSet = ordered-least
-least-ordered nodes Counter = record { rows = refl; values = refl }
-least-ordered nodes MaxReg = ordered-least
-least-ordered nodes (Union x y) = ordered-least
-least-ordered nodes (Product x y) = ordered-least
-least-ordered nodes (Intersection x y) = ordered-least
-least-ordered nodes (Map x place ops) = ordered-least
-least-ordered nodes (Filter x place ops) = ordered-least
-least-ordered nodes (Fold x op place lift) = ordered-least
-
 pub known-ordered : (g : List Decl) (nodes : ℕ) (all : List (List Delta)) (cs : List ℕ) (x : ℕ) → IsOrdered (known g nodes all cs x)
-known-ordered g nodes all cs x = ordered-all (least_of nodes (kind_at g x)) (brought_to x (first_deltas all cs)) (least-ordered nodes (kind_at g x))
+known-ordered g nodes all cs x = ordered-all (least_of nodes (kind_at g x)) (brought_to x (first_deltas all cs)) (least_of-ordered nodes (kind_at g x))
 
 -- each delta is of a declared source
 abbrev pub IsOfSource : List Decl → Delta → Type 0

@@ -1,10 +1,16 @@
 -- What a replica's message has of each source, and what a delivery leaves at each place.
-use Rattle.std.proofs.Common.{◌≡◌, ℕ, zero, suc, ◌+◌, ◌≤◌, ◌<◌, Bool, true, false, cond, if◌then◌else◌, IsTrue, List, [], ◌∷◌, ◌++◌, length, map, Option, refl, ap, ◌∙◌, arith}
+use Rattle.std.proofs.Common.{◌≡◌, ℕ, zero, suc, ◌+◌, ◌≤◌, ◌<◌, Bool, true, false, cond, if◌then◌else◌, IsTrue, List, [], ◌∷◌, ◌++◌, length, map, Option, Some, slice_get, refl, ap, ◌∙◌, arith}
 use Rattle.model_states.specs.Content.{Content, least}
 use Rattle.model_graph.specs.Graph.{Decl, is_source, kind_at}
 use Rattle.model_graph.specs.Evaluation.{content_at}
 use Rattle.model_graph.specs.Lawful.{sources_among}
 use Rattle.model_messages.specs.Message.{Sent, sent_from, source_number, sent_at, with_gain, gained}
+
+-- what a message has of the source at a place
+pub sent_at-found : (sources : List Sent) (i : ℕ) (t : Sent) → slice_get sources i ≡ Some t → sent_at sources i ≡ t.content
+sent_at-found [] i t e = absurd cc
+sent_at-found (s ∷ sources) zero t e = let same : s ≡ t = cc in ap (λ (u : Sent). u.content) same
+sent_at-found (s ∷ sources) (suc i) t e = sent_at-found sources i t e
 
 pub sent-is : (g : List Decl) (ss : List Content) (x : ℕ) → x < length g → length ss ≡ length g → IsTrue (is_source (kind_at g x)) → sent_at (sent_from g ss) (source_number g x) ≡ content_at ss x
 sent-is [] ss x low long source = absurd (omega (arith, low))

@@ -1,16 +1,7 @@
 -- What a chain of steps that passed says of each step.
 use Rattle.std.proofs.Common.{◌≡◌, refl, Bool, true, false, Option, Some, None, Result, Ok, Err}
 use Rattle.model_graph.specs.Chain.{◌>>=◌, check, or_else, refusing}
-
--- the first step passed, and the others went on from it
-pub record Passed {A B E : Type 0} (r : Result A E) (f : A → Result B E) (y : B) : Type 0 where
-  pub value : A
-  pub first : r ≡ Ok value
-  pub then : f value ≡ Ok y
-
-pub passed : {A B E : Type 0} (r : Result A E) (f : A → Result B E) (y : B) → (r >>= f) ≡ Ok y → Passed r f y
-passed (Ok x) f y e = record { value = x; first = refl; then = e }
-passed (Err e) f y h = cc
+pub use Rattle.model_graph.proofs.ChainLaws.{Passed, passed}
 
 pub check_passed : {B E : Type 0} (b : Bool) (e : E) (f : Unit {0} → Result B E) (y : B) → (check b e >>= f) ≡ Ok y → (b ≡ true) × (f tt ≡ Ok y)
 check_passed true e f y h = (refl, h)

@@ -252,7 +252,7 @@ graph-push g d good room next = record {
   each = λ i e at. next_pushed g d good next i e (pushed g d i e at);
 }
 
-fits_pushed : (lib : Library) (g : List Decl) (d : Decl) → FitsAll lib g → Fits lib d.kind → (i : ℕ) (e : Decl) → Pushed g d i e → Fits lib e.kind
+pub fits_pushed : (lib : Library) (g : List Decl) (d : Decl) → FitsAll lib g → Fits lib d.kind → (i : ℕ) (e : Decl) → Pushed g d i e → Fits lib e.kind
 fits_pushed lib g d good fits i e (early at front) = good i e at
 fits_pushed lib g d good fits i e (late same front) = subst (λ (e : Decl). Fits lib e.kind) same fits
 

@@ -1,11 +1,12 @@
 -- What holds of each row, element or count of states holds of each of their join, and of what updates join in.
-use Rattle.std.proofs.Common.{ℕ, zero, suc, ◌+◌, ◌≤◌, ◌<◌, max, Bool, true, false, cond, ◌||◌, List, [], ◌∷◌, ◌++◌, length, map, filter, replicate, slice_set, arith}
+use Rattle.std.proofs.Common.{ℕ, zero, suc, ◌+◌, ◌<◌, max, Bool, true, false, cond, ◌||◌, List, [], ◌∷◌, ◌++◌, length, map, filter, replicate, slice_set, arith}
 use Rattle.std.specs.List.{AllByRecursion}
 use Rattle.std.specs.declared.cmp.Ordering.{Ordering}
 use Rattle.std.specs.declared.cmp.Ordering.TheVariants.{Less, Equal, Greater}
 use Rattle.std.specs.FinMap.Entries.{by_order}
 use Rattle.model_values.specs.Value.{Val, val_cmp}
 use Rattle.model_values.specs.Row.{Row, key_cmp}
+pub use Rattle.model_values.proofs.ListLaws.{each-weaker}
 use Rattle.model_sets.specs.Rows.{put, of_rows, join, is_of, buried, remove_delta}
 use Rattle.model_sets.specs.Values.{add, of_values, unite}
 use Rattle.model_states.specs.Counts.{count_at, larger}
@@ -15,10 +16,6 @@ use Rattle.model_runs.specs.Held.{AreBelow}
 pub each-append : {A : Type 0} (P : A → Type 0) (xs ys : List A) → AllByRecursion P xs → AllByRecursion P ys → AllByRecursion P (xs ++ ys)
 each-append P [] ys h g = g
 each-append P (x ∷ xs) ys h g = (h.0, each-append P xs ys h.1 g)
-
-pub each-weaker : {A : Type 0} (P Q : A → Type 0) → ((x : A) → P x → Q x) → (xs : List A) → AllByRecursion P xs → AllByRecursion Q xs
-each-weaker P Q f [] h = tt
-each-weaker P Q f (x ∷ xs) h = (f x h.0, each-weaker P Q f xs h.1)
 
 pub each-replicate : {A : Type 0} (P : A → Type 0) (n : ℕ) (x : A) → P x → AllByRecursion P (replicate n x)
 each-replicate P zero x h = tt
@@ -53,14 +50,6 @@ module _ (nodes : ℕ) where
     choose : (b : Bool) → AllByRecursion (IsRow nodes) (remove_delta v s) → AllByRecursion (IsRow nodes) (map buried (cond b (r ∷ filter (is_of v) s) (filter (is_of v) s)))
     choose true rest = (h.0, rest)
     choose false rest = rest
-
--- a remove brings no more rows than there are
-pub length-removed : (v : Val) (s : List Row) → length (remove_delta v s) ≤ length s
-length-removed v [] = omega arith
-length-removed v (r ∷ s) = choose (is_of v r) (length-removed v s) where
-  choose : (b : Bool) → length (remove_delta v s) ≤ length s → length (map buried (cond b (r ∷ filter (is_of v) s) (filter (is_of v) s))) ≤ suc (length s)
-  choose true rest = omega (arith, rest)
-  choose false rest = omega (arith, rest)
 
 -- ---- elements
 

@@ -1,5 +1,6 @@
 -- The calls are caller 0's, and none is a bind.
 use Rattle.std.proofs.Common.{◌≡◌, ℕ, ◌+◌, Bool, true, false, cond, if◌then◌else◌, ◌==◌, List, [], ◌∷◌, ◌++◌, not, filter, Result, Ok, Err, refl, ap, ◌∙◌}
+use Rattle.std.proofs.lemmas.List.Elements.{filter-append}
 use Rattle.model_world.specs.Command.{Command}
 use Rattle.model_world.specs.World as world
 use Rattle.model_world.specs.World.{Run, acts, act, step}
@@ -7,15 +8,6 @@ use Rattle.model_world.specs.declared.stop.Stop.{Stop}
 use Rattle.model_journal.specs.Entry.{Entry}
 use Rattle.model_journal.specs.Callers.{made_by}
 use Rattle.model_runs.specs.Calls.{is_bind, unbound, call_of, when_done, calls_of_acts, calls}
-
--- what a filter keeps of two lists
-filter-append : (test : Entry → Bool) (h k : List Entry) → filter test (h ++ k) ≡ filter test h ++ filter test k
-filter-append test [] k = refl
-filter-append test (e ∷ h) k =
-    elim (test e) as (λ b. cond b (e ∷ filter test (h ++ k)) (filter test (h ++ k)) ≡ cond b (e ∷ filter test h) (filter test h) ++ filter test k) [
-      | true ↦ λ i. e ∷ filter-append test h k i
-      | false ↦ filter-append test h k
-    ]
 
 -- a test that is true of every entry that is fed keeps all calls
 module _ (test : Entry → Bool) (one : (run : Run) (p : ℕ) (a : world.Act) → filter test (call_of run p a) ≡ call_of run p a) where

@@ -18,11 +18,12 @@ use Rattle.model_messages.specs.Message.{Sent, Message, sent_from, source_number
 use Rattle.model_messages.proofs.MessageLaws.{sent-among, gained-length, gained-at}
 use Rattle.model_known.proofs.VariableLaws.{kind-append}
 use Rattle.model_values.specs.Name.{is_name}
+use Rattle.model_values.proofs.ListLaws.{each-weaker}
 use Rattle.model_readings.specs.Lawful.{IsGraph}
 use Rattle.model_wire.specs.Lawful.{IsSource, IsMessage}
 use Rattle.model_world.specs.World.{Peer, fresh_peer, updated, delivered, extended, message_at}
 use Rattle.model_runs.specs.Held.{AreBelow, IsHeld, IsSentSource, IsSentTo, IsUpdate}
-use Rattle.model_runs.proofs.EachLaws.{each-weaker, each-replicate, below-later, below-counted, below-larger}
+use Rattle.model_runs.proofs.EachLaws.{each-replicate, below-later, below-counted, below-larger}
 use Rattle.model_runs.proofs.SourceLaws.{source-shape, source-ordered, source-narrow, source-least, source-join, update-source, delta-source}
 
 -- ---- the beginning

@@ -1,5 +1,6 @@
 -- A journal and a replica of the world that have the same graph, contents and counts, and what each step of both leaves of this.
 use Rattle.std.proofs.Common.{◌≡◌, ℕ, ◌+◌, ◌<◌, true, IsTrue, List, [], ◌∷◌, ◌++◌, length, map, slice_set, refl, sym, ap, subst, ◌∙◌, arith}
+pub use Rattle.std.proofs.lemmas.List.{append-nil as append-nothing, append_assoc as append-again}
 use Rattle.model_states.specs.Counts.{count_at, larger}
 use Rattle.model_states.specs.Content.{Content, join_contents}
 use Rattle.model_states.specs.Update.{Op, delta}
@@ -39,14 +40,6 @@ pub record MayBind (g : List Decl) (nodes x : ℕ) (s : Content) : Type 0 where
   pub valid : IsTrue (is_source (kind_at g x)) → IsValid nodes (kind_at g x) 1 s
 
 -- ---- one step of one journal
-
-pub append-nothing : {A : Type 0} (xs : List A) → xs ++ [] ≡ xs
-append-nothing [] = refl
-append-nothing (x ∷ xs) = λ i. x ∷ append-nothing xs i
-
-pub append-again : {A : Type 0} (xs ys zs : List A) → (xs ++ ys) ++ zs ≡ xs ++ (ys ++ zs)
-append-again [] ys zs = refl
-append-again (x ∷ xs) ys zs = λ i. x ∷ append-again xs ys zs i
 
 module _ (X : Frame) (h : List Entry) (g : List Decl) (r : Peer) (legal : IsLegal X h) (same : Matches X h g r) where
   -- an update of the node itself

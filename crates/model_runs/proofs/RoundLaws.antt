@@ -1,13 +1,13 @@
 -- Acts that fit one after the other, and a round of sends and deliveries, which does.
 use Rattle.std.proofs.Common.{◌≡◌, ℕ, zero, suc, ◌+◌, ◌≤◌, ◌<◌, Bool, true, false, cond, not, ◌==◌, List, [], ◌∷◌, ◌++◌, length, map, filter, flat_map, refl, sym, subst, arith}
 use Rattle.std.specs.List.{range_with_len}
+use Rattle.std.proofs.lemmas.List.FromFn.{length-range_with_len}
 use Rattle.model_graph.proofs.PlaceLaws.{length-push}
 use Rattle.model_world.specs.World as world
 use Rattle.model_world.specs.World.{Peer, Run, fresh_peer, no_peer, peer_at, mark_at, message_at, takes, sync_acts, acts, act, each, step, start}
 use Rattle.model_known.specs.Follow.{Followed}
 use Rattle.model_known.proofs.EffectLaws.{followed}
 use Rattle.model_runs.proofs.StepLaws.{FitsLawfully, updates}
-use Rattle.model_known.proofs.RoundLaws.{range-length}
 
 abbrev pub AllFit : ℕ → Followed → List world.Act → Type 0
 AllFit nodes f [] = Unit {0}
@@ -87,4 +87,4 @@ all-round nodes sent i (p ∷ ps) low =
 pub sync-round : (nodes sent : ℕ) → IsRound nodes sent (sync_acts nodes sent)
 sync-round nodes sent =
     posts-round nodes sent (range_with_len 0 nodes) (flat_map (takes nodes sent) (range_with_len 0 nodes)) (below-nodes nodes)
-    (all-round nodes (sent + length (range_with_len 0 nodes)) sent (range_with_len 0 nodes) (omega (arith, range-length 0 nodes)))
+    (all-round nodes (sent + length (range_with_len 0 nodes)) sent (range_with_len 0 nodes) (omega (arith, length-range_with_len 0 nodes)))

@@ -1,9 +1,7 @@
 -- What a source may hold in a message: the least content, the join of two such contents that is not too large, and what an update brings.
-use Rattle.std.proofs.Common.{◌≡◌, ℕ, ◌+◌, ◌≤◌, ◌<◌, min, max, ℤ, Bool, true, false, cond, IsTrue, List, [], ◌∷◌, ◌++◌, length, Option, Some, None, refl, sym, ap, subst, ◌∙◌, arith}
-use Rattle.std.specs.Prelude.{FitsSigned, int_lt}
+use Rattle.std.proofs.Common.{◌≡◌, ℕ, ◌+◌, ◌≤◌, ◌<◌, min, max, Bool, true, false, cond, IsTrue, List, [], ◌∷◌, ◌++◌, length, refl, sym, ap, subst, ◌∙◌, arith}
 use Rattle.std.specs.List.{AllByRecursion}
 use Rattle.std.specs.Ordering.{eq_by_cmp}
-use mir.Syntax.{w64}
 use Rattle.model_values.specs.Value.{Val}
 use Rattle.model_values.specs.Token.{Tok, single, both}
 use Rattle.model_values.specs.Row.{Key, Row, key_cmp, key_exact}
@@ -11,9 +9,8 @@ use Rattle.model_values.specs.Size.{IsTokenOfWidth}
 use Rattle.model_sets.specs.Rows.{HasRow, level, mark}
 use Rattle.model_sets.proofs.RowLaws.{is-Equal, ascending-join}
 use Rattle.model_sets.proofs.ValueLaws.{ascending-of_values}
-use Rattle.model_sets.proofs.UpdateLaws.{remove-ascending}
+use Rattle.model_sets.proofs.UpdateLaws.{remove-ascending, length-remove_delta}
 use Rattle.model_states.specs.Counts.{count_max, count_at, zeros, larger}
-use Rattle.model_states.specs.Register.{later}
 use Rattle.model_states.specs.Content.{Content, join_contents, size_of, row_limit, IsOrdered}
 use Rattle.model_states.specs.Threshold.{set, grow, counter, register}
 use Rattle.model_states.specs.Shape.{HasShape}
@@ -24,10 +21,10 @@ use Rattle.model_graph.specs.Graph.{Kind, OrSet, GSet, Counter, MaxReg, Union, P
 use Rattle.model_graph.specs.Evaluation.{least_of}
 use Rattle.model_graph.specs.Lawful.{shape_of}
 use Rattle.model_graph.specs.Width.{HasWidth}
-use Rattle.model_states.specs.Register.{FitsTop}
+use Rattle.model_states.proofs.RegisterLaws.{fits-later}
 use Rattle.model_wire.specs.Lawful.{IsSourceValue, IsBase, IsRow, AreAtMost, IsSource}
 use Rattle.model_runs.specs.Held.{IsUpdate}
-use Rattle.model_runs.proofs.EachLaws.{each-replicate, each-set, each-join, each-removed, length-removed, each-unite, each-larger}
+use Rattle.model_runs.proofs.EachLaws.{each-replicate, each-set, each-join, each-removed, each-unite, each-larger}
 
 -- what is held of no other kind than a source
 pub source-kind : (nodes : ℕ) (k : Kind) (s : Content) → IsSource nodes k s → IsTrue (is_source k)
@@ -112,14 +109,6 @@ source-least nodes (Map x place ops) e = absurd cc
 source-least nodes (Filter x place ops) e = absurd cc
 source-least nodes (Fold x op place lift) e = absurd cc
 
-top-later : (s t : Option ℤ) → FitsTop s → FitsTop t → FitsTop (later s t)
-top-later None t h g = g
-top-later (Some m) None h g = h
-top-later (Some m) (Some n) h g = choose (int_lt n m) where
-  choose : (b : Bool) → FitsSigned w64 (cond b m n)
-  choose true = h
-  choose false = g
-
 most-larger : (most : ℕ) (s t : List ℕ) → AreAtMost most s → AreAtMost most t → AreAtMost most (larger s t)
 most-larger most s t h g = each-larger (λ c. c ≤ most) (λ c d low high. omega (arith, low, high)) s t h g
 
@@ -132,7 +121,7 @@ source-join nodes GSet s t h g small =
 source-join nodes Counter s t h g small =
     let shape = shape-join (counter nodes) s t (h.1, h.0.0) (g.1, g.0.0) in
     ((shape.1, most-larger count_max s.counts t.counts h.0.1 g.0.1), shape.0)
-source-join nodes MaxReg s t h g small = (top-later s.top t.top h.0 g.0, shape-join register s t h.1 g.1)
+source-join nodes MaxReg s t h g small = (fits-later s.top t.top h.0 g.0, shape-join register s t h.1 g.1)
 source-join nodes (Union x y) s t h g small = absurd h
 source-join nodes (Product x y) s t h g small = absurd h
 source-join nodes (Intersection x y) s t h g small = absurd h
@@ -158,7 +147,7 @@ delta-source nodes p n g x (Add v) s h here member low =
 delta-source nodes p n g x (Remove v) s h here member low =
     let old : IsSource nodes OrSet s = subst (λ (k : Kind). IsSource nodes k s) h.0 here in
     subst (λ (k : Kind). IsSource nodes k (delta (Remove v) s p (n + 1))) (sym h.0)
-    (record { ascending = remove-ascending v s.rows old.0.ascending; few = omega (arith, length-removed v s.rows, old.0.few); each = each-removed nodes v s.rows old.0.each }, refl)
+    (record { ascending = remove-ascending v s.rows old.0.ascending; few = omega (arith, length-remove_delta v s.rows, old.0.few); each = each-removed nodes v s.rows old.0.each }, refl)
 delta-source nodes p n g x (Insert v) s h here member low =
     subst (λ (k : Kind). IsSource nodes k (delta (Insert v) s p (n + 1))) (sym h.0) (record { ascending = refl; few = omega arith; each = (h.1, tt) }, refl)
 delta-source nodes p n g x (Inc by) s h here member low =

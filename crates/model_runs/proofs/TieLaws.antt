@@ -1,6 +1,7 @@
 -- A node tied to a journal: both have the same, the journal is legal, and what else is needed so that this stays.
 use Rattle.std.proofs.Common.{◌≡◌, ℕ, zero, suc, ◌+◌, ◌≤◌, ◌<◌, Bool, true, false, if◌then◌else◌, ◌==◌, nat_lt, List, [], ◌∷◌, ◌++◌, length, slice_index_or, slice_set, Option, Some, None, Result, Ok, Err, refl, sym, ap, subst, arith}
 use Rattle.std.proofs.lemmas.Bool.Decides.{nat_tests}
+use Rattle.std.proofs.lemmas.Bool.{eq-eqb}
 use Rattle.model_states.specs.Counts.{count_at}
 use Rattle.model_states.specs.Content.{Content, size_of, row_limit}
 use Rattle.model_graph.specs.Graph.{Kind, OrSet, GSet, Counter, MaxReg, Union, Product, Intersection, Map, Filter, Fold, Decl}
@@ -84,9 +85,6 @@ ties-step X h a g g' r r' t same lawful brings small few = record { legal = step
 
 -- ---- what changes at one node
 
-same-number : (p : ℕ) → (p == p) ≡ true
-same-number p = grind (arith, nat_tests)
-
 other-number : (p q : ℕ) → (q ≡ p → ⊥) → (p == q) ≡ false
 other-number p q n = choose (p == q) refl where
   choose : (b : Bool) → (p == q) ≡ b → (p == q) ≡ false
@@ -100,7 +98,7 @@ each-node P nodes h peers p e after many old new q low =
     at-set (λ (r : Peer). P q (h q ++ (if p == q then e ∷ [] else [])) r) peers p after no_peer q (omega (arith, low, many)) here there where
       here : q ≡ p → P q (h q ++ (if p == q then e ∷ [] else [])) after
       here is = subst (λ (i : ℕ). P i (h i ++ (if p == i then e ∷ [] else [])) after) (sym is)
-          (subst (λ (b : Bool). P p (h p ++ (if b then e ∷ [] else [])) after) (sym (same-number p)) (new (omega (arith, low, is))))
+          (subst (λ (b : Bool). P p (h p ++ (if b then e ∷ [] else [])) after) (sym ((eq-eqb p p refl))) (new (omega (arith, low, is))))
 
       there : (q ≡ p → ⊥) → P q (h q ++ (if p == q then e ∷ [] else [])) (peer_at peers q)
       there n = subst (λ (b : Bool). P q (h q ++ (if b then e ∷ [] else [])) (peer_at peers q)) (sym (other-number p q n))

@@ -12,9 +12,9 @@ use Rattle.model_graph.specs.Graph.{Decl}
 use Rattle.model_graph.specs.Lawful.{variable_limit}
 use Rattle.model_readings.specs.Tree.{json_of, list_of, number_at, is_word_at, has_items}
 use Rattle.model_readings.specs.Graph.{decl_read, numbered}
-use Rattle.model_readings.specs.Lawful.{Fits, IsGraph, FitsAll}
+use Rattle.model_readings.specs.Lawful.{IsGraph, FitsAll}
 use Rattle.model_readings.proofs.Chains.{passed, or_else_passed, refusing_passed}
-use Rattle.model_readings.proofs.Graphs.{Pushed, early, late, pushed, next-decl_read, graph-push}
+use Rattle.model_readings.proofs.Graphs.{pushed, next-decl_read, graph-push, fits_pushed}
 use Rattle.model_world.specs.Command.{Command, Script}
 use Rattle.model_world.specs.Lawful as world
 use Rattle.model_world.specs.Lawful.{Stage, opening_stage, stage_after, MayBeDone, AreLawful, AsksSmall, AskSmall, IsWithinLimits, node_limit, mark_limit, read_limit, is_mark, is_read}
@@ -95,10 +95,6 @@ graph-after lib nodes p (read t b) P can room h grow = h
 graph-after lib nodes p (await t b) P can room h grow = h
 graph-after lib nodes p (declare d) P can room h grow = grow d (decl_of lib p.stage.graph d) (declared-read lib p.stage.graph d can) (ltb-true _ _ room)
 
-fits-push : (lib : Library) (g : List Decl) (d : Decl) → FitsAll lib g → Fits lib d.kind → (i : ℕ) (e : Decl) → Pushed g d i e → Fits lib e.kind
-fits-push lib g d good fits i e (early at front) = good i e at
-fits-push lib g d good fits i e (late same front) = subst (λ (e : Decl). Fits lib e.kind) same fits
-
 -- ---- all commands
 
 -- what holds between commands
@@ -166,7 +162,7 @@ reached-after lib nodes g p w can a small h =
       asked = asked-push p.commands k h.asked (asks-small lib nodes p h.names w a small);
       graph = λ good. graph-after lib nodes p w IsGraph can beside (h.graph good) (λ d decl read room. graph-push p.stage.graph decl (h.graph good) room (next-decl_read lib p.stage.graph d decl read).next);
       fits = λ good. graph-after lib nodes p w (FitsAll lib) can beside (h.fits good)
-          (λ d decl read room. λ i e at. fits-push lib p.stage.graph decl (h.fits good) (next-decl_read lib p.stage.graph d decl read).fits i e (pushed p.stage.graph decl i e at));
+          (λ d decl read room. λ i e at. fits_pushed lib p.stage.graph decl (h.fits good) (next-decl_read lib p.stage.graph d decl read).fits i e (pushed p.stage.graph decl i e at));
     }
 
 reached-next : (lib : Library) (nodes : ℕ) (g : List Decl) (p : Progress) (d : Data) (next : Progress) → IsSmall d → IsReached lib nodes g p → next_read lib nodes p d ≡ Ok next → IsReached lib nodes g next

@@ -68,7 +68,7 @@ filter-mark p (r ∷ x) v t =
     ∙ subst (λ (m : ℕ). (if p r.0.0 then max (row_mark r v t) m else m) ≡ (if p v then max (row_mark r v t) (mark x v t) else 0)) (sym (filter-mark p x v t)) (filter_step p r v t (mark x v t))
 
 -- Rows that are left of ascending ones ascend.
-below-kept : (test : Row → Bool) (k : Key) (s : List Row) → IsTrue (below_all key_cmp k s) → IsTrue (below_all key_cmp k (filter test s))
+pub below-kept : (test : Row → Bool) (k : Key) (s : List Row) → IsTrue (below_all key_cmp k s) → IsTrue (below_all key_cmp k (filter test s))
 below-kept test k [] h = refl
 below-kept test k (r ∷ s) h =
     let rest = below-kept test k s (and-right (is_lt (key_cmp k r.0)) (below_all key_cmp k s) h) in

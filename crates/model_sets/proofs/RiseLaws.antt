@@ -190,15 +190,6 @@ changed-alike s s' (r ∷ t) same =
     ap (λ (n : ℕ). cond (nat_lt n (level r.1)) (r ∷ changed s t) (changed s t)) (same r.0.0 r.0.1)
     ∙ ap (λ (rest : List Row). cond (nat_lt (mark s' r.0.0 r.0.1) (level r.1)) (r ∷ rest) rest) (changed-alike s s' t same)
 
--- the state of what is new is what is new of the states
-pub news-state : (s t : List Row) → of_rows (changed s t) ≡ changed (of_rows s) (of_rows t)
-news-state s t =
-    same_from_mark (of_rows (changed s t)) (changed (of_rows s) (of_rows t)) (ascending-of_rows (changed s t)) (ascending-changed (of_rows s) (of_rows t) (ascending-of_rows t))
-    (λ v w. mark-of_rows (changed s t) v w ∙ changed-mark s t v w
-    ∙ sym (changed-mark (of_rows s) (of_rows t) v w
-    ∙ ap (λ (m : ℕ). if nat_lt m (mark (of_rows t) v w) then mark (of_rows t) v w else 0) (mark-of_rows s v w)
-    ∙ ap (λ (n : ℕ). if nat_lt (mark s v w) n then n else 0) (mark-of_rows t v w)))
-
 -- rows that rise from what a log says go on with it
 pub rises-behind : (log more : List Row) → AreRises [] log → AreRises log more → AreRises [] (log ++ more)
 rises-behind log more up then_up = rises-append [] log log more (λ v w. omega arith) up then_up

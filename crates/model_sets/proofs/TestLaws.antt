@@ -2,6 +2,7 @@
 use Rattle.std.proofs.Common.{◌≡◌, ℕ, ◌≤◌, Bool, true, false, ◌==◌, nat_le, if◌then◌else◌, IsTrue, List, [], ◌∷◌, refl, sym, ap, subst, arith, ◌↔◌}
 use Rattle.std.proofs.lemmas.Bool.Decides.{nat_tests}
 use Rattle.std.specs.Ordering.{eq_by_cmp}
+use Rattle.std.proofs.lemmas.Bool.{leb-true, le-leb}
 use Rattle.model_values.specs.Value.{Val, val_cmp}
 use Rattle.model_values.specs.Row.{Key, Row, key_cmp, key_exact}
 use Rattle.model_sets.specs.Rows.{level, row_mark, mark, IsAtMost}
@@ -12,17 +13,11 @@ use Rattle.model_sets.proofs.ValueLaws.{held-small}
 use Rattle.model_sets.proofs.EquationLaws.{tied_key}
 use Rattle.model_sets.proofs.AlgebraLaws.{held-here, same-value}
 
-pub le-from-test : (m n : ℕ) → IsTrue (nat_le m n) → m ≤ n
-le-from-test m n h = grind (arith, nat_tests, h)
-
-pub test-from-le : (m n : ℕ) → m ≤ n → IsTrue (nat_le m n)
-test-from-le m n h = grind (arith, nat_tests, h)
-
 at_most-from-test : (s t : List Row) → IsTrue (is_at_most s t) → IsAtMost s t
 at_most-from-test [] t h v w = omega arith
 at_most-from-test (r ∷ s) t h v w = omega (arith, first (eq_by_cmp key_cmp (v, w) r.0) refl, at_most-from-test s t (and-right (nat_le (level r.1) (mark t r.0.0 r.0.1)) (is_at_most s t) h) v w) where
   own : level r.1 ≤ mark t r.0.0 r.0.1
-  own = le-from-test (level r.1) (mark t r.0.0 r.0.1) (and-left (nat_le (level r.1) (mark t r.0.0 r.0.1)) (is_at_most s t) h)
+  own = leb-true (level r.1) (mark t r.0.0 r.0.1) (and-left (nat_le (level r.1) (mark t r.0.0 r.0.1)) (is_at_most s t) h)
 
   first : (b : Bool) → eq_by_cmp key_cmp (v, w) r.0 ≡ b → (if b then level r.1 else 0) ≤ mark t v w
   first true e = subst (λ (k : Key). level r.1 ≤ mark t k.0 k.1) (sym (key_exact (v, w) r.0 (is-Equal (key_cmp (v, w) r.0) e))) own
@@ -32,7 +27,7 @@ test-from-at_most : (s t : List Row) → IsAtMost s t → IsTrue (is_at_most s t
 test-from-at_most [] t h = refl
 test-from-at_most (r ∷ s) t h =
     let own : row_mark r r.0.0 r.0.1 ≡ level r.1 = ap (λ (b : Bool). if b then level r.1 else 0) (tied_key r.0) in
-    and-both (nat_le (level r.1) (mark t r.0.0 r.0.1)) (is_at_most s t) (test-from-le (level r.1) (mark t r.0.0 r.0.1) (omega (arith, own, h r.0.0 r.0.1))) (test-from-at_most s t (λ v w. omega (arith, h v w)))
+    and-both (nat_le (level r.1) (mark t r.0.0 r.0.1)) (is_at_most s t) (le-leb (level r.1) (mark t r.0.0 r.0.1) (omega (arith, own, h r.0.0 r.0.1))) (test-from-at_most s t (λ v w. omega (arith, h v w)))
 
 pub is_at_most-tells : (s t : List Row) → IsTrue (is_at_most s t) ↔ IsAtMost s t
 is_at_most-tells s t = (at_most-from-test s t, test-from-at_most s t)

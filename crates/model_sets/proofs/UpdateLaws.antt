@@ -1,6 +1,7 @@
 -- What an add, a remove and a change do to what is visible.
-use Rattle.std.proofs.Common.{◌≡◌, ◌≢◌, ℕ, ◌≤◌, max, Bool, true, false, cond, if◌then◌else◌, ◌==◌, nat_lt, IsTrue, List, [], ◌∷◌, map, filter, refl, sym, ap, subst, ◌∙◌, arith}
+use Rattle.std.proofs.Common.{◌≡◌, ◌≢◌, ℕ, ◌≤◌, max, Bool, true, false, cond, if◌then◌else◌, ◌==◌, nat_lt, IsTrue, List, [], ◌∷◌, length, map, filter, refl, sym, ap, subst, ◌∙◌, arith}
 use Rattle.std.proofs.lemmas.Bool.Decides.{nat_tests}
+use Rattle.std.proofs.lemmas.List.{length-map}
 use Rattle.std.specs.Ordering.{is_eq, is_lt, eq_by_cmp}
 use Rattle.std.specs.declared.cmp.Ordering.{Ordering}
 use Rattle.std.specs.Cmp.{tied_itself}
@@ -8,6 +9,7 @@ use Rattle.std.specs.FinMap.Entries.{is_sorted, below_all}
 use Rattle.model_values.specs.Value.{Val, val_cmp, val_exact, val_total}
 use Rattle.model_values.specs.Token.{Tok, single}
 use Rattle.model_values.specs.Row.{Key, Row, key_cmp, key_exact}
+use Rattle.model_values.proofs.ListLaws.{length-filter_least}
 use Rattle.model_sets.specs.Rows.{level, row_mark, mark, HasRow, IsAscending, join, IsAtMost, is_of, buried, add_delta, remove_delta}
 use Rattle.model_sets.specs.Values.{is_value, held, IsHeld, visible, row_values}
 use Rattle.model_sets.specs.Equations.{changed}
@@ -72,6 +74,10 @@ buried-ascending (r ∷ s) up =
 
 pub remove-ascending : (v : Val) (s : List Row) → IsAscending s → IsAscending (remove_delta v s)
 remove-ascending v s up = buried-ascending (filter (is_of v) s) (ascending-kept (is_of v) s up)
+
+-- a remove brings no more rows than there are
+pub length-remove_delta : (v : Val) (s : List Row) → length (remove_delta v s) ≤ length s
+length-remove_delta v s = omega (arith, length-map (filter (is_of v) s) buried, length-filter_least (is_of v) s)
 
 -- held from the same live rows
 pub same-held : (s t : List Row) → IsAscending s → IsAscending t → (v : Val) → ((w : Tok) → mark s v w ≡ mark t v w) → held (visible s) v ≡ held (visible t) v

@@ -3,8 +3,8 @@ use Rattle.std.proofs.Common.{◌≡◌, ℕ, zero, suc, ◌+◌, ◌≤◌, ◌
 use Rattle.std.proofs.lemmas.Bool.Decides.{nat_tests}
 use Rattle.std.proofs.lemmas.List.{length-set, get_or-set_same, get_or-set_other}
 use Rattle.std.proofs.lemmas.List.Sums.{sum_by-cons}
+use Rattle.std.proofs.lemmas.Bool.{leb-true, le-leb}
 use Rattle.model_sets.proofs.RowLaws.{and-left, and-right, and-both}
-use Rattle.model_sets.proofs.TestLaws.{le-from-test, test-from-le}
 use Rattle.model_states.specs.Counts.{count_max, count_at, zeros, larger, AreCountsAtMost, are_counts_at_most, inc_delta}
 
 pub count_at-larger : (s t : List ℕ) (node : ℕ) → count_at (larger s t) node ≡ max (count_at s node) (count_at t node)
@@ -56,15 +56,15 @@ larger-at_most s t e a = same_from_counts (larger s t) t (omega (arith, e, lengt
 
 counts-from-test : (s t : List ℕ) → IsTrue (are_counts_at_most s t) → AreCountsAtMost s t
 counts-from-test [] t h node = omega arith
-counts-from-test (c ∷ s) [] h zero = le-from-test c 0 (and-left (nat_le c 0) (are_counts_at_most s []) h)
+counts-from-test (c ∷ s) [] h zero = leb-true c 0 (and-left (nat_le c 0) (are_counts_at_most s []) h)
 counts-from-test (c ∷ s) [] h (suc node) = counts-from-test s [] (and-right (nat_le c 0) (are_counts_at_most s []) h) node
-counts-from-test (c ∷ s) (d ∷ t) h zero = le-from-test c d (and-left (nat_le c d) (are_counts_at_most s t) h)
+counts-from-test (c ∷ s) (d ∷ t) h zero = leb-true c d (and-left (nat_le c d) (are_counts_at_most s t) h)
 counts-from-test (c ∷ s) (d ∷ t) h (suc node) = counts-from-test s t (and-right (nat_le c d) (are_counts_at_most s t) h) node
 
 test-from-counts : (s t : List ℕ) → AreCountsAtMost s t → IsTrue (are_counts_at_most s t)
 test-from-counts [] t a = refl
-test-from-counts (c ∷ s) [] a = and-both (nat_le c 0) (are_counts_at_most s []) (test-from-le c 0 (a 0)) (test-from-counts s [] (λ node. a (suc node)))
-test-from-counts (c ∷ s) (d ∷ t) a = and-both (nat_le c d) (are_counts_at_most s t) (test-from-le c d (a 0)) (test-from-counts s t (λ node. a (suc node)))
+test-from-counts (c ∷ s) [] a = and-both (nat_le c 0) (are_counts_at_most s []) (le-leb c 0 (a 0)) (test-from-counts s [] (λ node. a (suc node)))
+test-from-counts (c ∷ s) (d ∷ t) a = and-both (nat_le c d) (are_counts_at_most s t) (le-leb c d (a 0)) (test-from-counts s t (λ node. a (suc node)))
 
 pub counts-test : (s t : List ℕ) → IsTrue (are_counts_at_most s t) ↔ AreCountsAtMost s t
 counts-test s t = (counts-from-test s t, test-from-counts s t)

@@ -1,10 +1,11 @@
 -- The laws of registers: each by the numbers that they reached.
-use Rattle.std.proofs.Common.{◌≡◌, ◌≤◌, max, ℤ, ◌≤ℤ◌, int_le, Bool, true, false, if◌then◌else◌, IsTrue, ◌↔◌, Option, Some, None, refl, sym, ap, ◌∙◌, arith}
+use Rattle.std.proofs.Common.{◌≡◌, ◌≤◌, max, ℤ, ◌≤ℤ◌, int_le, int_lt, Bool, true, false, cond, FitsSigned, if◌then◌else◌, IsTrue, ◌↔◌, Option, Some, None, refl, sym, ap, ◌∙◌, arith}
 use Rattle.std.proofs.lemmas.Int.{ints, clamps}
 use Rattle.std.specs.Int.{int_max}
+use mir.Syntax.{w64}
 use Rattle.std.specs.Int.Signed.{le_z_yes}
 use Rattle.model_sets.proofs.RowLaws.{as_T, as_true}
-use Rattle.model_states.specs.Register.{later, IsNotLater, is_not_later, reaches}
+use Rattle.model_states.specs.Register.{later, IsNotLater, is_not_later, reaches, FitsTop}
 
 int_le-yes : (m n : ℤ) → int_le m n ≡ true → m ≤ℤ n
 int_le-yes m n e = le_z_yes (as_T (int_le m n) e)
@@ -88,3 +89,11 @@ pub not_later-words : (s t : Option ℤ) → IsNotLater s t ↔ ((n : ℤ) → r
 not_later-words s t = (not_later-reaches s t, reaches-not_later s t)
 
 pub ruleset register_laws = (reaches-later, not_later-words, same_from_reaches, register-test)
+
+pub fits-later : (s t : Option ℤ) → FitsTop s → FitsTop t → FitsTop (later s t)
+fits-later None t p q = q
+fits-later (Some m) None p q = p
+fits-later (Some m) (Some n) p q = choose (int_lt n m) where
+  choose : (b : Bool) → FitsSigned w64 (cond b m n)
+  choose true = p
+  choose false = q

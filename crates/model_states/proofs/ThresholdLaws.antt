@@ -1,7 +1,7 @@
 -- The thresholds in words, and that what meets one still does after it grew.
 use Rattle.std.proofs.Common.{◌≡◌, ◌≢◌, ℕ, suc, ◌+◌, ◌≤◌, Bool, true, false, not, ◌&&◌, ◌||◌, if◌then◌else◌, ◌==◌, nat_le, IsTrue, List, [], ◌∷◌, length, sum, refl, sym, ap, subst, ◌∙◌, arith, ◌↔◌, ◌⊎◌, inl, inr}
 use Rattle.std.proofs.lemmas.Bool.Decides.{nat_tests}
-use Rattle.std.proofs.lemmas.Bool.{or_left, or_right}
+use Rattle.std.proofs.lemmas.Bool.{or_left, or_right, false≢true}
 use Rattle.std.specs.List.{list_any, list_all}
 use Rattle.std.specs.Ordering.{is_eq, is_lt, eq_by_cmp, ordering_reverse}
 use Rattle.std.specs.declared.cmp.Ordering.TheVariants.{Less, Equal, Greater}
@@ -44,9 +44,6 @@ words-all p (w ∷ vs) h =
     and-both (p w) (list_all p vs) (h w (omega (arith, held-here w, held-small vs w)))
     (words-all p vs (λ v held. h v (omega (arith, held, held-small (w ∷ []) v))))
 
-clash : false ≡ true → ⊥
-clash e = cc
-
 is_of-itself : (r : Row) → IsTrue (is_of r.0.0 r)
 is_of-itself r = ap is_eq (tied_itself val_total r.0.0)
 
@@ -57,7 +54,7 @@ own-mark r s = omega (arith, own) where
 
 -- a value has a row where one of the rows is of it
 any-row : (s : List Row) (v : Val) → IsTrue (list_any (is_of v) s) → (t : Tok) × HasRow s v t
-any-row [] v h = absurd (clash h)
+any-row [] v h = absurd (false≢true h)
 any-row (r ∷ s) v h = choose (λ g. any-row s v g) (or-cases (is_of v r) (list_any (is_of v) s) h) where
   some : (d : Bool) → 1 ≤ level d
   some true = omega arith
@@ -79,11 +76,11 @@ row-any (r ∷ s) v t h = choose (λ g. row-any s v t g) (eq_by_cmp key_cmp (v, 
 
 -- and a dead row where one of them is dead
 any-dead : (s : List Row) (v : Val) → IsTrue (list_any (λ r. is_of v r && r.1) s) → (t : Tok) × IsDeadIn s v t
-any-dead [] v h = absurd (clash h)
+any-dead [] v h = absurd (false≢true h)
 any-dead (r ∷ s) v h = choose (λ g. any-dead s v g) (or-cases (is_of v r && r.1) (list_any (λ r. is_of v r && r.1) s) h) where
   two : (d : Bool) → d ≡ true → 2 ≤ level d
   two true e = omega arith
-  two false e = absurd (clash e)
+  two false e = absurd (false≢true e)
 
   choose : (IsTrue (list_any (λ r. is_of v r && r.1) s) → (t : Tok) × IsDeadIn s v t) → IsTrue (is_of v r && r.1) ⊎ IsTrue (list_any (λ r. is_of v r && r.1) s) → (t : Tok) × IsDeadIn (r ∷ s) v t
   choose later (inl e) = (
@@ -138,8 +135,8 @@ above-there t s h = (
   λ back. wrong (is_content_at_most s t) (and-right (is_content_at_most t s) (not (is_content_at_most s t)) h) (test-from-at_most s t back),
 ) where
   wrong : (b : Bool) → IsTrue (not b) → IsTrue b → ⊥
-  wrong true f g = clash f
-  wrong false f g = clash g
+  wrong true f g = false≢true f
+  wrong false f g = false≢true g
 
 there-above : (t s : Content) → IsContentAtMost t s → (IsContentAtMost s t → ⊥) → IsTrue (is_content_at_most t s && not (is_content_at_most s t))
 there-above t s up down = and-both (is_content_at_most t s) (not (is_content_at_most s t)) (test-from-at_most t s up) (choose (is_content_at_most s t) refl) where

@@ -1,1 +1,3 @@
 mod Offences
+pub mod ListLaws
+pub mod SizeLaws

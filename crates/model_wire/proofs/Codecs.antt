@@ -1,11 +1,12 @@
 -- A reader beside the spelling that it reads: what is read is spelled so, and what is spelled so is read again. One lemma for each way to put readers together.
-use Rattle.std.proofs.Common.{◌≡◌, ℕ, zero, suc, ◌+◌, ◌<◌, ◌≤◌, Bool, true, false, cond, ltb, List, [], ◌∷◌, ◌++◌, length, take, drop, Result, Ok, Err, refl, sym, ap, subst, ◌∙◌, append_assoc, arith, inl, inr}
+use Rattle.std.proofs.Common.{◌≡◌, ℕ, zero, suc, ◌+◌, ◌<◌, ◌≤◌, Bool, true, false, cond, ltb, List, [], ◌∷◌, ◌++◌, length, take, drop, Ok, Err, refl, sym, ap, subst, ◌∙◌, append_assoc, arith, inl, inr}
 use Rattle.std.specs.List.{flat_map}
 use Rattle.std.specs.Int.{Width, w8, w16, w32, w64, byte_len, from_be_bytes, to_be_bytes}
 use Rattle.std.proofs.lemmas.Bool.{cases_lt, ltb-false, le-ltb}
 use Rattle.std.proofs.lemmas.List.{take_at, drop_at, take-append-drop, length-append, length-take, get_or-drop, get_or-take, get_or_past}
 use Rattle.std.proofs.lemmas.Nat.{be_bytes_2, be_bytes_4, be_bytes_8, from_be_bytes-to_be_bytes_2, from_be_bytes-to_be_bytes_4, from_be_bytes-to_be_bytes_8}
 use Rattle.model_graph.specs.Chain.{◌>>=◌}
+pub use Rattle.model_graph.proofs.ChainLaws.{Passed, passed}
 use Rattle.model_wire.specs.declared.wire_why.WireWhy.{WireWhy}
 use Rattle.model_wire.specs.declared.wire_why.WireWhy.TheVariants as why
 pub use Rattle.model_wire.specs.Lawful.{IsBytes}
@@ -32,16 +33,6 @@ takes_both a x b y c p q = record { parts = p.parts ∙ ap (λ (t : List ℕ). x
 pub record IsCodec (X : Type 0) (Has : X → Type 0) (spell : X → List ℕ) (read : Reader X) : Type 0 where
   pub took : (bytes : List ℕ) (x : X × List ℕ) → IsBytes bytes → read bytes ≡ Ok x → Takes bytes (spell x.0) x.1 × Has x.0
   pub again : (x : X) (rest : List ℕ) → Has x → read (spell x ++ rest) ≡ Ok (x, rest)
-
--- the first step of a chain passed, and the others went on from it
-pub record Passed {A B E : Type 0} (r : Result A E) (f : A → Result B E) (y : B) : Type 0 where
-  pub value : A
-  pub first : r ≡ Ok value
-  pub then : f value ≡ Ok y
-
-pub passed : {A B E : Type 0} (r : Result A E) (f : A → Result B E) (y : B) → (r >>= f) ≡ Ok y → Passed r f y
-passed (Ok x) f y e = record { value = x; first = refl; then = e }
-passed (Err e) f y h = cc
 
 pub not_short : {X E : Type 0} (b : Bool) (e : E) (x y : X) → cond b (Err e) (Ok x) ≡ Ok y → (b ≡ false) × (x ≡ y)
 not_short true e x y h = absurd cc

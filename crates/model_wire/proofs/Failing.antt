@@ -1,6 +1,6 @@
 -- A reader beside the relation that says where it fails: it fails there and nowhere else. One lemma for each way to put readers together.
 use Rattle.std.proofs.Common.{◌≡◌, inl, inr, ℕ, zero, suc, ◌+◌, ◌-◌, ◌<◌, ◌≤◌, Bool, true, false, cond, ltb, List, [], ◌∷◌, ◌++◌, length, take, drop, Result, Ok, Err, refl, sym, ap, subst, ◌∙◌, append_assoc, arith}
-use Rattle.std.proofs.lemmas.Bool.{ltb-true, lt-ltb}
+use Rattle.std.proofs.lemmas.Bool.{ltb-true, lt-ltb, false_from_ne_true, both_ways}
 use Rattle.std.proofs.lemmas.List.{length-append}
 use Rattle.model_graph.specs.Chain.{◌>>=◌}
 use Rattle.model_wire.specs.declared.wire_why.WireWhy.{WireWhy}
@@ -122,13 +122,6 @@ test_failed : {X E : Type 0} (b : Bool) (x : X) (d e : E) → cond b (Ok x) (Err
 test_failed true x d e h = absurd cc
 test_failed false x d e h = (refl, cc)
 
-not-both : (b : Bool) → b ≡ false → b ≡ true → ⊥
-not-both b f t = absurd cc
-
-not-true : (b : Bool) → (b ≡ true → ⊥) → b ≡ false
-not-true true h = absurd (h refl)
-not-true false h = refl
-
 pub tested_fail : (X : Type 0) (Has : X → Type 0) (spell : X → List ℕ) (Where : Failure) (read : Reader X) (test : X → Bool) (for : WireWhy)
     → IsCodec X Has spell read → FailsAs X read Where → FailsAs X (tested read test for) (EitherFails Where (IsRefused Has spell (λ x. test x ≡ true) for))
 tested_fail X Has spell Where read test for codec first = record { told = told; again = again } where
@@ -141,7 +134,7 @@ tested_fail X Has spell Where read test for codec first = record { told = told; 
           let s = codec.took bytes x fits k in
           let t = test_failed (test x.0) x (length bytes, for) e l in
           subst (Told (EitherFails Where (IsRefused Has spell (λ x. test x ≡ true) for)) bytes) t.1
-          (record { few = omega arith; fails = inr (record { item = x.0; is = s.1; more = x.1; parts = s.0.parts; may_not = not-both (test x.0) t.0; at_front = omega arith; cause = refl }) })
+          (record { few = omega arith; fails = inr (record { item = x.0; is = s.1; more = x.1; parts = s.0.parts; may_not = both_ways (test x.0) t.0; at_front = omega arith; cause = refl }) })
 
   again : (bytes : List ℕ) (place : ℕ) (w : WireWhy) → EitherFails Where (IsRefused Has spell (λ x. test x ≡ true) for) bytes place w → Fails (tested read test for) bytes place w
   again bytes place w (inl f) = let a = first.again bytes place w f in record { within = a.within; refused = ap (λ (r : Reading X). r >>= if_passes test (length bytes, for)) a.refused }
@@ -149,7 +142,7 @@ tested_fail X Has spell Where read test for codec first = record { told = told; 
     within = omega (arith, f.at_front);
     refused =
         ap (λ (r : Reading X). r >>= if_passes test (length bytes, for)) (ap read f.parts ∙ codec.again f.item f.more f.is)
-        ∙ ap (λ (b : Bool). cond b (pure f.item f.more) (error X (length bytes) for)) (not-true (test f.item) f.may_not)
+        ∙ ap (λ (b : Bool). cond b (pure f.item f.more) (error X (length bytes) for)) (false_from_ne_true (test f.item) f.may_not)
         ∙ moved X (length bytes) (length bytes - place) for (omega (arith, f.at_front)) ∙ ap (λ (v : WireWhy). error X (length bytes - place) v) (sym f.cause);
   }
 

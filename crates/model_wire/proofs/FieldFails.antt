@@ -5,10 +5,11 @@ use Rattle.std.specs.Str.{is_utf8}
 use Rattle.std.proofs.lemmas.Bool.{eqb-true, eqb-false, ne_eqb}
 use Rattle.std.proofs.lemmas.List.{length-append}
 use Rattle.model_graph.specs.Chain.{◌>>=◌}
-use Rattle.model_values.specs.Value.{Val, int, text, pair}
+use Rattle.model_values.specs.Value.{Val}
 use Rattle.model_values.specs.Size.{leaves, text_bytes}
 use Rattle.model_values.specs.Token.{Tok}
 use Rattle.model_values.specs.Row.{Row}
+use Rattle.model_values.proofs.SizeLaws.{leaves-some}
 use Rattle.model_messages.specs.Spelling.{spelled_value}
 use Rattle.model_wire.specs.declared.wire_why.WireWhy.{WireWhy}
 use Rattle.model_wire.specs.declared.wire_why.WireWhy.TheVariants as why
@@ -72,11 +73,6 @@ under pairs room tag bytes rest e Where is into t =
     let long : length bytes ≡ suc (length rest) = ap (λ (b : List ℕ). length b) is in
     record { few = omega (arith, long, t.few); fails = elsewhere pairs room (tag ∷ rest) bytes (suc (length rest - e.0)) (length bytes - e.0) e.1 (sym is) (omega (arith, long, t.few)) (into (length rest - e.0) e.1 t.fails) }
 
-some-leaf : (v : Val) → 1 ≤ leaves v
-some-leaf (int n) = omega arith
-some-leaf (text t) = omega arith
-some-leaf (pair a b) = omega (arith, some-leaf a)
-
 abbrev IsToldTo : ℕ → Type 0
 IsToldTo depth = (pairs room : ℕ) (bytes : List ℕ) (e : ℕ × WireWhy) → pairs < depth → room < 65536 → IsBytes bytes → part_at depth pairs room bytes ≡ Err e → Told (FailsPart pairs room) bytes e
 
@@ -117,7 +113,7 @@ pair_told depth pairs room rest e shallower some deep small fits h =
           let spare : a.0.room ≡ room - text_bytes a.0.value = omega (arith, t.1.room_left) in
           second_told pairs room rest e a.0.value a.0.pairs a.0.room a.1 some t.0.parts
           (record { few = omega (arith, t.1.pairs_left); small = omega (arith, t.1.room_left); parts = t.1.parts }) left spare
-          (shallower a.0.pairs a.0.room a.1 e (omega (arith, left, some, deep, some-leaf a.0.value)) (omega (arith, spare, small)) t.0.behind
+          (shallower a.0.pairs a.0.room a.1 e (omega (arith, left, some, deep, leaves-some a.0.value)) (omega (arith, spare, small)) t.0.behind
           (made_told Part Part (pair_part a.0.value) (part_at depth a.0.pairs a.0.room) a.1 e l))
     ]
 
@@ -232,7 +228,7 @@ part_refused (in_text f) (suc depth) deep small = text_refused depth _ _ _ _ _ (
 part_refused (in_first f) zero deep small = absurd (omega (arith, deep))
 part_refused (in_first f) (suc depth) deep small = first_refused depth _ _ _ _ _ (part_refused f depth (omega (arith, deep)) small)
 part_refused (in_second v is f) zero deep small = absurd (omega (arith, deep))
-part_refused (in_second v is f) (suc depth) deep small = second_refused depth _ _ _ v _ _ is (omega (arith, deep)) small (part_refused f depth (omega (arith, deep, some-leaf v)) (omega (arith, small)))
+part_refused (in_second v is f) (suc depth) deep small = second_refused depth _ _ _ v _ _ is (omega (arith, deep)) small (part_refused f depth (omega (arith, deep, leaves-some v)) (omega (arith, small)))
 
 pub value_fail : FailsAs Val value_at FailsValue
 unfolding value_at

@@ -217,13 +217,13 @@ known_read v m h has =
     let one : message_at (spelled_letter (v, m)) ≡ Ok ((v, m), []) = ap message_at (sym (append-nil (spelled_letter (v, m)))) ∙ letter_codec.again (v, m) [] (h, has) in
     ap (λ (b : List ℕ). message_at b >>= nothing_behind) (letter_spelled v m h) ∙ ap (λ (r : Reading Letter). r >>= nothing_behind) one
 
-kept : (bytes : List ℕ) (r : Result Message (ℕ × WireWhy)) (m : Message) → decoded_from bytes r ≡ Ok m → r ≡ Ok m
-kept bytes (Ok n) m e = e
-kept bytes (Err x) m e = absurd cc
+pub decoded_from-ok : {X : Type 0} (bytes : List ℕ) (r : Result X (ℕ × WireWhy)) (x : X) → decoded_from bytes r ≡ Ok x → r ≡ Ok x
+decoded_from-ok bytes (Ok y) x e = e
+decoded_from-ok bytes (Err why) x e = absurd cc
 
 pub decoded_known : (bytes : List ℕ) (m : Message) → IsBytes bytes → decoded bytes ≡ Ok m → IsMessage m × IsSpelledSo m bytes
 unfolding decoded
-decoded_known bytes m fits e = read_known bytes m fits (kept bytes (read_message bytes) m e)
+decoded_known bytes m fits e = read_known bytes m fits (decoded_from-ok bytes (read_message bytes) m e)
 
 pub known_decoded : (v : ℕ) (m : Message) → is_version v ≡ true → IsMessage m → decoded (spelled_in v m) ≡ Ok m
 unfolding decoded

@@ -24,7 +24,7 @@ Answer = Result Message (ℕ × WireWhy)
 abbrev refusal : ℕ × WireWhy → Answer
 refusal e = Err e
 
-refusal_is : (e f : ℕ × WireWhy) → refusal e ≡ refusal f → e ≡ f
+pub refusal_is : (e f : ℕ × WireWhy) → refusal e ≡ refusal f → e ≡ f
 refusal_is e f h = cc
 
 -- the same refusal, with so many bytes more behind it

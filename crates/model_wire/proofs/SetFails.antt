@@ -9,6 +9,7 @@ use Rattle.std.proofs.lemmas.List.{map-id, length-append}
 use Rattle.model_values.specs.Value.{Val, val_cmp, val_total}
 use Rattle.model_values.specs.Token.{Tok, tok_cmp, tok_total}
 use Rattle.model_values.specs.Row.{Row, Key, key_cmp, key_total}
+use Rattle.model_values.proofs.ListLaws.{each-push}
 use Rattle.model_sets.specs.Rows.{IsAscending}
 use Rattle.model_sets.specs.Values.{AreAscending}
 use Rattle.model_messages.specs.Spelling.{Group, spelled_value, spelled_group}
@@ -26,12 +27,9 @@ use Rattle.model_wire.proofs.OrderLaws.{rise_sorted, rise_each, sorted_rise}
 use Rattle.model_wire.proofs.GroupLaws as groups
 use Rattle.model_wire.proofs.Failing.{FailsAs, made_fail, both_fail, tested_fail, after, FailsNext, list_fail, Implies, fail_as, either_as, refused_as, behind_as, as_it_is}
 use Rattle.model_wire.proofs.FieldFails.{numbered_fail, value_fail, token_fail, row_fail}
+use Rattle.model_wire.proofs.SetLaws.{same_row, entry}
 
 -- ---- one item more behind the others
-
-each_more : (A : Type 0) (Has : A → Type 0) (xs : List A) (x : A) → AllByRecursion Has xs → Has x → AllByRecursion Has (xs ++ x ∷ [])
-each_more A Has [] x h k = (k, tt)
-each_more A Has (y ∷ ys) x h k = (h.0, each_more A Has ys x h.1 k)
 
 have_more : (S X : Type 0) (Has : S → X → Type 0) (next : S → X → S) (s : S) (xs : List X) (x : X) → AllHave S X Has next s xs → Has (after next s xs) x → AllHave S X Has next s (xs ++ x ∷ [])
 have_more S X Has next s [] x h k = (k, tt)
@@ -69,7 +67,7 @@ module _ (A K X : Type 0) (entry : A → K × X) (order : K → K → Ordering) 
   above_all xs x h has above = (are_sorted (xs ++ x ∷ []) (have_more (Option A) A Stands latest None xs x h (has, above))).0
 
   pub above_last : (xs : List A) (x : A) → Rising xs → Has x → Sorted (xs ++ x ∷ []) → is_above by_key (after latest None xs) x ≡ true
-  above_last xs x h has sorted = (has_last (Option A) A Stands latest None xs x (are_rising (xs ++ x ∷ []) (sorted, each_more A Has xs x (are_sorted xs h).1 has))).1
+  above_last xs x h has sorted = (has_last (Option A) A Stands latest None xs x (are_rising (xs ++ x ∷ []) (sorted, each-push Has xs x (are_sorted xs h).1 has))).1
 
   -- an item behind others that can't be read, or is none above them
   abbrev pub FailsAfter : Failure → (A → List ℕ) → Option A → Failure
@@ -99,9 +97,6 @@ among_as A n Are Are' spell Where Has Above Above' are above =
 
 -- ---- version 1
 
-abbrev same_row : Row → Row
-same_row r = r
-
 pub single_rows_fail : (nodes : ℕ) → IsNodes nodes → FailsAs (List Row) (single_rows_at nodes) (FailsSingleRows nodes)
 unfolding single_rows_at
 single_rows_fail nodes n =
@@ -114,17 +109,14 @@ single_rows_fail nodes n =
 
 -- ---- elements
 
-abbrev value_entry : Val → Val × Unit {0}
-value_entry v = (v, tt)
-
 pub elements_fail : FailsAs (List Val) elements_at FailsElements
 unfolding elements_at
 elements_fail =
     numbered_fail (List Val) w32 4294967296 wide32 0 65536 why.Range (λ m. list_at value_after_at latest m None) _ (omega arith)
-    (λ m range. fail_as (List Val) (list_at value_after_at latest m None) _ _ (sorted_fail Val Val (Unit {0}) value_entry val_cmp val_total IsSourceValue spelled_value FailsValue value_at value_codec value_fail m)
-    (among_as Val m (AreSorted Val Val (Unit {0}) value_entry val_cmp val_total IsSourceValue) AreElements spelled_value FailsValue IsSourceValue (λ vs v. Sorted Val Val (Unit {0}) value_entry val_cmp val_total IsSourceValue (vs ++ v ∷ [])) (λ vs v. AreAscending (vs ++ v ∷ []))
+    (λ m range. fail_as (List Val) (list_at value_after_at latest m None) _ _ (sorted_fail Val Val (Unit {0}) entry val_cmp val_total IsSourceValue spelled_value FailsValue value_at value_codec value_fail m)
+    (among_as Val m (AreSorted Val Val (Unit {0}) entry val_cmp val_total IsSourceValue) AreElements spelled_value FailsValue IsSourceValue (λ vs v. Sorted Val Val (Unit {0}) entry val_cmp val_total IsSourceValue (vs ++ v ∷ [])) (λ vs v. AreAscending (vs ++ v ∷ []))
     (λ vs few h. record { ascending = h.0; few = omega (arith, few, range.1); each = h.1 }) (λ vs v h. h))
-    (among_as Val m AreElements (AreSorted Val Val (Unit {0}) value_entry val_cmp val_total IsSourceValue) spelled_value FailsValue IsSourceValue (λ vs v. AreAscending (vs ++ v ∷ [])) (λ vs v. Sorted Val Val (Unit {0}) value_entry val_cmp val_total IsSourceValue (vs ++ v ∷ []))
+    (among_as Val m AreElements (AreSorted Val Val (Unit {0}) entry val_cmp val_total IsSourceValue) spelled_value FailsValue IsSourceValue (λ vs v. AreAscending (vs ++ v ∷ [])) (λ vs v. Sorted Val Val (Unit {0}) entry val_cmp val_total IsSourceValue (vs ++ v ∷ []))
     (λ vs few h. (h.ascending, h.each)) (λ vs v h. h)))
 
 -- ---- tokens of a value
@@ -189,7 +181,7 @@ groups_are : (nodes : ℕ) (gs : List Group) → groups.GroupsHave nodes (None, 
 groups_are nodes gs h =
     let rise = groups.groups_rise nodes (None, 0) gs h in
     record {
-      ascending = (are_sorted Val Val (Unit {0}) value_entry val_cmp val_total IsSourceValue (values_of gs) (values_rise nodes None gs rise)).0;
+      ascending = (are_sorted Val Val (Unit {0}) entry val_cmp val_total IsSourceValue (values_of gs) (values_rise nodes None gs rise)).0;
       few = omega (arith, rows_tokens gs, groups.groups_fit nodes (None, 0) gs (omega arith) h);
       each = groups_each nodes None gs rise;
     }
@@ -197,7 +189,7 @@ groups_are nodes gs h =
 groups_have : (nodes : ℕ) (gs : List Group) → AreGroups nodes gs → groups.GroupsHave nodes (None, 0) gs
 groups_have nodes gs h =
     groups.groups_have nodes (None, 0) gs
-    (groups_rise nodes None gs (are_rising Val Val (Unit {0}) value_entry val_cmp val_total IsSourceValue (values_of gs) (h.ascending, sources_each nodes gs h.each)) h.each)
+    (groups_rise nodes None gs (are_rising Val Val (Unit {0}) entry val_cmp val_total IsSourceValue (values_of gs) (h.ascending, sources_each nodes gs h.each)) h.each)
     (omega (arith, rows_tokens gs, h.few))
 
 -- what is known behind groups
@@ -226,13 +218,13 @@ group_fail nodes n s =
 
 above_there : (nodes : ℕ) (gs : List Group) → AreGroups nodes gs → (v : Val) → IsSourceValue v → is_above val_cmp (after after_group (None, 0) gs).0 v ≡ true → IsAboveAll gs v
 above_there nodes gs h v is above =
-    above_all Val Val (Unit {0}) value_entry val_cmp val_total IsSourceValue (values_of gs) v (are_rising Val Val (Unit {0}) value_entry val_cmp val_total IsSourceValue (values_of gs) (h.ascending, sources_each nodes gs h.each)) is
+    above_all Val Val (Unit {0}) entry val_cmp val_total IsSourceValue (values_of gs) v (are_rising Val Val (Unit {0}) entry val_cmp val_total IsSourceValue (values_of gs) (h.ascending, sources_each nodes gs h.each)) is
     (ap (λ (o : Option Val). is_above val_cmp o v) (sym (known_value (None, 0) gs)) ∙ above)
 
 above_back : (nodes : ℕ) (gs : List Group) → AreGroups nodes gs → (v : Val) → IsSourceValue v → IsAboveAll gs v → is_above val_cmp (after after_group (None, 0) gs).0 v ≡ true
 above_back nodes gs h v is above =
     ap (λ (o : Option Val). is_above val_cmp o v) (known_value (None, 0) gs)
-    ∙ above_last Val Val (Unit {0}) value_entry val_cmp val_total IsSourceValue (values_of gs) v (are_rising Val Val (Unit {0}) value_entry val_cmp val_total IsSourceValue (values_of gs) (h.ascending, sources_each nodes gs h.each)) is above
+    ∙ above_last Val Val (Unit {0}) entry val_cmp val_total IsSourceValue (values_of gs) v (are_rising Val Val (Unit {0}) entry val_cmp val_total IsSourceValue (values_of gs) (h.ascending, sources_each nodes gs h.each)) is above
 
 tokens_as : (nodes m n : ℕ) → m ≡ n → Implies (FailsTokens nodes m) (FailsTokens nodes n)
 tokens_as nodes m n is bytes place w f = subst (λ (k : ℕ). FailsTokens nodes k bytes place w) is f

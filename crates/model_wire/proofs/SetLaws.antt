@@ -25,7 +25,7 @@ RowsRise nodes before rows = AllHave (Option Row) Row (λ s. HasTested Row (IsRo
 abbrev RowsHad : ℕ → List Row → Type 0
 RowsHad nodes = HasCounted ℕ (List Row) (HasRange 4294967296 0 65536) length (λ n. HasMany (Option Row) Row (λ s. HasTested Row (IsRow nodes) (is_above row_cmp s)) latest n None)
 
-abbrev same_row : Row → Row
+abbrev pub same_row : Row → Row
 same_row r = r
 
 pub rows_known : (nodes : ℕ) (before : Option Row) (rows : List Row) → length rows ≤ 65536 → RowsRise nodes before rows → AreRows nodes rows
@@ -55,7 +55,7 @@ single_rows_codec nodes n =
 abbrev ElementsHad : List Val → Type 0
 ElementsHad = HasCounted ℕ (List Val) (HasRange 4294967296 0 65536) length (λ n. HasMany (Option Val) Val (λ s. HasTested Val IsSourceValue (is_above val_cmp s)) latest n None)
 
-abbrev entry : Val → Val × Unit {0}
+abbrev pub entry : Val → Val × Unit {0}
 entry v = (v, tt)
 
 pub elements_codec : IsCodec (List Val) AreElements spelled_values elements_at

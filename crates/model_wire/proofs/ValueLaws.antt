@@ -9,6 +9,7 @@ use Rattle.model_values.specs.Value.{Val, int, text, pair}
 use Rattle.model_values.specs.Size.{leaves, text_bytes}
 use Rattle.model_messages.specs.Spelling.{signed_number, spelled_value}
 use Rattle.std.proofs.lemmas.Bool.{and_parts, and_from, leb-true, le-leb, eqb-true, eqb-false, ne_eqb}
+use Rattle.model_values.proofs.SizeLaws.{leaves-some}
 use Rattle.model_wire.specs.declared.wire_why.WireWhy.TheVariants as why
 use Rattle.model_wire.specs.Reader.{Reading, Reader, bytes_at, tested, counted, remade, made, number_at, ranged_at, kind_at, between}
 use Rattle.model_wire.specs.Value.{signed_at, text_at, Part, part, int_part, text_part, pair_part, part_at, part_value, value_at}
@@ -138,11 +139,6 @@ part_took (suc depth) pairs room bytes p fits e =
       ]
     ]
 
-leaves_some : (v : Val) → 1 ≤ leaves v
-leaves_some (int n) = omega arith
-leaves_some (text t) = omega arith
-leaves_some (pair a b) = omega (arith, leaves_some a)
-
 -- what is spelled so is read, with so much left of the budgets
 abbrev pub Again : Val → Type 0
 Again v = (depth pairs room p q : ℕ) (rest : List ℕ) → pairs < depth → room < 65536 → leaves v + p ≡ pairs + 1 → text_bytes v + q ≡ room → IsSpellable v → part_at depth pairs room (spelled_value v ++ rest) ≡ Ok (part v p q, rest)
@@ -168,8 +164,8 @@ pair_again : (a b : Val) → Again a → Again b → Again (pair a b)
 unfolding part_at
 pair_again a b front back zero pairs room p q rest deep small has-pairs has-room fits = absurd (omega arith)
 pair_again a b front back (suc depth) pairs room p q rest deep small has-pairs has-room fits =
-    let some = leaves_some a in
-    let more = leaves_some b in
+    let some = leaves-some a in
+    let more = leaves-some b in
     let not-none : eqb pairs 0 ≡ false = ne_eqb pairs 0 (λ e. absurd (omega (arith, some, more))) in
     rw (
       append_assoc (spelled_value a) (spelled_value b) rest,

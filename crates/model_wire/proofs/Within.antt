@@ -17,6 +17,7 @@ use Rattle.model_wire.specs.Reader.{Reading, Reader, bytes_at, nothing_at, if_pa
 use Rattle.model_wire.specs.Value.{signed_at, text_at, Part, int_part, text_part, pair_part, part_at, part_value, value_at, token_parts_at, token_made, token_at, row_made, row_at, is_above, mark_cmp, latest}
 use Rattle.model_wire.specs.Message.{row_limit, update_limit, source_limit, row_after_at, single_rows_at, token_after_at, tokens_at, Before, value_after_at, group_made, group_at, after_group, rows_of, groups_at, grouped_rows_at, rows_at, elements_at, limited_at, nothing_more, numbers_at, no_number, some_number, top_behind, top_at, Held, held_set, held_elements, held_counts, held_top, held_behind, held_at, name_at, source_made, source_at, any_source_at, nothing_of_sources, sources_at, nodes_at, counts_at, message_made, body_at, is_version, version_at, message_at, nothing_behind, read_message, placed, decoded_from, decoded}
 use Rattle.model_wire.proofs.ValueLaws.{pair_behind, behind_tag}
+use Rattle.model_wire.proofs.PrefixLaws.{refusal_is}
 
 -- what is left is no more than n, and so are the bytes from the failing field on
 abbrev pub Inside : {X : Type 0} → ℕ → Reading X → Type 0
@@ -224,9 +225,6 @@ message_inside = both_inside ℕ Message version_at body_at version_inside body_
 
 abbrev refusal : ℕ × WireWhy → Result Message (ℕ × WireWhy)
 refusal e = Err e
-
-refusal_is : (e f : ℕ × WireWhy) → refusal e ≡ refusal f → e ≡ f
-refusal_is e f h = cc
 
 -- the place of what can't be read stands among the bytes or at their end
 pub refused_within : (bytes : List ℕ) (e : ℕ × WireWhy) → read_message bytes ≡ Err e → e.0 ≤ length bytes

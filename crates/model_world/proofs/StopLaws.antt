@@ -1,6 +1,7 @@
 -- A run of a script is told by its worlds: it stops where they say, and else it ends in the last of them.
 use Rattle.std.proofs.Common.{suc, refl, sym, ap, subst, ◌∙◌, arith}
 use Rattle.std.specs.Prelude.{◌≡◌, ℕ, ◌+◌, List, [], ◌∷◌, ◌++◌, length, Option, Some, None, Result, Ok, Err}
+use Rattle.std.proofs.lemmas.List.{append-nil}
 use Rattle.model_graph.specs.Chain.{◌>>=◌}
 use Rattle.model_graph.specs.Evaluation.{first_large}
 use Rattle.model_world.specs.Command.{Command}
@@ -84,10 +85,6 @@ unfolding play
 end-found c run last [] e = end-here c run last (point-same c 0 run.peers run last e) e
 end-found c run last (k ∷ rest) e = end-step c run last k rest (step c run k) refl (λ next h. end-found (c + 1) next last rest h) e
 
-append-nothing : (commands : List Command) → commands ++ [] ≡ commands
-append-nothing [] = refl
-append-nothing (k ∷ commands) = ap (λ (ks : List Command). k ∷ ks) (append-nothing commands)
-
 point-play : (c : ℕ) (last : Run) (r : Result Run Stop) → act c last Point ≡ r → play c last [] ≡ r
 unfolding play
 point-play c last r e = e
@@ -95,5 +92,5 @@ point-play c last r e = e
 -- and a world to which every command leads is where the run ends
 pub end-is : (c : ℕ) (run last : Run) (commands : List Command) → EndsAt c run commands last → play c run commands ≡ Ok last
 end-is c run last commands s =
-    subst (λ (ks : List Command). play c run ks ≡ Ok last) (append-nothing commands)
+    subst (λ (ks : List Command). play c run ks ≡ Ok last) (append-nil commands)
     (after-play c run last commands [] (Ok last) s.after (point-play (c + length commands) last (Ok last) s.point))

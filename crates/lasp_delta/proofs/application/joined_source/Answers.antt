@@ -1,12 +1,13 @@
 use Rattle.std.proofs.Common.{◌≡◌, ℕ, Some, length, sym, ap, subst, ◌∙◌, arith}
 use Rattle.std.specs.List.{AllByRecursion}
+use Rattle.model_values.proofs.ListLaws.{each-at}
 use Rattle.model_states.specs.Content.{join_contents}
 use Rattle.model_graph.specs.Graph.{Decl}
 use Rattle.model_wire.specs.Lawful.{IsSource, IsSent}
 use Rattle.lasp_state.specs.declared.state.State.{State}
 use Rattle.lasp_state.specs.State.{content_of, shape_of, AreJoinable}
 use Rattle.lasp_wire.specs.Sent.{kind_of, sent}
-use Rattle.lasp_delta.proofs.PlaceLaws.{each-at, alike-at, joined-first, joined-second}
+use Rattle.lasp_delta.proofs.PlaceLaws.{alike-at, joined-first, joined-second}
 use Rattle.lasp_delta.proofs.KindLaws.{joinable}
 use Rattle.lasp_delta.proofs.JoinLaws.{joined-is}
 use Rattle.lasp_delta.proofs.application.joined_source.Goals.{then-i-len-2+in_ok-join_in, else-i-len-2}

@@ -1,5 +1,6 @@
 use Rattle.std.proofs.Common.{◌≡◌, ◌<◌, true, false, length, refl, sym, ◌∙◌, arith}
-use Rattle.lasp_delta.proofs.PlaceLaws.{some-at, past-min, alike-first, alike-past}
+use Rattle.model_values.proofs.ListLaws.{some-at}
+use Rattle.lasp_delta.proofs.PlaceLaws.{past-min, alike-first, alike-past}
 use Rattle.lasp_delta.proofs.delta.are_alike.Goals as goal
 
 pub returns-then-not-are_same_source : goal.returns-then-not-are_same_source

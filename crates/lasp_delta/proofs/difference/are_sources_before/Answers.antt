@@ -1,5 +1,6 @@
 use Rattle.std.proofs.Common.{◌≡◌, ◌<◌, true, false, length, sym, ◌∙◌, arith}
-use Rattle.lasp_delta.proofs.PlaceLaws.{some-at, before-long, before-first}
+use Rattle.model_values.proofs.ListLaws.{some-at}
+use Rattle.lasp_delta.proofs.PlaceLaws.{before-long, before-first}
 use Rattle.lasp_delta.proofs.difference.are_sources_before.Goals as goal
 
 pub returns-then-len : goal.returns-then-len

@@ -1,12 +1,13 @@
 use Rattle.std.proofs.Common.{◌≡◌, ℕ, Some, length, sym, ap, subst, ◌∙◌, arith}
 use Rattle.std.specs.List.{AllByRecursion}
+use Rattle.model_values.proofs.ListLaws.{each-at}
 use Rattle.model_graph.specs.Graph.{Decl}
 use Rattle.model_runs.proofs.SourceLaws.{source-ordered}
 use Rattle.model_wire.specs.Lawful.{IsSource, IsSent}
 use Rattle.lasp_state.specs.declared.state.State.{State}
 use Rattle.lasp_state.specs.State.{content_of}
 use Rattle.lasp_wire.specs.Sent.{kind_of, sent}
-use Rattle.lasp_delta.proofs.PlaceLaws.{each-at, before-at}
+use Rattle.lasp_delta.proofs.PlaceLaws.{before-at}
 use Rattle.lasp_delta.proofs.KindLaws.{source-no-fold, same-shape}
 use Rattle.lasp_delta.proofs.JoinLaws.{changed-is, changed-all}
 use Rattle.lasp_delta.proofs.difference.changed_source.Goals as goal

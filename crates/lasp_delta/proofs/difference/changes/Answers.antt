@@ -1,9 +1,9 @@
 use Rattle.std.proofs.Common.{◌≡◌, ◌+◌, ℕ, List, length, sym, ap, subst, arith}
+use Rattle.model_values.proofs.ListLaws.{each-at}
 use Rattle.model_wire.specs.Lawful.{IsSent}
 use Rattle.model_deltas.specs.Delta.{changed_sources}
 use Rattle.model_deltas.proofs.DeltaLaws.{length-changed, sources-lawful}
 use Rattle.lasp_wire.specs.Sent.{sent}
-use Rattle.lasp_delta.proofs.PlaceLaws.{each-at}
 use Rattle.lasp_delta.proofs.BegunLaws.{IsBegun, begun-more, begun-whole, begun-lawful}
 use Rattle.lasp_delta.proofs.difference.changes.Goals as goal
 

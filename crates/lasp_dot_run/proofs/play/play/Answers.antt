@@ -1,5 +1,6 @@
 use Rattle.std.proofs.Common.{◌+◌, List, ◌++◌, length, drop, sym, ap, subst, ◌∙◌, arith}
 use Rattle.std.specs.String.{string_bytes}
+use Rattle.model_values.proofs.ListLaws.{drop-at}
 use Rattle.model_world.specs.Command as plain
 use Rattle.model_world.specs.Lawful.{AreLawful}
 use Rattle.model_dot_worlds.specs.DotReport.{dot_text}
@@ -8,7 +9,7 @@ use Rattle.model_dot_worlds.specs.Sizes.{CountAtMost}
 use Rattle.model_dot_worlds.proofs.SizeLaws.{step-more}
 use Rattle.lasp_script.specs.Command.{command_of}
 use Rattle.lasp_dot_run.specs.Commands.{stage_at}
-use Rattle.lasp_dot_run.proofs.PlayLaws.{drop-at, step-size, lawful-next, play-next, play-end, text-next, text-end}
+use Rattle.lasp_dot_run.proofs.PlayLaws.{step-size, lawful-next, play-next, play-end, text-next, text-end}
 use Rattle.lasp_dot_run.proofs.play.play.Goals as goal
 
 pub do_command-requires-clause-can : goal.do_command-requires-clause-can

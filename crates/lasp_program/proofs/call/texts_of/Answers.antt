@@ -1,8 +1,9 @@
-use Rattle.std.proofs.Common.{◌≡◌, List, ℕ, ap, subst, ◌∙◌, arith}
+use Rattle.std.proofs.Common.{◌≡◌, List, ℕ, ap, subst, ◌∙◌, arith, refl, length}
 use Rattle.std.specs.Prelude.{slice_get, Some}
 use Rattle.std.specs.Str.{IsUtf8}
+use Rattle.std.proofs.lemmas.Option.{slice_get_read}
 use Rattle.lasp_run.specs.Words.{words_of}
-use Rattle.lasp_program.proofs.CallLaws.{item-at, texts-more, bytes-more, texts-none, texts-all}
+use Rattle.lasp_program.proofs.CallLaws.{texts-more, bytes-more, texts-none, texts-all}
 use Rattle.lasp_program.proofs.call.texts_of.Goals as goal
 
 pub loop-word-init : goal.loop-word-init
@@ -10,12 +11,12 @@ loop-word-init c = record { texts = ap (λ ts. words_of ts) c.new-texts.ensures.
 
 pub returns-in-Err : goal.returns-in-Err
 returns-in-Err c =
-    let at : slice_get c.args.words.now c.loop-word.word-index ≡ Some c.word-item.result = item-at c.args.words.now c.loop-word.word-index c.word-item.result (omega (arith, c.loop-word-test.true)) c.word-item.is in
+    let at : slice_get c.args.words.now c.loop-word.word-index ≡ Some c.word-item.result = slice_get_read c.args.words.now (length c.args.words.now) c.loop-word.word-index c.word-item.result refl (omega (arith, c.loop-word-test.true)) c.word-item.is in
     texts-none c.args.words.now c.loop-word.word-index c.word-item.result at (subst (λ (bytes : List ℕ). ¬ IsUtf8 bytes) c.deref.ensures.value c.in-Err.ensures.cases.0)
 
 pub loop-word-preserved : goal.loop-word-preserved
 loop-word-preserved c =
-    let at : slice_get c.args.words.now c.loop-word.word-index ≡ Some c.word-item.result = item-at c.args.words.now c.loop-word.word-index c.word-item.result (omega (arith, c.loop-word-test.true)) c.word-item.is in
+    let at : slice_get c.args.words.now c.loop-word.word-index ≡ Some c.word-item.result = slice_get_read c.args.words.now (length c.args.words.now) c.loop-word.word-index c.word-item.result refl (omega (arith, c.loop-word-test.true)) c.word-item.is in
     record {
       texts = ap (λ ts. words_of ts) c.in_ok-push-in-Ok.ensures.items
           ∙ bytes-more c.args.words.now c.loop-word.texts.items c.loop-word.word-index c.word-item.result c.in_ok-from_str-in-Ok.field-0 at c.loop-word.invariant.texts

@@ -1,8 +1,9 @@
 use Rattle.std.proofs.Common.{◌≡◌, ◌↔◌, ◌<◌, ℕ, ◌+◌, true, false, length, refl, sym, subst, ◌∙◌, arith}
+use Rattle.model_values.proofs.ListLaws.{some-at}
 use Rattle.model_graph.specs.Graph.{is_source}
 use Rattle.lasp_graph.specs.Decl.{decl_of}
 use Rattle.lasp_replica.specs.Replica.{IsBeginning}
-use Rattle.lasp_replica.proofs.BeginLaws.{BeginsFrom, some-source, begins-next, begins-other, begins-process, begins-whole, begins-end}
+use Rattle.lasp_replica.proofs.BeginLaws.{BeginsFrom, begins-next, begins-other, begins-process, begins-whole, begins-end}
 use Rattle.lasp_replica.proofs.sources.begins.Goals as goal
 use Rattle.lasp_replica.proofs.sources.begins.Goals.{then-is_source+else-not-is_source_at, else-is_source}
 
@@ -14,7 +15,7 @@ pub returns-then-not-is_source_at : goal.returns-then-not-is_source_at
 returns-then-not-is_source_at c =
     let source : is_source (decl_of c.at-decl.result.now).kind ≡ true = sym c.is_source.ensures ∙ c.if-is_source.true in
     let low : c.loop-x.i < length c.args.message.now.sources = omega (arith, c.if-i-len.false, c.len.ensures, c.loop-x.invariant.some) in
-    let s = some-source c.args.message.now.sources c.loop-x.i low in (
+    let s = some-at c.args.message.now.sources c.loop-x.i low in (
       λ t. absurd cc,
       λ b. absurd (begins-other c.args.message.now c.args.graph.now c.loop-x.i c.loop-x.x (decl_of c.at-decl.result.now) s.0 c.at-decl.ensures.decl source s.1
           (λ same. (let both : true ≡ false = sym ((c.is_source_at.ensures s.0 s.1).1 same) ∙ c.if-not-is_source_at.true in cc)) (c.loop-x.invariant.rest.1 b)),
@@ -25,7 +26,7 @@ loop-x-preserved c = elim c.if-is_source.branch [
   | then-is_source+else-not-is_source_at w ↦
       let source : is_source (decl_of c.at-decl.result.now).kind ≡ true = sym c.is_source.ensures ∙ w.if-is_source.true in
       let low : c.loop-x.i < length c.args.message.now.sources = omega (arith, c.if-i-len.false, c.len.ensures, c.loop-x.invariant.some) in
-      let s = some-source c.args.message.now.sources c.loop-x.i low in
+      let s = some-at c.args.message.now.sources c.loop-x.i low in
       let next = begins-next c.args.message.now c.args.graph.now c.loop-x.i c.loop-x.x (decl_of c.at-decl.result.now) s.0 c.at-decl.ensures.decl source s.1 ((w.is_source_at.ensures s.0 s.1).0 w.if-not-is_source_at.false) in
       record {
         within = omega (arith, c.loop-x-test.true, c.len-x-end.ensures.count);

@@ -3,8 +3,9 @@ use Rattle.std.proofs.lemmas.Bool.{lt-ltb, le-ltb}
 use Rattle.std.specs.Arc.{arc_value}
 use Rattle.model_states.specs.Update.{delta}
 use Rattle.lasp_state.specs.State.{op_of, content_of}
-use Rattle.lasp_replica.proofs.UpdateLaws.{checked, state-there, state-found, suited, count-found, gained, refusal, state-same}
+use Rattle.lasp_replica.proofs.UpdateLaws.{checked, state-found, suited, count-found, gained, refusal, state-same}
 use Rattle.lasp_replica.proofs.replica.Replica.gain.Goals as goal
+use Rattle.lasp_replica.proofs.TakeLaws.{states-at}
 
 pub overflow_add-k : goal.overflow_add-k
 overflow_add-k c =
@@ -14,7 +15,7 @@ overflow_add-k c =
 
 pub at-state-requires : goal.at-state-requires
 at-state-requires c =
-    state-there c.args.self.now c.requires c.args.var c.from-2.result c.from-2.ensures (checked c.args.self.now c.args.var c.args.op.now c.in_ok-check_update.ensures).declared
+    states-at c.args.self.now c.requires c.args.var c.from-2.result c.from-2.ensures (checked c.args.self.now c.args.var c.args.op.now c.in_ok-check_update.ensures).declared
 
 pub delta-requires : goal.delta-requires
 delta-requires c =

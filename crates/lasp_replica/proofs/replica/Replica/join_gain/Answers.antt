@@ -1,11 +1,13 @@
 use Rattle.std.proofs.Common.{arith, refl, sym, ap, ◌∙◌}
 use Rattle.std.specs.Arc.{arc_value}
 use Rattle.lasp_graph.specs.States.{Held}
-use Rattle.lasp_replica.proofs.UpdateLaws.{state-there, state-found, stays, on-err, told-still, prepared}
+use Rattle.lasp_replica.proofs.UpdateLaws.{state-found, stays, on-err, prepared}
 use Rattle.lasp_replica.proofs.replica.Replica.join_gain.Goals as goal
+use Rattle.lasp_replica.proofs.TakeLaws.{states-at}
+use Rattle.lasp_replica.proofs.TakenLaws.{told-set}
 
 pub at-requires : goal.at-requires
-at-requires c = state-there c.args.self.now c.requires.replica c.args.var c.from-x.result c.from-x.ensures c.requires.within
+at-requires c = states-at c.args.self.now c.requires.replica c.args.var c.from-x.result c.from-x.ensures c.requires.within
 
 pub le-grows-requires : goal.le-grows-requires
 le-grows-requires c =
@@ -13,7 +15,7 @@ le-grows-requires c =
     ∙ ap (λ (h : Held). h.shape) (state-found c.args.self.now.states c.args.var c.from-x.result (arc_value c.at.result.now) c.deref.result.now c.from-x.ensures c.at.ensures c.deref.ensures)
 
 pub at-requires-2 : goal.at-requires-2
-at-requires-2 c = state-there c.args.self.now c.requires.replica c.args.var c.from-x.result c.from-x.ensures c.requires.within
+at-requires-2 c = states-at c.args.self.now c.requires.replica c.args.var c.from-x.result c.from-x.ensures c.requires.within
 
 pub news-requires : goal.news-requires
 news-requires c =
@@ -23,15 +25,15 @@ news-requires c =
 pub returns-in_err-reserve-clause-err : goal.returns-in_err-reserve-clause-err
 returns-in_err-reserve-clause-err c =
     on-err c.from_residual-in_err-reserve.result (stays c.args.self.now _ c.requires.replica refl refl refl refl refl
-    (told-still c.args.self.now.histories.items c.args.var c.index_mut.result.now c.prepare.new.self c.index_mut.ensures.value c.prepare.ensures.history) refl refl c.reserve.ensures.items)
+    (told-set c.args.self.now.histories.items c.args.var c.index_mut.result.now c.prepare.new.self c.index_mut.ensures.value c.prepare.ensures.history) refl refl c.reserve.ensures.items)
 
 pub join_at-requires-clause-within : goal.join_at-requires-clause-within
-join_at-requires-clause-within c = state-there c.args.self.now c.requires.replica c.args.var c.from-x.result c.from-x.ensures c.requires.within
+join_at-requires-clause-within c = states-at c.args.self.now c.requires.replica c.args.var c.from-x.result c.from-x.ensures c.requires.within
 
 pub returns-in_err-join_at-clause-err : goal.returns-in_err-join_at-clause-err
 returns-in_err-join_at-clause-err c =
     on-err c.from_residual-in_err-join_at.result (stays c.args.self.now _ c.requires.replica refl refl refl refl c.in_err-join_at.ensures.err
-    (told-still c.args.self.now.histories.items c.args.var c.index_mut.result.now c.prepare.new.self c.index_mut.ensures.value c.prepare.ensures.history) refl refl c.reserve.ensures.items)
+    (told-set c.args.self.now.histories.items c.args.var c.index_mut.result.now c.prepare.new.self c.index_mut.ensures.value c.prepare.ensures.history) refl refl c.reserve.ensures.items)
 
 pub returns-clause-ok : goal.returns-clause-ok
 returns-clause-ok c =

@@ -1,8 +1,9 @@
 use Rattle.std.proofs.Common.{◌≡◌, ℕ, ◌<◌, IsTrue, slice_set, refl, sym, ap, subst, ◌∙◌, arith}
 use Rattle.std.proofs.Math.Seq.{map-set_same}
+use Rattle.std.proofs.lemmas.List.{get_or-set_same}
 use Rattle.lasp_history.specs.Kept.{Kept}
 use Rattle.lasp_replica.specs.Replica.{told, no_kept, kept_at}
-use Rattle.lasp_replica.proofs.FinishLaws.{job-derived, history-there, at-set-here}
+use Rattle.lasp_replica.proofs.FinishLaws.{job-derived, history-there}
 use Rattle.lasp_replica.proofs.replica.Replica.ready.Goals as goal
 
 pub index_mut-requires : goal.index_mut-requires
@@ -50,7 +51,7 @@ pub returns-clause-room : goal.returns-clause-room
 returns-clause-room c =
     let y = c.args.job.now.var in
     let low = history-there c.args.self.now c.requires.replica y (job-derived c.args.self.now c.args.job.now c.requires.replica c.requires.job) in
-    let here : kept_at (slice_set c.args.self.now.histories.items y c.prepare.new.self) y ≡ c.prepare.new.self = at-set-here c.args.self.now.histories.items y c.prepare.new.self no_kept low in
+    let here : kept_at (slice_set c.args.self.now.histories.items y c.prepare.new.self) y ≡ c.prepare.new.self = get_or-set_same c.args.self.now.histories.items y c.prepare.new.self no_kept low in
     record {
       entry = omega (arith, c.in_ok-reserve.ensures.ok);
       still = c.in_ok-grows.ensures.still;
