@@ -83,7 +83,7 @@ impl DotReplicas {
         remove_at(&mut self.nodes, p, value)
     }
 
-    /// Node p sends what it holds, under the next number. It costs a word for each pair.
+    /// Node p sends what it holds, under the next number. It costs a share for each piece of the set.
     pub(crate) fn post(&mut self, p: u8) -> Result<(), AllocError>
         requires { p < length self.old.nodes }
         ensures ok { OnOk result (self.new ≡ dot_act self.old (Post p)) }

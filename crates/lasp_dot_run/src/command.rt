@@ -39,7 +39,7 @@ fn act(replicas: &mut DotReplicas, command: &Command) -> Result<(), AllocError>
 }
 
 /// Does a command, and appends what it prints.
-pub fn do_command(
+pub(crate) fn do_command(
     replicas: &mut DotReplicas,
     text: &mut String,
     command: &Command,

@@ -8,7 +8,7 @@ use super::text::{push_known, push_size};
 use std::alloc::AllocError;
 
 /// Appends a line for each node: what it knows.
-pub fn push_all_known(text: &mut String, replicas: &DotReplicas) -> Result<(), AllocError>
+pub(crate) fn push_all_known(text: &mut String, replicas: &DotReplicas) -> Result<(), AllocError>
     ensures { OnOk result (string_bytes text.new ≡ string_bytes text.old ++ dot_known 0 replicas.now.nodes) }
 {
     for p in 0..replicas.len() {
@@ -18,7 +18,7 @@ pub fn push_all_known(text: &mut String, replicas: &DotReplicas) -> Result<(), A
 }
 
 /// Appends a line for each node: how many pairs it keeps.
-pub fn push_all_sizes(text: &mut String, replicas: &DotReplicas) -> Result<(), AllocError>
+pub(crate) fn push_all_sizes(text: &mut String, replicas: &DotReplicas) -> Result<(), AllocError>
     ensures { OnOk result (string_bytes text.new ≡ string_bytes text.old ++ dot_sizes 0 replicas.now.nodes) }
 {
     for p in 0..replicas.len() {

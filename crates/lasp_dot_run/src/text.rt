@@ -33,7 +33,7 @@ fn push_values(text: &mut String, values: &Values) -> Result<(), AllocError>
 }
 
 /// Appends the line of a print: the node, the set's name, and what the set shows.
-pub fn push_print(text: &mut String, p: u8, set: &DotSet) -> Result<(), AllocError>
+pub(crate) fn push_print(text: &mut String, p: u8, set: &DotSet) -> Result<(), AllocError>
     ensures { OnOk result (string_bytes text.new ≡ string_bytes text.old ++ line (decimal p ∷ codes "a" ∷ shown_values (visible set.now.rows) ∷ [])) }
 {
     push_decimal(text, u64::from(p))?;
@@ -54,7 +54,7 @@ fn push_counts(text: &mut String, set: &DotSet) -> Result<(), AllocError>
 }
 
 /// Appends the line of what a node knows: how many updates of each replica.
-pub fn push_known(text: &mut String, p: u64, set: &DotSet) -> Result<(), AllocError>
+pub(crate) fn push_known(text: &mut String, p: u64, set: &DotSet) -> Result<(), AllocError>
     ensures { OnOk result (string_bytes text.new ≡ string_bytes text.old ++ known_line p set.now.counts) }
 {
     text.push_str("known ")?;
@@ -63,7 +63,7 @@ pub fn push_known(text: &mut String, p: u64, set: &DotSet) -> Result<(), AllocEr
 }
 
 /// Appends the line of how many pairs a node keeps.
-pub fn push_size(text: &mut String, p: u64, set: &DotSet) -> Result<(), AllocError>
+pub(crate) fn push_size(text: &mut String, p: u64, set: &DotSet) -> Result<(), AllocError>
     ensures { OnOk result (string_bytes text.new ≡ string_bytes text.old ++ line (codes "dots" ∷ decimal p ∷ decimal (length set.now.rows) ∷ [])) }
 {
     text.push_str("dots ")?;

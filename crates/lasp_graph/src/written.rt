@@ -16,7 +16,7 @@ const MODULO_LIMIT: u64 = 4_294_967_295;
 
 /// The form of a declaration behind its name, with the names of inputs and functions.
 #[derive(Clone, Copy)]
-pub enum Form<'a> {
+pub(crate) enum Form<'a> {
     OrSet,
     GSet,
     Counter,
@@ -31,7 +31,7 @@ pub enum Form<'a> {
 
 /// A declaration as it is written.
 #[derive(Clone, Copy)]
-pub struct Written<'a> {
+pub(crate) struct Written<'a> {
     pub name: &'a str,
     pub form: Form<'a>,
 }
@@ -45,7 +45,7 @@ pub fn is_declaration(j: &Json) -> bool
 
 /// The declaration that a tree is the form of.
 #[tactic(auto, unfolding(model_readings::specs::Graph::written_of))]
-pub fn written_of(j: &Json) -> Option<Written<'_>>
+pub(crate) fn written_of(j: &Json) -> Option<Written<'_>>
     ensures { option_map written_view result ≡ written_of (view j.now) }
 {
     let name = text_at(j, 0)?;

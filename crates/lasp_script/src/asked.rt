@@ -21,7 +21,7 @@ use std::alloc::Global;
 
 /// The place of a mark, whose name has to be new.
 #[tactic(auto, unfolding(crate::specs::Made::mark_read))]
-pub fn read_mark(
+pub(crate) fn read_mark(
     target: &Target,
     name: &str,
     g: &Graph,
@@ -40,7 +40,7 @@ pub fn read_mark(
 
 /// A place, and the number of a mark that was made of its variable.
 #[tactic(auto, unfolding(crate::specs::Made::bind_read))]
-pub fn read_bind(
+pub(crate) fn read_bind(
     target: &Target,
     name: &str,
     g: &Graph,
@@ -62,7 +62,7 @@ pub fn read_bind(
 
 /// A place, and a threshold that its variable may be asked for.
 #[tactic(auto, unfolding(crate::specs::Made::asked_read))]
-pub fn read_asked(
+pub(crate) fn read_asked(
     alloc: Global,
     target: &Target,
     bound: &Bound,

@@ -11,7 +11,7 @@ use serde_json::{Number, Value as Json};
 
 /// A threshold as it is written: by the name of a mark, a number, or values.
 #[derive(Clone, Copy)]
-pub enum Bound<'a> {
+pub(crate) enum Bound<'a> {
     AtLeast(&'a str),
     Above(&'a str),
     Count(&'a Number),
@@ -21,7 +21,7 @@ pub enum Bound<'a> {
 
 /// The threshold that a tree is the form of.
 #[tactic(auto, using(crate::proofs::Forms::bounds), unfolding(crate::specs::Word::bound_from))]
-pub fn bound_of(j: &Json) -> Option<Bound<'_>>
+pub(crate) fn bound_of(j: &Json) -> Option<Bound<'_>>
     ensures { option_map bound_view result ≡ bound_of (view j.now) }
 {
     if is_word_at(j, 0, "at_least") {

@@ -17,7 +17,7 @@ use std::alloc::Global;
 
 /// The declaration that a tree is against the graph so far.
 #[tactic(auto, unfolding(crate::specs::Made::declared_read))]
-pub fn read_declared(
+pub(crate) fn read_declared(
     alloc: Global,
     tree: &Json,
     g: &Graph,

@@ -8,7 +8,7 @@ use lasp_graph::Kind;
 
 /// The kinds that a word or a threshold works on.
 #[derive(Clone, Copy)]
-pub enum Kinds {
+pub(crate) enum Kinds {
     /// Sources, for `mark` and `bind`.
     Source,
     /// An observed-remove set, for `add` and `remove`.

@@ -11,7 +11,7 @@ use std::marker::Model;
 
 /// At most 1,000 marks, each numbered by its place. Contracts see the list of their names, each with the number of the variable that the mark was made of.
 #[derive(Drop)]
-pub struct Marks {
+pub(crate) struct Marks {
     vars: IndexMap<String, u8>,
 }
 

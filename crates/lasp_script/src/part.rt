@@ -9,14 +9,14 @@ use lasp_graph::{has_items, number_at, text_at};
 use serde_json::{Number, Value as Json};
 
 /// The name behind the word, where nothing else stands there.
-pub fn name_part(j: &Json) -> Option<&str>
+pub(crate) fn name_part(j: &Json) -> Option<&str>
     ensures { option_map (λ s. s.now) result ≡ of_size 2 (view j.now) (text_at 1 (view j.now)) }
 {
     if has_items(j, 2) { text_at(j, 1) } else { None }
 }
 
 /// The number behind the word, where nothing else stands there.
-pub fn number_part(j: &Json) -> Option<&Number>
+pub(crate) fn number_part(j: &Json) -> Option<&Number>
     ensures { option_map (λ n. number_view n.now) result ≡ of_size 2 (view j.now) (number_at 1 (view j.now)) }
 {
     if has_items(j, 2) {
@@ -28,7 +28,7 @@ pub fn number_part(j: &Json) -> Option<&Number>
 
 /// The parts of the array behind the word, where nothing else stands there.
 #[tactic(auto, using(lasp_graph::proofs::Items::lists))]
-pub fn list_part(j: &Json) -> Option<&[Json]>
+pub(crate) fn list_part(j: &Json) -> Option<&[Json]>
     ensures { option_map (λ vs. map view vs.now) result ≡ of_size 2 (view j.now) (list_at 1 (view j.now)) }
 {
     if !has_items(j, 2) {

@@ -17,7 +17,7 @@ const STEP_LIMIT: u64 = 4_294_967_295;
 
 /// The value that a tree stands for.
 #[tactic(auto, unfolding(crate::specs::Made::value_read))]
-pub fn read_value(alloc: Global, j: &Json) -> Result<Value, CommandRefused>
+pub(crate) fn read_value(alloc: Global, j: &Json) -> Result<Value, CommandRefused>
     ensures { Answers val_of result (value_read (view j.now)) }
 {
     match value_of_json(alloc, j) {
@@ -30,7 +30,7 @@ pub fn read_value(alloc: Global, j: &Json) -> Result<Value, CommandRefused>
 }
 
 /// The values that trees stand for, in their order.
-pub fn read_values(alloc: Global, items: &[Json]) -> Result<Values, CommandRefused>
+pub(crate) fn read_values(alloc: Global, items: &[Json]) -> Result<Values, CommandRefused>
     ensures { Answers (λ vs. vs) result (values_from [] (map view items.now)) }
 {
     let mut values = Values::new(alloc);
@@ -45,7 +45,7 @@ pub fn read_values(alloc: Global, items: &[Json]) -> Result<Values, CommandRefus
 
 /// How many more an update counts.
 #[tactic(auto, unfolding(crate::specs::Made::step_read, model_scripts::specs::Parts::step_of))]
-pub fn read_step(n: &Number) -> Result<u32, ScriptWhy>
+pub(crate) fn read_step(n: &Number) -> Result<u32, ScriptWhy>
     ensures { result ≡ step_read (number_view n.now) }
 {
     match n.as_u64() {
@@ -56,7 +56,7 @@ pub fn read_step(n: &Number) -> Result<u32, ScriptWhy>
 
 /// The number that a register is raised to.
 #[tactic(auto, unfolding(crate::specs::Made::top_read))]
-pub fn read_top(n: &Number) -> Result<i64, ScriptWhy>
+pub(crate) fn read_top(n: &Number) -> Result<i64, ScriptWhy>
     ensures { result ≡ top_read (number_view n.now) }
 {
     match n.as_i64() {
@@ -67,7 +67,7 @@ pub fn read_top(n: &Number) -> Result<i64, ScriptWhy>
 
 /// The number that a count has to reach.
 #[tactic(auto, unfolding(crate::specs::Made::count_read))]
-pub fn read_count(n: &Number) -> Result<u64, ScriptWhy>
+pub(crate) fn read_count(n: &Number) -> Result<u64, ScriptWhy>
     ensures { result ≡ count_read (number_view n.now) }
 {
     match n.as_u64() {

@@ -15,7 +15,7 @@ use serde_json::Number;
 
 /// The node, which must be one of so many, and then the variable.
 #[tactic(auto, unfolding(crate::specs::Made::place_read))]
-pub fn read_place(target: &Target, g: &Graph, nodes: u8) -> Result<(u8, u8), ScriptWhy>
+pub(crate) fn read_place(target: &Target, g: &Graph, nodes: u8) -> Result<(u8, u8), ScriptWhy>
     ensures exact { result ≡ place_read g.now nodes (target_view target.now) }
     ensures within { IfOk result (λ place. place.1 < length g.now) }
 {
@@ -28,7 +28,7 @@ pub fn read_place(target: &Target, g: &Graph, nodes: u8) -> Result<(u8, u8), Scr
 
 /// The node, which must be one of so many.
 #[tactic(auto, unfolding(crate::specs::Made::node_read))]
-pub fn read_node(n: &Number, nodes: u8) -> Result<u8, ScriptWhy>
+pub(crate) fn read_node(n: &Number, nodes: u8) -> Result<u8, ScriptWhy>
     ensures { result ≡ node_read nodes (number_view n.now) }
 {
     match number_below(n, u32::from(nodes)) {
@@ -39,7 +39,7 @@ pub fn read_node(n: &Number, nodes: u8) -> Result<u8, ScriptWhy>
 
 /// The message, which must be one of so many.
 #[tactic(auto, unfolding(crate::specs::Made::message_read))]
-pub fn read_message(n: &Number, sent: u32) -> Result<u32, ScriptWhy>
+pub(crate) fn read_message(n: &Number, sent: u32) -> Result<u32, ScriptWhy>
     ensures { result ≡ message_read sent (number_view n.now) }
 {
     match number_below(n, sent) {
@@ -49,7 +49,7 @@ pub fn read_message(n: &Number, sent: u32) -> Result<u32, ScriptWhy>
 }
 
 /// Passes where the variable is of a kind that a word or a threshold works on.
-pub fn check_kind(kinds: Kinds, g: &Graph, var: u8) -> Result<(), ScriptWhy>
+pub(crate) fn check_kind(kinds: Kinds, g: &Graph, var: u8) -> Result<(), ScriptWhy>
     requires { var < length g.now }
     ensures { result ≡ kind_checked (is_among kinds) g.now var }
 {

@@ -29,7 +29,7 @@ const VARIABLE_LIMIT: u64 = 64;
 
 /// The commands so far, and what they leave for the next one beside the graph that the script began with.
 #[derive(Drop)]
-pub struct Progress {
+pub(crate) struct Progress {
     commands: Vec<Command>,
     /// The graph, where commands declared variables.
     grown: Option<Graph>,

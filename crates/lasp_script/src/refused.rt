@@ -11,7 +11,7 @@ use thiserror::Error;
 
 /// Why one command isn't read.
 #[derive(Debug, Drop, Error)]
-pub enum CommandRefused {
+pub(crate) enum CommandRefused {
     /// It is none that the script may have there.
     #[error("{0:?}")]
     Because(ScriptWhy),

@@ -23,7 +23,7 @@ use model_scripts::ScriptWhy;
 use std::alloc::Global;
 
 /// The command that a word is, where there is room for it.
-pub fn read_command(
+pub(crate) fn read_command(
     alloc: Global,
     word: &Word,
     g: &Graph,

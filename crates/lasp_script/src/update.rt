@@ -24,7 +24,7 @@ use serde_json::{Number, Value as Json};
 use std::alloc::Global;
 
 /// The command of an update.
-pub fn read_update(
+pub(crate) fn read_update(
     alloc: Global,
     target: &Target,
     update: &Update,

@@ -18,14 +18,14 @@ const NODE_LIMIT: u64 = 8;
 
 /// The node and the variable that a command is about.
 #[derive(Clone, Copy)]
-pub struct Target<'a> {
+pub(crate) struct Target<'a> {
     pub node: &'a Number,
     pub var: &'a str,
 }
 
 /// An update as it is written: what it brings.
 #[derive(Clone, Copy)]
-pub enum Update<'a> {
+pub(crate) enum Update<'a> {
     Add(&'a Json),
     Remove(&'a Json),
     Insert(&'a Json),
@@ -35,7 +35,7 @@ pub enum Update<'a> {
 
 /// A command as it is written.
 #[derive(Clone, Copy)]
-pub enum Word<'a> {
+pub(crate) enum Word<'a> {
     Update(Target<'a>, Update<'a>),
     Mark(Target<'a>, &'a str),
     Bind(Target<'a>, &'a str),
@@ -63,7 +63,7 @@ impl<'a> Word<'a> {
 
 /// The number of nodes that the first command tells.
 #[tactic(auto, unfolding(model_scripts::specs::Script::nodes_of))]
-pub fn nodes_of(j: &Json) -> Option<u8>
+pub(crate) fn nodes_of(j: &Json) -> Option<u8>
     ensures { result ≡ nodes_of (view j.now) }
 {
     if !(is_word_at(j, 0, "nodes") && has_items(j, 2)) {
@@ -79,7 +79,7 @@ pub fn nodes_of(j: &Json) -> Option<u8>
 
 /// The command that a tree is the form of.
 #[tactic(auto, using(crate::proofs::Forms::words), unfolding(crate::specs::Word::first_word))]
-pub fn word_of(j: &Json) -> Option<Word<'_>>
+pub(crate) fn word_of(j: &Json) -> Option<Word<'_>>
     ensures { option_map word_view result ≡ word_of (view j.now) }
 {
     if is_word_at(j, 0, "add") {
