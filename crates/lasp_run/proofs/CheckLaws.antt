@@ -1,6 +1,8 @@
 -- Laws of the lines that tell what a graph's variables are.
 use Rattle.std.proofs.Common.{zero, suc, refl, sym, ap, ◌∙◌, arith, append_assoc, append-nil, drop}
 use Rattle.std.specs.Prelude.{◌≡◌, ℕ, ◌+◌, ◌<◌, ◌≤◌, List, [], ◌∷◌, ◌++◌, length, slice_get, Some}
+use Rattle.std.proofs.lemmas.Option.{same_Some}
+use Rattle.std.proofs.lemmas.List.{drop_all}
 use Rattle.model_graph.specs.Graph.{Decl}
 use Rattle.model_graph.specs.Lawful.{width_at, width_of, widths_from, widths}
 use Rattle.model_graph.proofs.WidthLaws.{widths-length}
@@ -25,14 +27,11 @@ check-widths g =
     let all = lines-from g [] in
     ap (lines_with g) all.1 ∙ sym all.2
 
-some-same : {A : Type 0} (x y : A) → Some x ≡ Some y → x ≡ y
-some-same x y e = cc
-
 line-next : (g : List Decl) (ws : List ℕ) (x : ℕ) (d : Decl) → slice_get g x ≡ Some d → x < length ws
     → lines_with (drop x g) (drop x ws) ≡ check_line d (width_at ws x) ++ lines_with (drop (suc x) g) (drop (suc x) ws)
 line-next [] ws x d at within = absurd cc
 line-next (a ∷ g) [] x d at within = absurd (omega (arith, within))
-line-next (a ∷ g) (w ∷ ws) zero d at within = ap (λ (e : Decl). check_line e w ++ lines_with g ws) (some-same a d at)
+line-next (a ∷ g) (w ∷ ws) zero d at within = ap (λ (e : Decl). check_line e w ++ lines_with g ws) (same_Some a d at)
 line-next (a ∷ g) (w ∷ ws) (suc x) d at within = line-next g ws x d at (omega (arith, within))
 
 -- one line more
@@ -48,17 +47,11 @@ lines-next g x d text more at within is before =
     ∙ ap (λ (t : List ℕ). text ++ t) (sym (line-next g (widths g) x d at (omega (arith, widths-length g, within))))
     ∙ before
 
-drop-all : {A : Type 0} (xs : List A) (x : ℕ) → length xs ≤ x → drop x xs ≡ []
-drop-all [] zero h = refl
-drop-all [] (suc x) h = refl
-drop-all (a ∷ xs) zero h = absurd (omega (arith, h))
-drop-all (a ∷ xs) (suc x) h = drop-all xs x (omega (arith, h))
-
 -- all lines
 pub lines-end : (g : List Decl) (x : ℕ) (text : List ℕ) → length g ≤ x → text ++ lines_with (drop x g) (drop x (widths g)) ≡ check_text g → text ≡ check_text g
 lines-end g x text past before =
     sym (append-nil text)
-    ∙ ap (λ (ds : List Decl). text ++ lines_with ds (drop x (widths g))) (sym (drop-all g x past))
+    ∙ ap (λ (ds : List Decl). text ++ lines_with ds (drop x (widths g))) (sym (drop_all x g past))
     ∙ before
 
 pub ruleset checking = (check-widths, lines-next, lines-end)

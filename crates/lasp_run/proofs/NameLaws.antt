@@ -1,18 +1,15 @@
 -- The names of variables, with those that commands declare.
-use Rattle.std.proofs.Common.{◌≡◌, ℕ, zero, suc, ◌+◌, ◌-◌, ◌≤◌, ◌<◌, List, [], ◌∷◌, ◌++◌, length, drop, slice_index_or, Some, refl, sym, ap, ◌∙◌, arith}
+use Rattle.std.proofs.Common.{◌≡◌, ℕ, zero, suc, ◌+◌, ◌-◌, ◌≤◌, ◌<◌, List, [], ◌∷◌, ◌++◌, length, drop, Some, sym, ap, ◌∙◌, arith}
 use Rattle.std.specs.Prelude.{slice_get}
-use Rattle.std.proofs.lemmas.List.{drop_more}
-use Rattle.std.proofs.lemmas.Option.{slice_get_within, get_or_from_slice_get}
+use Rattle.std.proofs.lemmas.List.{drop_all}
+use Rattle.std.proofs.lemmas.Option.{slice_get_within}
+use Rattle.std.proofs.Math.Seq.{get_or-append_right}
+use Rattle.model_values.proofs.ListLaws.{drop-at}
 use Rattle.model_graph.specs.Graph.{Decl, no_decl, name_at}
 use Rattle.model_graph.proofs.PlaceLaws.{at-append, length-append}
 use Rattle.model_world.specs.Command.{Command}
 use Rattle.model_scripts.specs.Progress.{grown_by, grown}
 use Rattle.model_scripts.proofs.GrowthLaws.{grown-added}
-
-at-behind : {A : Type 0} (xs ys : List A) (i : ℕ) (d : A) → length xs ≤ i → slice_index_or (xs ++ ys) i d ≡ slice_index_or ys (i - length xs) d
-at-behind [] ys i d past = ap (λ (n : ℕ). slice_index_or ys n d) (let same : i ≡ i - 0 = omega arith in same)
-at-behind (x ∷ xs) ys zero d past = absurd (omega (arith, past))
-at-behind (x ∷ xs) ys (suc i) d past = at-behind xs ys i d (omega (arith, past)) ∙ ap (λ (n : ℕ). slice_index_or ys n d) (let same : i - length xs ≡ suc i - suc (length xs) = omega arith in same)
 
 -- a variable of the graph keeps its name
 name-own : (g : List Decl) (ks : List Command) (x : ℕ) → x < length g → name_at (grown g ks) x ≡ name_at g x
@@ -29,15 +26,12 @@ name-at g ks x d at = name-found g x d at ∙ sym (name-own g ks x (slice_get_wi
 
 -- a variable behind the graph's is one that the commands declare
 pub name-declared : (g : List Decl) (ks : List Command) (x : ℕ) → length g ≤ x → name_at (grown g ks) x ≡ name_at (grown [] ks) (x - length g)
-name-declared g ks x past = ap (λ (ds : List Decl). name_at ds x) (grown-added g ks) ∙ ap (λ (d : Decl). d.name) (at-behind g (grown [] ks) x no_decl past)
+name-declared g ks x past = ap (λ (ds : List Decl). name_at ds x) (grown-added g ks) ∙ ap (λ (d : Decl). d.name) (get_or-append_right g (grown [] ks) x no_decl past)
 
 pub declared-low : (g : List Decl) (ks : List Command) (x : ℕ) → length g ≤ x → x < length (grown g ks) → x - length g < length (grown [] ks)
 declared-low g ks x past low = omega (arith, past, low, ap (λ (ds : List Decl). length ds) (grown-added g ks), length-append g (grown [] ks))
 
 -- ---- the declarations among commands
-
-drop-at : {A : Type 0} (xs : List A) (i : ℕ) (x : A) → slice_get xs i ≡ Some x → drop i xs ≡ x ∷ drop (i + 1) xs
-drop-at xs i x e = drop_more xs i x (slice_get_within xs i x e) ∙ ap (λ y. y ∷ drop (i + 1) xs) (get_or_from_slice_get xs i x x e)
 
 grown-at : (ks : List Command) (i : ℕ) (k : Command) → slice_get ks i ≡ Some k → grown [] (drop i ks) ≡ grown_by [] k ++ grown [] (drop (i + 1) ks)
 grown-at ks i k at = ap (λ (rest : List Command). grown [] rest) (drop-at ks i k at) ∙ grown-added (grown_by [] k) (drop (i + 1) ks)
@@ -76,15 +70,9 @@ left-behind ks number i left k h at is =
       name = ap (λ (ds : List Decl). name_at ds left) (sym all) ∙ h.name;
     }
 
-drop-all : {A : Type 0} (xs : List A) (i : ℕ) → length xs ≤ i → drop i xs ≡ []
-drop-all [] zero h = refl
-drop-all [] (suc i) h = refl
-drop-all (y ∷ xs) zero h = absurd (omega (arith, h))
-drop-all (y ∷ xs) (suc i) h = drop-all xs i (omega (arith, h))
-
 -- no command is left, so it was declared by one
 pub none-left : (ks : List Command) (number i left : ℕ) → IsLeft ks number i left → length ks ≤ i → ⊥
-none-left ks number i left h past = omega (arith, h.low, ap (λ (rest : List Command). length (grown [] rest)) (drop-all ks i past))
+none-left ks number i left h past = omega (arith, h.low, ap (λ (rest : List Command). length (grown [] rest)) (drop_all i ks past))
 
 pub ruleset places = (left-here, left-later, left-behind, none-left)
 

@@ -1,8 +1,7 @@
 -- The lines of what variables show, one after the other.
 use Rattle.std.proofs.Common.{◌≡◌, ℕ, ◌+◌, ◌<◌, List, [], ◌∷◌, ◌++◌, length, drop, Some, sym, ap, ◌∙◌, append_assoc, arith}
 use Rattle.std.specs.Prelude.{slice_get}
-use Rattle.std.proofs.lemmas.List.{drop_more}
-use Rattle.std.proofs.lemmas.Option.{slice_get_within, get_or_from_slice_get}
+use Rattle.model_values.proofs.ListLaws.{drop-at}
 use Rattle.model_states.specs.Content.{Content}
 use Rattle.model_graph.specs.Graph.{Decl}
 use Rattle.model_graph.specs.Evaluation.{content_at, first_large}
@@ -11,9 +10,6 @@ use Rattle.model_runs.proofs.StopLaws.{first-low}
 use Rattle.model_program.specs.Merge.{value_lines}
 use Rattle.model_world.specs.Line.{line, shown_content}
 use Rattle.model_world.specs.World.{Peer, shown_at}
-
-drop-at : {A : Type 0} (xs : List A) (i : ℕ) (x : A) → slice_get xs i ≡ Some x → drop i xs ≡ x ∷ drop (i + 1) xs
-drop-at xs i x e = drop_more xs i x (slice_get_within xs i x e) ∙ ap (λ y. y ∷ drop (i + 1) xs) (get_or_from_slice_get xs i x x e)
 
 -- one line more
 pub values-next : (g : List Decl) (x : ℕ) (d : Decl) (shown : List Content) (drawn text more whole : List ℕ) → slice_get g x ≡ Some d → drawn ≡ shown_content d.kind (content_at shown x)

@@ -72,7 +72,7 @@ fn text_of(alloc: Global, graph: &Graph) -> Result<Vec<u8>, Failure>
 }
 
 /// `check`: reads the graph, and tells what its variables are.
-pub fn run_check<F: Files>(
+pub(crate) fn run_check<F: Files>(
     alloc: Global,
     words: &[String],
     files: &mut F,

@@ -63,7 +63,7 @@ fn text_of(alloc: Global, script: &Script, lib: &Library) -> Result<Vec<u8>, Fai
 }
 
 /// `dots`: reads the script, and tells what replicas without tombstones print, know and keep.
-pub fn answer_dots<F: Files>(
+pub(crate) fn answer_dots<F: Files>(
     alloc: Global,
     words: &[String],
     files: &mut F,

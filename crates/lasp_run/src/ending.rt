@@ -36,7 +36,7 @@ fn end_with_text<O: Sink, E: Sink>(words: &[String], text: &[u8], out: &mut O, e
 
 /// Writes the text, or says why there is none, and answers the status.
 #[tactic(auto, unfolding(model_program::specs::Ends::Ends))]
-pub fn end<O: Sink, E: Sink>(
+pub(crate) fn end<O: Sink, E: Sink>(
     words: &[String],
     answer: Result<Vec<u8>, Failure>,
     out: &mut O,

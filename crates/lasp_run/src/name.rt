@@ -13,7 +13,7 @@ use std::alloc::AllocError;
 
 #[tactic(auto, using(crate::proofs::NameLaws::names))]
 /// The name of a variable of the graph with all that a script declares.
-pub fn declared_name(graph: &Graph, script: &Script, var: u8) -> Result<Name, AllocError>
+pub(crate) fn declared_name(graph: &Graph, script: &Script, var: u8) -> Result<Name, AllocError>
     requires { var < length (grown graph.now script.now.commands) }
     ensures { IfOk result (λ name. name ≡ name_at (grown graph.now script.now.commands) var) }
 {

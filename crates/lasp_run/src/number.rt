@@ -20,7 +20,7 @@ fn spelled_in(word: &str, least: u32, most: u32, number: u32) -> Option<u32>
 /// The number that a word spells in decimal digits without a leading zero, where it stands between the bounds, these among them. One past them, of any
 /// length, is none.
 #[tactic(auto, using(model_program::proofs::NumberLaws::numbers))]
-pub fn number_in(word: &str, least: u32, most: u32) -> Option<u32>
+pub(crate) fn number_in(word: &str, least: u32, most: u32) -> Option<u32>
     ensures exact { result ≡ number_in word.now least most }
     ensures high { IfSome result (λ number. number ≤ most) }
 {

@@ -37,7 +37,7 @@ fn name_of(words: &[String], file: usize) -> &str
 }
 
 /// Reads the file that a word names.
-pub fn read_file<F: Files>(
+pub(crate) fn read_file<F: Files>(
     alloc: Global,
     words: &[String],
     file: usize,
@@ -69,7 +69,7 @@ fn graph_from(alloc: Global, bytes: &[u8], lib: &Library) -> Result<Graph, Failu
 }
 
 /// The script that the bytes of a file are against a graph.
-pub fn script_from(
+pub(crate) fn script_from(
     alloc: Global,
     graph: &Graph,
     bytes: &[u8],
@@ -89,7 +89,7 @@ pub fn script_from(
 }
 
 /// Reads the graph, whose functions are the library's: the second word's file.
-pub fn open_graph<F: Files>(
+pub(crate) fn open_graph<F: Files>(
     alloc: Global,
     words: &[String],
     files: &mut F,
@@ -108,7 +108,7 @@ pub fn open_graph<F: Files>(
 }
 
 /// The same, with the graph shared.
-pub fn open_shared<F: Files>(
+pub(crate) fn open_shared<F: Files>(
     alloc: Global,
     words: &[String],
     files: &mut F,
@@ -130,7 +130,7 @@ pub fn open_shared<F: Files>(
 }
 
 /// Reads the script against the graph: the third word's file.
-pub fn open_script<F: Files>(
+pub(crate) fn open_script<F: Files>(
     alloc: Global,
     words: &[String],
     graph: &Graph,
@@ -152,7 +152,7 @@ pub fn open_script<F: Files>(
 
 /// A graph and a script that was read against it.
 #[derive(Drop)]
-pub struct Opened {
+pub(crate) struct Opened {
     /// The graph.
     pub graph: Arc<Graph>,
     /// The script.
@@ -160,7 +160,7 @@ pub struct Opened {
 }
 
 /// Reads the graph, and the script against it.
-pub fn open_run<F: Files>(
+pub(crate) fn open_run<F: Files>(
     alloc: Global,
     words: &[String],
     files: &mut F,

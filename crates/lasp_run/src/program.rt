@@ -3,7 +3,7 @@
 ghost use Rattle.std.specs.Prelude.{◌≡◌};
 ghost use Rattle.model_program.specs.Call.{AreUnchanged, AreLater, seen, reading_of, writing_of, IsAnswered};
 ghost use Rattle.model_program.specs.Follows.{Follows};
-ghost use Rattle.model_program.specs.Program.{form, plan};
+ghost use Rattle.model_program.specs.Program.{form, plan, IsUsageForm};
 ghost use Rattle.lasp_graph.specs.Library.{library_of};
 ghost use Rattle.lasp_run.specs.Words.{words_of, answered};
 
@@ -27,7 +27,7 @@ fn answer<F: Files>(
     lib: &Library,
 ) -> Result<Vec<u8>, Failure>
     ensures same { AreUnchanged F.content files.old files.new }
-    ensures unread { form (words_of words.now) ≡ Form.Wrong → files.new ≡ files.old }
+    ensures unread { IsUsageForm (form (words_of words.now)) → files.new ≡ files.old }
     ensures later { AreLater F.faults files.old files.new }
     ensures follows { Follows (words_of words.now) (seen F.content F.faults files.old files.new) (plan (library_of lib.now) (words_of words.now)) (answered result) }
 {
@@ -37,6 +37,7 @@ fn answer<F: Files>(
         Form::Dots => answer_dots(alloc, words, files, lib),
         Form::Export(node) => run_export::<CoreNode, F>(alloc, words, node, files, lib),
         Form::Merge => run_merge::<CoreNode, F>(alloc, words, files, lib),
+        Form::Threaded(_) => Err(Failure::Refused(Refusal::Usage)),
         Form::Wrong => Err(Failure::Refused(Refusal::Usage)),
     }
 }

@@ -1,10 +1,11 @@
 -- What a call that followed its plan answered, where the contents of the files that it read are told.
-use Rattle.std.proofs.Common.{sym, ap, subst, ◌∙◌}
+use Rattle.std.proofs.Common.{refl, sym, ap, subst, ◌∙◌}
 use Rattle.std.specs.Prelude.{◌≡◌, ◌≢◌, ◌⊎◌, ℕ, List, Option, Some, None, option_and_then, Result, Ok, Err}
+use Rattle.std.proofs.lemmas.Option.{same_Some}
 use mathlib.Core.Logic.{inl, inr}
 use Rattle.model_values.specs.Faults.{Rose}
 use Rattle.model_values.specs.Told.{Sees}
-use Rattle.model_program.specs.Plan.{Text, Answer, Plan, Says, Reads, Comes, word_at, told_answer}
+use Rattle.model_program.specs.Plan.{Text, Answer, Plan, Says, Reads, Comes, AreTold, word_at, told_answer}
 use Rattle.model_program.specs.Follows.{View, Fails, AllowsText, Allows, Follows}
 use Rattle.model_program.specs.Line.{status_of}
 use Rattle.model_program.specs.Call.{Writes, Begins}
@@ -12,9 +13,6 @@ use Rattle.model_program.specs.Ends.{Writing, Ends, Settles, MeetsFault, NoFault
 use Rattle.model_program.specs.declared.refusal.Refusal.{Refusal}
 use Rattle.model_program.specs.declared.failure.Failure.{Failure}
 use Rattle.model_program.specs.declared.failure.Failure.TheVariants.{Refused, ReadFault, Memory}
-
-some-same : {A : Type 0} (x y : A) → Some x ≡ Some y → x ≡ y
-some-same x y e = cc
 
 settles-says : (words : List (List ℕ)) (v : View) (answer a : Answer) (r : Result (List ℕ) Failure) → Allows answer r → answer ≡ a → Settles words v (Says answer) a r
 settles-says words v answer a (Ok text) h e = subst (λ (b : Answer). AllowsText b text) e h
@@ -45,13 +43,13 @@ told-seen next (Some content) bytes a sees e = (ap Some (sym sees), ap next sees
 -- where the plan comes to an answer over what is told, the result is that answer, want of memory, or a fault of a file to which the plan comes
 pub follows-told : (words : List (List ℕ)) (v : View) (p : Plan) (r : Result (List ℕ) Failure) (a : Answer) → Follows words v p r → told_answer v.content words p ≡ Some a → Settles words v p a r
 unfolding Follows told_answer
-follows-told words v (Says answer) r a h e = settles-says words v answer a r h (some-same answer a e)
+follows-told words v (Says answer) r a h e = settles-says words v answer a r h (same_Some answer a e)
 follows-told words v (Reads f next) r a (inl fails) e = settles-fails words v f next a r fails
 follows-told words v (Reads f next) r a (inr (bytes, sees, rest)) e =
     let seen = told-seen (λ read. told_answer v.content words (next read)) (v.content (word_at words f)) bytes a sees e in
     settles-rest words v f next bytes a r seen.0 (follows-told words v (next bytes) r a rest seen.1)
 
-err-same : (x y : Refusal) → ◌≡◌ {A = Answer} (Err x) (Err y) → x ≡ y
+pub err-same : (x y : Refusal) → ◌≡◌ {A = Answer} (Err x) (Err y) → x ≡ y
 err-same x y e = cc
 
 -- a refusal that the contents decide: its status, or that of want of memory or of a fault
@@ -93,3 +91,12 @@ unfolding Ends
 quiet-ends words (Ok text) out err status not_done not_fault (inl (done, appends, same)) = absurd (not_done done)
 quiet-ends words (Ok text) out err status not_done not_fault (inr (fault, some, rose, part, line)) = absurd (not_fault fault)
 quiet-ends words (Err failure) out err status not_done not_fault ends = ends.1
+
+-- where each file to which the plan comes is told, it comes to an answer
+pub told-decides : (content : List ℕ → Option (List ℕ)) (words : List (List ℕ)) (p : Plan) → AreTold content words p → (answer : Answer) × (told_answer content words p ≡ Some answer)
+unfolding Comes told_answer
+told-decides content words (Says answer) told = (answer, refl)
+told-decides content words (Reads f next) told =
+    let here = told f (inl refl) in
+    let rest = told-decides content words (next here.0) (λ e comes. told e (inr (here.0, here.1, comes))) in
+    (rest.0, ap (λ (found : Option (List ℕ)). option_and_then (λ bytes. told_answer content words (next bytes)) found) here.1 ∙ rest.1)

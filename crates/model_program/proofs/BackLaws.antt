@@ -29,10 +29,10 @@ use Rattle.model_program.specs.Cause.{IsGraphRefused, graph_long, graph_bad, IsS
 use Rattle.model_program.specs.Check.{check_text}
 use Rattle.model_program.specs.Merge.{file_at, may_take, replica_before, merge_text, merging_files, joined}
 use Rattle.model_program.specs.Plan.{Exactly, Answer, Plan, Says, exactly, checked, within, reading, word_at, file_limit, told_answer}
-use Rattle.model_program.specs.Program.{form, plan, plan_of, opening, scripting, running_script, exporting_script, run_answer, export_answer, exported_bytes, stopped, graph_refused as refused_graph, script_refused as refused_script}
+use Rattle.model_program.specs.Program.{form, plan, IsUsageForm, plan_of, opening, scripting, running_script, exporting_script, run_answer, export_answer, exported_bytes, stopped, graph_refused as refused_graph, script_refused as refused_script}
 use Rattle.model_program.specs.Told.{IsFileTold, IsGraphTold, IsScriptTold, IsDotsTold, IsOfGraph, IsOfNodes, IsJoined, AreJoined, none, more}
 use Rattle.model_program.specs.declared.form.Form.{Form}
-use Rattle.model_program.specs.declared.form.Form.TheVariants.{Plain, Check, Dots, Export, Merge, Wrong}
+use Rattle.model_program.specs.declared.form.Form.TheVariants.{Plain, Check, Dots, Export, Merge, Threaded, Wrong}
 use Rattle.model_program.specs.declared.refusal.Refusal.{Refusal}
 use Rattle.model_program.specs.declared.refusal.Refusal.TheVariants as refusal
 use Rattle.model_program.proofs.CauseLaws.{told-answer}
@@ -117,14 +117,14 @@ module _ (lib : Library) (content : List ℕ → Option (List ℕ)) (words : Lis
   plain-script g is graph (script_is_read s script) = plain-run g s is graph script (ended g s) refl
 
   plain-found : (a : Answer) → form words ≡ Plain → told (plan_of lib words Plain) ≡ Some a → GraphSeen → Found
-  plain-found a is e (graph_is_refused {x = x} h) = (Err x, graph_refused ((λ w. let clash : Plain ≡ Wrong = sym is ∙ w in cc), (λ w. let clash : Plain ≡ Dots = sym is ∙ w in cc)) h)
+  plain-found a is e (graph_is_refused {x = x} h) = (Err x, graph_refused (subst ReadsGraph (sym is) tt) h)
   plain-found a is e (graph_is_read g graph) =
       plain-script g is graph (script-seen g (λ s. Says (exactly (run_answer report_of g s))) a (sym (opening-read lib content words (λ h. running_script lib report_of h) g graph) ∙ e))
 
   -- ---- `check`
 
   check-found : form words ≡ Check → GraphSeen → Found
-  check-found is (graph_is_refused {x = x} h) = (Err x, graph_refused ((λ w. let clash : Check ≡ Wrong = sym is ∙ w in cc), (λ w. let clash : Check ≡ Dots = sym is ∙ w in cc)) h)
+  check-found is (graph_is_refused {x = x} h) = (Err x, graph_refused (subst ReadsGraph (sym is) tt) h)
   check-found is (graph_is_read g graph) = (Ok (Exactly (check_text g)), checked_so is graph)
 
   -- ---- `dots`
@@ -161,7 +161,7 @@ module _ (lib : Library) (content : List ℕ → Option (List ℕ)) (words : Lis
   export-script node g is graph (script_is_read s script) = export-node node g s is graph script _ refl
 
   export-found : (node : ℕ) (a : Answer) → form words ≡ Export node → told (plan_of lib words (Export node)) ≡ Some a → GraphSeen → Found
-  export-found node a is e (graph_is_refused {x = x} h) = (Err x, graph_refused ((λ w. let clash : Export node ≡ Wrong = sym is ∙ w in cc), (λ w. let clash : Export node ≡ Dots = sym is ∙ w in cc)) h)
+  export-found node a is e (graph_is_refused {x = x} h) = (Err x, graph_refused (subst ReadsGraph (sym is) tt) h)
   export-found node a is e (graph_is_read g graph) =
       export-script node g is graph (script-seen g (λ s. Says (exactly (export_answer node g s))) a (sym (opening-read lib content words (λ h. exporting_script lib node h) g graph) ∙ e))
 
@@ -220,7 +220,7 @@ module _ (lib : Library) (content : List ℕ → Option (List ℕ)) (words : Lis
         (λ m here. merge-files left (ms ++ m ∷ []) a is graph (more there here) (omega (arith, count, length-append ms (m ∷ []))) (sym (file-joined g content words ms m left there here) ∙ e))
 
   merge-found : (a : Answer) → form words ≡ Merge → told (plan_of lib words Merge) ≡ Some a → GraphSeen → Found
-  merge-found a is e (graph_is_refused {x = x} h) = (Err x, graph_refused ((λ w. let clash : Merge ≡ Wrong = sym is ∙ w in cc), (λ w. let clash : Merge ≡ Dots = sym is ∙ w in cc)) h)
+  merge-found a is e (graph_is_refused {x = x} h) = (Err x, graph_refused (subst ReadsGraph (sym is) tt) h)
   merge-found a is e (graph_is_read g graph) =
       let files : told (merging_files g (length words - 3)) ≡ Some a = sym (opening-read lib content words (λ h. merging_files h (length words - 3)) g graph) ∙ e in
       merge-files g (suc (length words - 3)) [] a is graph none (omega (arith, merge-many words is)) files
@@ -233,7 +233,8 @@ module _ (lib : Library) (content : List ℕ → Option (List ℕ)) (words : Lis
   found Dots a is e = dots-found a is e
   found (Export node) a is e = export-found node a is e (graph-seen (λ g. exporting_script lib node g) a e)
   found Merge a is e = merge-found a is e (graph-seen (λ g. merging_files g (length words - 3)) a e)
-  found Wrong a is e = (Err refusal.Usage, usage is)
+  found (Threaded threads) a is e = (Err refusal.Usage, usage (subst IsUsageForm (sym is) tt))
+  found Wrong a is e = (Err refusal.Usage, usage (subst IsUsageForm (sym is) tt))
 
   -- ---- the answer of a cause
 
@@ -247,8 +248,19 @@ module _ (lib : Library) (content : List ℕ → Option (List ℕ)) (words : Lis
   graph-first Check x right h = graph-told (λ g. Says (exactly (Ok (check_text g)))) x h
   graph-first (Export node) x right h = graph-told (λ g. exporting_script lib node g) x h
   graph-first Merge x right h = graph-told (λ g. merging_files g (length words - 3)) x h
-  graph-first Dots x right h = absurd (right.1 refl)
-  graph-first Wrong x right h = absurd (right.0 refl)
+  graph-first Dots x right h = absurd right
+  graph-first (Threaded threads) x right h = absurd right
+  graph-first Wrong x right h = absurd right
+
+  -- words that one thread answers with usage
+  usage-first : (f : Form) → IsUsageForm f → told (plan_of lib words f) ≡ Some (Err refusal.Usage)
+  usage-first Plain is = absurd is
+  usage-first Check is = absurd is
+  usage-first Dots is = absurd is
+  usage-first (Export node) is = absurd is
+  usage-first Merge is = absurd is
+  usage-first (Threaded threads) is = told-answer content words (Err refusal.Usage) (Err refusal.Usage) refl
+  usage-first Wrong is = told-answer content words (Err refusal.Usage) (Err refusal.Usage) refl
 
   script-told : (g : List Decl) (go_on : Script → Plan) (x : Refusal) → IsScriptRefused lib content words g x → told (scripting lib g go_on) ≡ Some (Err x)
   script-told g go_on _ (script_long {bytes = bytes} is many) = scripting-long lib content words g go_on bytes is many
@@ -277,7 +289,7 @@ module _ (lib : Library) (content : List ℕ → Option (List ℕ)) (words : Lis
 
   -- a cause has its answer
   pub cause-told : (a : Answer) → HasCause lib content words a → told (plan lib words) ≡ Some a
-  cause-told _ (usage is) = told-form lib content words Wrong is ∙ told-answer content words (Err refusal.Usage) (Err refusal.Usage) refl
+  cause-told _ (usage is) = usage-first (form words) is
   cause-told _ (graph_refused {x = x} right h) = graph-first (form words) x right h
   cause-told _ (script_refused {g = g} {x = x} is graph h) = to-run Plain g (run_answer report_of) is refl graph ∙ script-told g (λ s. Says (exactly (run_answer report_of g s))) x h
   cause-told _ (run_stopped {g = g} {s = s} {halt = halt} is graph script e) =

@@ -18,7 +18,7 @@ use Rattle.model_program.specs.Dots.{dots_or, dots_answer, IsDotStatus, done, sc
 use Rattle.model_program.specs.Ends.{Writing, Ends}
 use Rattle.model_program.specs.Follows.{View, Follows}
 use Rattle.model_program.specs.Line.{refusal_status}
-use Rattle.model_program.specs.Plan.{Exactly, Answer, Says, exactly, told_answer, word_at, file_limit, checked}
+use Rattle.model_program.specs.Plan.{Exactly, Says, exactly, told_answer, word_at, file_limit, checked}
 use Rattle.model_program.specs.Program.{form, plan, plan_of, script_refused, running_dots}
 use Rattle.model_program.specs.Told.{IsFileTold, IsDotsTold}
 use Rattle.model_program.specs.declared.failure.Failure.{Failure}
@@ -30,6 +30,7 @@ use Rattle.model_program.specs.declared.refusal.Refusal.TheVariants as refusal
 use Rattle.model_program.proofs.CauseLaws.{told-short, told-long, told-checked, told-refused, told-answer}
 use Rattle.model_program.proofs.PlanCauses.{told-form}
 use Rattle.model_program.proofs.PlanLaws.{choice}
+use Rattle.model_program.proofs.AnswerLaws.{err-same}
 
 -- ---- over told contents
 
@@ -77,26 +78,20 @@ refusal-ends e long = file
 refusal-ends e bad = script
 refusal-ends e other = script
 
-err-refusal : (e f : Refusal) → ◌≡◌ {A = Answer} (Err e) (Err f) → e ≡ f
-err-refusal e f h = cc
-
-err-told : (e f : Refusal) → ◌≡◌ {A = Result (List ℕ) Refusal} (Err e) (Err f) → e ≡ f
-err-told e f h = cc
-
 or-refusal : (s : Script) (first : Option ℕ) (e : Refusal) → exactly (dots_or s first) ≡ Err e → IsDotRefusal e
-or-refusal s (Some number) e h = subst IsDotRefusal (err-refusal (refusal.NotDots number) e h) other
+or-refusal s (Some number) e h = subst IsDotRefusal (err-same (refusal.NotDots number) e h) other
 or-refusal s None e h = absurd cc
 
 -- a script that was read, or refused
 read-refusal : (words : List (List ℕ)) (v : View) (read : Result Script (ℕ × ScriptWhy)) (e : Refusal) → Follows words v (checked script_refused read (λ s. Says (exactly (dots_answer s)))) (Err (Refused e)) → IsDotRefusal e
 unfolding Follows
 read-refusal words v (Ok s) e h = or-refusal s (first_other 1 s.commands) e h
-read-refusal words v (Err why) e h = subst IsDotRefusal (err-refusal (script_refused why) e h) bad
+read-refusal words v (Err why) e h = subst IsDotRefusal (err-same (script_refused why) e h) bad
 
 short-refusal : (lib : Library) (words : List (List ℕ)) (v : View) (bytes : List ℕ) (is_long : Bool) (e : Refusal)
     → Follows words v (checked (λ e. e) (choice 1 bytes is_long) (λ bytes. checked script_refused (script_of lib one_set bytes) (λ s. Says (exactly (dots_answer s))))) (Err (Refused e)) → IsDotRefusal e
 unfolding Follows
-short-refusal lib words v bytes true e h = subst IsDotRefusal (err-refusal (refusal.TooLong 1) e h) long
+short-refusal lib words v bytes true e h = subst IsDotRefusal (err-same (refusal.TooLong 1) e h) long
 short-refusal lib words v bytes false e h = read-refusal words v (script_of lib one_set bytes) e h
 
 plan-refusal : (lib : Library) (words : List (List ℕ)) (v : View) (e : Refusal) → Follows words v (running_dots lib) (Err (Refused e)) → IsDotRefusal e

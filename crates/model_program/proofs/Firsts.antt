@@ -1,25 +1,20 @@
 -- Graphs are read by one reader of declarations after the other.
 use Rattle.std.proofs.Common.{refl, sym, ◌∙◌}
-use Rattle.std.specs.Prelude.{◌≡◌, ◌↔◌, ℕ, List, [], ◌∷◌, ◌++◌, length, Result, Ok, Err}
+use Rattle.std.specs.Prelude.{◌≡◌, ◌↔◌, ℕ, List, [], ◌∷◌, ◌++◌, length, Ok, Err}
 use Rattle.serde_json.specs.Data.{Data}
 use Rattle.model_functions.specs.Library.{Library}
-use Rattle.model_graph.specs.Chain.{◌>>=◌}
 use Rattle.model_graph.specs.Graph.{Decl}
 use Rattle.model_readings.specs.Graph.{numbered, decls_read}
 use Rattle.model_readings.specs.Graph as graph
 use Rattle.model_readings.specs.declared.graph_why.GraphWhy.{GraphWhy}
 use Rattle.model_program.specs.First.{AreDecls, IsRefusedDecl}
 use Rattle.model_program.proofs.FirstLaws.{all_read, refused-found, refused-is, accepted-found, accepted-is}
-
--- where a first step passes, two ways to go on that agree give the same
-then-same : {A B E : Type 0} (r : Result A E) (f h : A → Result B E) → ((a : A) → f a ≡ h a) → (r >>= f) ≡ (r >>= h)
-then-same (Ok a) f h e = e a
-then-same (Err w) f h e = refl
+use Rattle.model_known.proofs.FollowLaws.{bind-alike}
 
 decls-all_read : (lib : Library) (before : List Decl) (ds : List Data) → decls_read lib before ds ≡ all_read (graph.next_read lib) length before ds
 unfolding decls_read all_read
 decls-all_read lib before [] = refl
-decls-all_read lib before (d ∷ ds) = then-same (numbered (length before) (graph.next_read lib before d)) _ _ (λ decl. decls-all_read lib (before ++ decl ∷ []) ds)
+decls-all_read lib before (d ∷ ds) = bind-alike (numbered (length before) (graph.next_read lib before d)) _ _ (λ decl. decls-all_read lib (before ++ decl ∷ []) ds)
 
 pub decls-refused : (lib : Library) (ds : List Data) (number : ℕ) (why : GraphWhy) → (decls_read lib [] ds ≡ Err (number, why) ↔ IsRefusedDecl lib [] ds number why)
 decls-refused lib ds number why = (

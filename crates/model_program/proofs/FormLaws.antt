@@ -3,15 +3,17 @@ use Rattle.std.proofs.Common.{refl, sym, ap, subst, ◌∙◌, arith}
 use Rattle.std.specs.Prelude.{◌≡◌, ◌≢◌, ◌↔◌, ℕ, ◌<◌, ◌≤◌, ◌&&◌, ◌==◌, List, [], ◌∷◌, length, codes, Bool, true, false, if◌then◌else◌, nat_lt, Option, Some, None}
 use Rattle.std.specs.Fmt.{decimal}
 use Rattle.std.specs.Str.{bytes_eq}
-use Rattle.std.proofs.lemmas.Bool.{ltb-true, lt-ltb, and_parts}
+use Rattle.std.proofs.lemmas.Bool.{ltb-true, lt-ltb, and_parts, and_right, and_from}
 use Rattle.std.proofs.lemmas.Bool.Decides.{Decides-eqb}
 use Rattle.std.proofs.lemmas.Slice.Eq.{bytes_eq-Decides}
 use Rattle.model_program.specs.Plan.{word_at}
-use Rattle.model_program.specs.Program.{node_word, export_form, form}
+use Rattle.model_program.specs.Program.{node_word, export_form, workers_word, with_workers, number_in, load_form, threaded_form, form}
 use Rattle.model_program.proofs.NumberLaws.{number-decimal, number-spelled}
-use Rattle.model_program.specs.Listed.{IsListed, plain, check, dots, export, merge}
+use Rattle.model_program.specs.Listed.{AreWorkers, IsListed, plain, check, dots, export, merge, run, trace, live, load}
 use Rattle.model_program.specs.declared.form.Form.{Form}
-use Rattle.model_program.specs.declared.form.Form.TheVariants.{Plain, Check, Dots, Export, Merge, Wrong}
+use Rattle.model_program.specs.declared.form.Form.TheVariants.{Plain, Check, Dots, Export, Merge, Threaded, Wrong}
+use Rattle.model_program.specs.declared.threaded.Threaded as threads
+use Rattle.model_program.specs.declared.threaded.Threaded.TheVariants.{Run, Trace, Live, Load}
 
 -- ---- a node's number
 
@@ -26,14 +28,31 @@ record IsNodeWord (word : List ℕ) (node : ℕ) : Type 0 where
 word-node : (word : List ℕ) (node : ℕ) → node_word word ≡ Some node → IsNodeWord word node
 word-node word node e = let found = number-spelled word 0 7 node e in record { few = omega (arith, found.high); is = found.is }
 
+-- ---- a number of workers
+
+workers-decimal : (workers : ℕ) → AreWorkers workers → workers_word (decimal workers) ≡ Some workers
+workers-decimal workers are = number-decimal 1 16 workers (omega (arith, are.1)) are.0 are.1
+
+-- the word is a number of workers in digits
+record IsWorkersWord (word : List ℕ) (workers : ℕ) : Type 0 where
+  are : AreWorkers workers
+  is : word ≡ decimal workers
+
+word-workers : (word : List ℕ) (workers : ℕ) → workers_word word ≡ Some workers → IsWorkersWord word workers
+word-workers word workers e = let found = number-spelled word 1 16 workers e in record { are = (found.low, found.high); is = found.is }
+
 -- ---- forms by their words
 
 word-true : (word text : List ℕ) → bytes_eq word text ≡ true → word ≡ text
 word-true word text h = (bytes_eq-Decides word text).0 h
 
 -- the tests of the forms, one after the other
-abbrev chosen : Bool → Bool → Bool → Bool → Option ℕ → Bool → Form
-chosen a b e c node d = if a then Plain else if b then Check else if e then Dots else if c then export_form node else if d then Merge else Wrong
+abbrev chosen : Bool → Bool → Bool → Bool → Option ℕ → Bool → Form → Form
+chosen a b e c node d rest = if a then Plain else if b then Check else if e then Dots else if c then export_form node else if d then Merge else rest
+
+-- the form of other words
+abbrev rest_form : List (List ℕ) → Form
+rest_form words = if length words == 4 then threaded_form words else Wrong
 
 abbrev is_plain : List (List ℕ) → Bool
 is_plain words = length words == 3 && bytes_eq (word_at words 0) (codes "plain")
@@ -50,7 +69,7 @@ is_export words = length words == 4 && bytes_eq (word_at words 0) (codes "export
 abbrev is_merge : List (List ℕ) → Bool
 is_merge words = nat_lt 2 (length words) && nat_lt (length words) 11 && bytes_eq (word_at words 0) (codes "merge")
 
-form-chosen : (words : List (List ℕ)) → form words ≡ chosen (is_plain words) (is_check words) (is_dots words) (is_export words) (node_word (word_at words 3)) (is_merge words)
+form-chosen : (words : List (List ℕ)) → form words ≡ chosen (is_plain words) (is_check words) (is_dots words) (is_export words) (node_word (word_at words 3)) (is_merge words) (rest_form words)
 unfolding form
 form-chosen words = refl
 
@@ -99,27 +118,88 @@ data FormAnswer (words : List (List ℕ)) : Form → Type 0 where
   none : FormAnswer words Wrong
   listed : {f : Form} → IsListed words f → FormAnswer words f
 
-answer-merge : (words : List (List ℕ)) (d : Bool) → is_merge words ≡ d → FormAnswer words (if d then Merge else Wrong)
+-- ---- the forms for several threads
+
+answer-workers : (words : List (List ℕ)) (make : ℕ → threads.Threaded) (word : List ℕ) (workers : Option ℕ) → workers_word word ≡ workers
+    → ((n : ℕ) → IsWorkersWord word n → IsListed words (Threaded (make n))) → FormAnswer words (with_workers make workers)
+answer-workers words make word None e is = none
+answer-workers words make word (Some n) e is = listed (is n (word-workers word n e))
+
+-- words of a form with a graph, a script and a number of workers
+with-word : (form : List ℕ) (make : ℕ → threads.Threaded) (a b c d : List ℕ) (n : ℕ) → ((graph script : List ℕ) (workers : ℕ) → AreWorkers workers → IsListed (form ∷ graph ∷ script ∷ decimal workers ∷ []) (Threaded (make workers)))
+    → a ≡ form → IsWorkersWord d n → IsListed (a ∷ b ∷ c ∷ d ∷ []) (Threaded (make n))
+with-word form make a b c d n lists first last =
+    subst (λ (w : List ℕ). IsListed (w ∷ b ∷ c ∷ d ∷ []) (Threaded (make n))) (sym first)
+    (subst (λ (w : List ℕ). IsListed (form ∷ b ∷ c ∷ w ∷ []) (Threaded (make n))) (sym last.is) (lists b c n last.are))
+
+load-word : (a b c d : List ℕ) (seed count n : ℕ) → a ≡ codes "load" → number_in b 0 2147483647 ≡ Some seed → number_in c 1 20000 ≡ Some count → IsWorkersWord d n → IsListed (a ∷ b ∷ c ∷ d ∷ []) (Threaded (Load seed count n))
+load-word a b c d seed count n first seeded counted last =
+    let seeds = number-spelled b 0 2147483647 seed seeded in
+    let counts = number-spelled c 1 20000 count counted in
+    subst (λ (w : List ℕ). IsListed (w ∷ b ∷ c ∷ d ∷ []) (Threaded (Load seed count n))) (sym first)
+    (subst (λ (w : List ℕ). IsListed (codes "load" ∷ w ∷ c ∷ d ∷ []) (Threaded (Load seed count n))) (sym seeds.is)
+    (subst (λ (w : List ℕ). IsListed (codes "load" ∷ decimal seed ∷ w ∷ d ∷ []) (Threaded (Load seed count n))) (sym counts.is)
+    (subst (λ (w : List ℕ). IsListed (codes "load" ∷ decimal seed ∷ decimal count ∷ w ∷ []) (Threaded (Load seed count n))) (sym last.is) (load seeds.high counts.low counts.high last.are))))
+
+answer-load : (a b c d : List ℕ) (seed count : Option ℕ) → a ≡ codes "load" → number_in b 0 2147483647 ≡ seed → number_in c 1 20000 ≡ count → FormAnswer (a ∷ b ∷ c ∷ d ∷ []) (load_form seed count (workers_word d))
+answer-load a b c d None count first seeded counted = none
+answer-load a b c d (Some seed) None first seeded counted = none
+answer-load a b c d (Some seed) (Some count) first seeded counted =
+    answer-workers (a ∷ b ∷ c ∷ d ∷ []) (Load seed count) d (workers_word d) refl (λ n last. load-word a b c d seed count n first seeded counted last)
+
+-- the tests of the forms for several threads, one after the other
+abbrev picked : Bool → Bool → Bool → Bool → List ℕ → List ℕ → List ℕ → Form
+picked r t l o b c d =
+    if r then with_workers Run (workers_word d) else if t then with_workers Trace (workers_word d) else if l then with_workers Live (workers_word d)
+    else if o then load_form (number_in b 0 2147483647) (number_in c 1 20000) (workers_word d) else Wrong
+
+answer-picked : (a b c d : List ℕ) (r t l o : Bool) → bytes_eq a (codes "run") ≡ r → bytes_eq a (codes "trace") ≡ t → bytes_eq a (codes "live") ≡ l → bytes_eq a (codes "load") ≡ o
+    → FormAnswer (a ∷ b ∷ c ∷ d ∷ []) (picked r t l o b c d)
+answer-picked a b c d true t l o e h k m = answer-workers (a ∷ b ∷ c ∷ d ∷ []) Run d (workers_word d) refl (λ n last. with-word (codes "run") Run a b c d n (λ graph script workers are. run are) (word-true a (codes "run") e) last)
+answer-picked a b c d false true l o e h k m = answer-workers (a ∷ b ∷ c ∷ d ∷ []) Trace d (workers_word d) refl (λ n last. with-word (codes "trace") Trace a b c d n (λ graph script workers are. trace are) (word-true a (codes "trace") h) last)
+answer-picked a b c d false false true o e h k m = answer-workers (a ∷ b ∷ c ∷ d ∷ []) Live d (workers_word d) refl (λ n last. with-word (codes "live") Live a b c d n (λ graph script workers are. live are) (word-true a (codes "live") k) last)
+answer-picked a b c d false false false true e h k m = answer-load a b c d (number_in b 0 2147483647) (number_in c 1 20000) (word-true a (codes "load") m) refl refl
+answer-picked a b c d false false false false e h k m = none
+
+answer-threaded : (a b c d : List ℕ) → FormAnswer (a ∷ b ∷ c ∷ d ∷ []) (threaded_form (a ∷ b ∷ c ∷ d ∷ []))
+unfolding threaded_form
+answer-threaded a b c d = answer-picked a b c d (bytes_eq a (codes "run")) (bytes_eq a (codes "trace")) (bytes_eq a (codes "live")) (bytes_eq a (codes "load")) refl refl refl refl
+
+answer-more : (words : List (List ℕ)) (four : Bool) → (length words == 4) ≡ four → 5 ≤ length words → FormAnswer words (if four then threaded_form words else Wrong)
+answer-more words true e many = absurd (omega (arith, (Decides-eqb (length words) 4).0 e, many))
+answer-more words false e many = none
+
+answer-rest : (words : List (List ℕ)) → FormAnswer words (rest_form words)
+answer-rest [] = none
+answer-rest (a ∷ []) = none
+answer-rest (a ∷ b ∷ []) = none
+answer-rest (a ∷ b ∷ c ∷ []) = none
+answer-rest (a ∷ b ∷ c ∷ d ∷ []) = answer-threaded a b c d
+answer-rest (a ∷ b ∷ c ∷ d ∷ f ∷ rest) = answer-more (a ∷ b ∷ c ∷ d ∷ f ∷ rest) (length (a ∷ b ∷ c ∷ d ∷ f ∷ rest) == 4) refl (omega arith)
+
+-- ---- the other forms
+
+answer-merge : (words : List (List ℕ)) (d : Bool) → is_merge words ≡ d → FormAnswer words (if d then Merge else rest_form words)
 answer-merge words true e = listed (merge-listed words e)
-answer-merge words false e = none
+answer-merge words false e = answer-rest words
 
 answer-node : (words : List (List ℕ)) (node : Option ℕ) → is_export words ≡ true → node_word (word_at words 3) ≡ node → FormAnswer words (export_form node)
 answer-node words None h e = none
 answer-node words (Some node) h e = listed (export-listed words node h e)
 
-answer-export : (words : List (List ℕ)) (c : Bool) → is_export words ≡ c → FormAnswer words (if c then export_form (node_word (word_at words 3)) else if is_merge words then Merge else Wrong)
+answer-export : (words : List (List ℕ)) (c : Bool) → is_export words ≡ c → FormAnswer words (if c then export_form (node_word (word_at words 3)) else if is_merge words then Merge else rest_form words)
 answer-export words true e = answer-node words (node_word (word_at words 3)) e refl
 answer-export words false e = answer-merge words (is_merge words) refl
 
-answer-dots : (words : List (List ℕ)) (e : Bool) → is_dots words ≡ e → FormAnswer words (if e then Dots else if is_export words then export_form (node_word (word_at words 3)) else if is_merge words then Merge else Wrong)
+answer-dots : (words : List (List ℕ)) (e : Bool) → is_dots words ≡ e → FormAnswer words (if e then Dots else if is_export words then export_form (node_word (word_at words 3)) else if is_merge words then Merge else rest_form words)
 answer-dots words true h = listed (dots-listed words h)
 answer-dots words false h = answer-export words (is_export words) refl
 
-answer-check : (words : List (List ℕ)) (b : Bool) → is_check words ≡ b → FormAnswer words (if b then Check else if is_dots words then Dots else if is_export words then export_form (node_word (word_at words 3)) else if is_merge words then Merge else Wrong)
+answer-check : (words : List (List ℕ)) (b : Bool) → is_check words ≡ b → FormAnswer words (if b then Check else if is_dots words then Dots else if is_export words then export_form (node_word (word_at words 3)) else if is_merge words then Merge else rest_form words)
 answer-check words true e = listed (check-listed words e)
 answer-check words false e = answer-dots words (is_dots words) refl
 
-answer-plain : (words : List (List ℕ)) (a : Bool) → is_plain words ≡ a → FormAnswer words (chosen a (is_check words) (is_dots words) (is_export words) (node_word (word_at words 3)) (is_merge words))
+answer-plain : (words : List (List ℕ)) (a : Bool) → is_plain words ≡ a → FormAnswer words (chosen a (is_check words) (is_dots words) (is_export words) (node_word (word_at words 3)) (is_merge words) (rest_form words))
 answer-plain words true e = listed (plain-listed words e)
 answer-plain words false e = answer-check words (is_check words) refl
 
@@ -128,33 +208,31 @@ form-answer words = subst (FormAnswer words) (sym (form-chosen words)) (answer-p
 
 -- ---- words by their forms
 
-and-false : (b : Bool) → (b && false) ≡ false
-and-false true = refl
-and-false false = refl
-
-and-two : (a b : Bool) → a ≡ true → b ≡ true → (a && b) ≡ true
-and-two true true h k = refl
-and-two true false h k = absurd cc
-and-two false b h k = absurd cc
-
 merge-form : (graph : List ℕ) (files : List (List ℕ)) → 1 ≤ length files → length files ≤ 8 → form (codes "merge" ∷ graph ∷ files) ≡ Merge
 merge-form graph files some few =
     let words : List (List ℕ) = codes "merge" ∷ graph ∷ files in
     form-chosen words
-    ∙ ap (λ (a : Bool). chosen a (is_check words) (is_dots words) (is_export words) (node_word (word_at words 3)) (is_merge words)) (and-false (length words == 3))
-    ∙ ap (λ (b : Bool). chosen false b (is_dots words) (is_export words) (node_word (word_at words 3)) (is_merge words)) (and-false (length words == 2))
-    ∙ ap (λ (e : Bool). chosen false false e (is_export words) (node_word (word_at words 3)) (is_merge words)) (and-false (length words == 2))
-    ∙ ap (λ (c : Bool). chosen false false false c (node_word (word_at words 3)) (is_merge words)) (and-false (length words == 4))
-    ∙ ap (λ (d : Bool). chosen false false false false (node_word (word_at words 3)) (d && true)) (and-two (nat_lt 2 (length words)) (nat_lt (length words) 11) (lt-ltb 2 (length words) (omega (arith, some))) (lt-ltb (length words) 11 (omega (arith, few))))
+    ∙ ap (λ (a : Bool). chosen a (is_check words) (is_dots words) (is_export words) (node_word (word_at words 3)) (is_merge words) (rest_form words)) ((and_right (length words == 3) false refl))
+    ∙ ap (λ (b : Bool). chosen false b (is_dots words) (is_export words) (node_word (word_at words 3)) (is_merge words) (rest_form words)) ((and_right (length words == 2) false refl))
+    ∙ ap (λ (e : Bool). chosen false false e (is_export words) (node_word (word_at words 3)) (is_merge words) (rest_form words)) ((and_right (length words == 2) false refl))
+    ∙ ap (λ (c : Bool). chosen false false false c (node_word (word_at words 3)) (is_merge words) (rest_form words)) ((and_right (length words == 4) false refl))
+    ∙ ap (λ (d : Bool). chosen false false false false (node_word (word_at words 3)) (d && true) (rest_form words)) (and_from (nat_lt 2 (length words)) (nat_lt (length words) 11) (lt-ltb 2 (length words) (omega (arith, some))) (lt-ltb (length words) 11 (omega (arith, few))))
 
 -- words of a listed form have this form
 pub listed-form : (words : List (List ℕ)) (f : Form) → IsListed words f → form words ≡ f
-unfolding form
+unfolding form threaded_form
 listed-form words f plain = refl
 listed-form words f check = refl
 listed-form words f dots = refl
 listed-form words f (export {node = node} few) = ap export_form (node-decimal node few)
 listed-form words f (merge {graph = graph} {files = files} some few) = merge-form graph files some few
+listed-form words f (run {workers = workers} are) = ap (with_workers Run) (workers-decimal workers are)
+listed-form words f (trace {workers = workers} are) = ap (with_workers Trace) (workers-decimal workers are)
+listed-form words f (live {workers = workers} are) = ap (with_workers Live) (workers-decimal workers are)
+listed-form words f (load {seed = seed} {count = count} {workers = workers} small some few are) =
+    ap (λ (found : Option ℕ). load_form found (number_in (decimal count) 1 20000) (workers_word (decimal workers))) (number-decimal 0 2147483647 seed (omega (arith, small)) (omega arith) small)
+    ∙ ap (λ (found : Option ℕ). load_form (Some seed) found (workers_word (decimal workers))) (number-decimal 1 20000 count (omega (arith, few)) some few)
+    ∙ ap (with_workers (Load seed count)) (workers-decimal workers are)
 
 not-wrong : (words : List (List ℕ)) (f : Form) → IsListed words f → f ≡ Wrong → ⊥
 not-wrong words f plain e = absurd cc
@@ -162,6 +240,10 @@ not-wrong words f check e = absurd cc
 not-wrong words f dots e = absurd cc
 not-wrong words f (export few) e = absurd cc
 not-wrong words f (merge some few) e = absurd cc
+not-wrong words f (run are) e = absurd cc
+not-wrong words f (trace are) e = absurd cc
+not-wrong words f (live are) e = absurd cc
+not-wrong words f (load small some few are) e = absurd cc
 
 none-listed : (words : List (List ℕ)) (f : Form) → FormAnswer words f → ((g : Form) → ¬ IsListed words g) → f ≡ Wrong
 none-listed words f none h = refl

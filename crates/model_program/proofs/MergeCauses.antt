@@ -1,7 +1,8 @@
 -- The files of a merge over told contents, one after the other.
 use Rattle.std.proofs.Common.{refl, sym, ap, ◌∙◌, arith}
-use Rattle.std.specs.Prelude.{◌≡◌, ◌≢◌, ◌<◌, ◌≤◌, ℕ, ◌+◌, ◌-◌, zero, suc, List, [], ◌∷◌, ◌++◌, length, Bool, true, false, Option, Some, None, Result, Ok, Err}
+use Rattle.std.specs.Prelude.{◌≡◌, ◌≢◌, ◌<◌, ◌≤◌, ℕ, ◌+◌, ◌-◌, zero, suc, List, [], ◌∷◌, ◌++◌, length, Bool, Option, Some, None, Result, Ok, Err}
 use Rattle.std.proofs.lemmas.List.{length-append}
+use Rattle.std.proofs.lemmas.Bool.{false_from_ne_true}
 use Rattle.model_graph.specs.Chain.{◌>>=◌, check, refusing}
 use Rattle.model_graph.specs.Graph.{Decl, name_at}
 use Rattle.model_graph.specs.Evaluation.{eval, first_large}
@@ -11,7 +12,7 @@ use Rattle.model_wire.specs.declared.wire_why.WireWhy.{WireWhy}
 use Rattle.model_world.specs.World.{Peer, delivered}
 use Rattle.model_program.specs.Plan.{Answer, Plan, Says, exactly, told_answer, word_at, file_limit, checked}
 use Rattle.model_program.specs.Merge.{file_at, state_refused, large_refused, may_take, replica_before, message_joined, file_joined, merge_answer, merge_text, merging_more, merging_files, nodes_in, joined}
-use Rattle.model_program.specs.Listed.{IsListed, plain, check as a_check, dots, export, merge}
+use Rattle.model_program.specs.Listed.{IsListed, plain, check as a_check, dots, export, merge, run, trace, live, load}
 use Rattle.model_program.specs.Program.{form}
 use Rattle.model_program.specs.declared.form.Form.{Form}
 use Rattle.model_program.specs.declared.form.Form.TheVariants as form_of
@@ -24,11 +25,6 @@ use Rattle.model_program.specs.Told.{IsFileTold, IsOfGraph, IsOfNodes, IsJoined,
 use Rattle.model_program.proofs.CauseLaws.{told-short, told-long, told-checked, told-refused, told-answer}
 
 -- ---- one file
-
--- where a test fails
-pub false-here : (b : Bool) → (b ≡ true → ⊥) → b ≡ false
-false-here true h = absurd (h refl)
-false-here false h = refl
 
 module _ (g : List Decl) (before : List Message) (bytes : List ℕ) where
   abbrev number : ℕ
@@ -58,7 +54,7 @@ module _ (g : List Decl) (before : List Message) (bytes : List ℕ) where
   pub read-wrong : AreOfNodes (nodes_in before) before → (m : Message) → decoded bytes ≡ Ok m → ¬ (IsOfGraph g m × IsOfNodes before m) → read ≡ Err (refusal.State (file_at number) 0 WrongGraph)
   read-wrong same m e wrong =
       read-message m e
-      ∙ ap (λ (b : Bool). after_check b m) (false-here (may_take g (replica m) m) (λ t. let takes = (take-Decides g (replica m) m).0 t in wrong (takes.0, takes.1 ∙ before-nodes g before m same)))
+      ∙ ap (λ (b : Bool). after_check b m) (false_from_ne_true (may_take g (replica m) m) (λ t. let takes = (take-Decides g (replica m) m).0 t in wrong (takes.0, takes.1 ∙ before-nodes g before m same)))
 
   read-taken : AreOfNodes (nodes_in before) before → (m : Message) → decoded bytes ≡ Ok m → IsOfGraph g m → IsOfNodes before m
       → read ≡ after_large (first_large 0 (joined g (before ++ m ∷ [])).contents) (joined g (before ++ m ∷ []))
@@ -164,6 +160,10 @@ listed-many words f a_check e = absurd cc
 listed-many words f dots e = absurd cc
 listed-many words f (export few) e = absurd cc
 listed-many words f (merge some few) e = omega (arith, some)
+listed-many words f (run are) e = absurd cc
+listed-many words f (trace are) e = absurd cc
+listed-many words f (live are) e = absurd cc
+listed-many words f (load small some few are) e = absurd cc
 
 merge-right : form_of.Merge ≢ form_of.Wrong
 merge-right e = absurd cc

@@ -83,7 +83,4 @@ number-parsed word least most m r few parses is = choose (spelled_in word least 
       sym (ap (λ (w : List ℕ). number_in w least most) spelled.is ∙ number-decimal least most n (omega (arith, spelled.high, few)) spelled.low spelled.high)
   choose None e = sym (option-none (number_in word least most) (λ n found. let some : spelled_in word least most m ≡ Some m = spelled-some word least most m (read-same n found) in absurd cc))
 
-pub number-high : (word : List ℕ) (least most n : ℕ) (o : Option ℕ) → o ≡ number_in word least most → o ≡ Some n → n ≤ most
-number-high word least most n o is e = (number-spelled word least most n (sym is ∙ e)).high
-
 pub ruleset numbers = (number-unread, number-parsed)

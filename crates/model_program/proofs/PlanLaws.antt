@@ -94,11 +94,6 @@ performs-checked shown words v f bytes refuse reader (Err (Refused e)) passes gi
 performs-checked shown words v f bytes refuse reader (Err (ReadFault e)) passes gives = absurd gives
 performs-checked shown words v f bytes refuse reader (Err Memory) passes gives = λ w part next. follows-memory words w (reading f (λ read. checked refuse (reader read) next))
 
--- where the read ended the call, whatever was to come after it doesn't matter
-pub stops-checked : {B E : Type 0} (words : List (List ℕ)) (v : View) (f : ℕ) (refuse : E → Refusal) (reader : List ℕ → Result B E) (failure : Failure)
-    → Stops words v (reading f) failure → Stops words v (λ (next : B → Plan). reading f (λ read. checked refuse (reader read) next)) failure
-stops-checked words v f refuse reader failure stops w part next = stops w part (λ read. checked refuse (reader read) next)
-
 -- a call is a part of itself
 pub part-itself : (v : View) → IsPartOf v v
 part-itself v = record { content = λ n. refl; before = λ n. omega arith; after = λ n. omega arith }

@@ -4,9 +4,8 @@ use Rattle.model_functions.specs.Library.{Library}
 use Rattle.model_program.specs.Call.{AreUnchanged, AreLater, IsLater, Reading, view_of, IsAnswered}
 use Rattle.model_program.specs.Ends.{Writing, Ends}
 use Rattle.model_program.specs.Follows.{Follows}
-use Rattle.model_program.specs.Program.{form, plan}
+use Rattle.model_program.specs.Program.{form, plan, IsUsageForm}
 use Rattle.model_program.specs.declared.failure.Failure.{Failure}
-use Rattle.model_program.specs.declared.form.Form.TheVariants.{Wrong}
 use Rattle.model_program.proofs.AlikeLaws.{known-places, alike-places}
 use Rattle.model_program.proofs.AnswerLaws.{follows-told, refused-ends, written-ends, complete-ends, quiet-ends}
 use Rattle.model_program.proofs.BackLaws.{told-cause}
@@ -14,7 +13,7 @@ use Rattle.model_program.proofs.DirectLaws.{direct-ends}
 use Rattle.model_program.proofs.DotTextLaws.{dots-writes}
 
 pub call-answered : {N : Type 0} (lib : Library) (words : List (List ℕ)) (files : Reading N) (answer : Result (List ℕ) Failure) (out err : Writing) (status : ℕ)
-    → AreUnchanged files.content files.before files.after → AreLater files.faults files.before files.after → (form words ≡ Wrong → files.after ≡ files.before)
+    → AreUnchanged files.content files.before files.after → AreLater files.faults files.before files.after → (IsUsageForm (form words) → files.after ≡ files.before)
     → Follows words (view_of files) (plan lib words) answer → IsLater out → IsLater err → Ends words answer out err status → IsAnswered lib words files out err status
 call-answered lib words files answer out err status same later unread follows out_later err_later ends = record {
   same = same;

@@ -14,11 +14,11 @@ use Rattle.model_program.specs.Cause.{IsGraphRefused, graph_long, graph_bad, IsS
 use Rattle.model_program.specs.Ends.{Writing, MeetsFault}
 use Rattle.model_program.specs.Line.{refusal_status}
 use Rattle.model_program.specs.Plan.{Text, Answer}
-use Rattle.model_program.specs.Program.{form, plan, stopped}
-use Rattle.model_program.specs.declared.form.Form.TheVariants.{Wrong}
+use Rattle.model_program.specs.Program.{form, plan, IsUsageForm, stopped}
 use Rattle.model_program.specs.declared.refusal.Refusal.{Refusal}
 use Rattle.model_program.specs.declared.refusal.Refusal.TheVariants as refusal
 use Rattle.model_program.specs.declared.state_why.StateWhy.{StateWhy}
+use Rattle.model_program.proofs.AnswerLaws.{err-same}
 
 -- ---- no cause but one ends as usage
 
@@ -45,10 +45,7 @@ file-other content words g before _ (no_message file bad) e = absurd cc
 file-other content words g before _ (wrong_graph file good wrong) e = absurd cc
 file-other content words g before _ (source_large file good graph nodes large) e = absurd cc
 
-err-same : (x y : Refusal) → ◌≡◌ {A = Answer} (Err x) (Err y) → x ≡ y
-err-same x y e = cc
-
-pub usage-form : (lib : Library) (content : List ℕ → Option (List ℕ)) (words : List (List ℕ)) (a : Answer) → HasCause lib content words a → a ≡ Err refusal.Usage → form words ≡ Wrong
+pub usage-form : (lib : Library) (content : List ℕ → Option (List ℕ)) (words : List (List ℕ)) (a : Answer) → HasCause lib content words a → a ≡ Err refusal.Usage → IsUsageForm (form words)
 usage-form lib content words _ (usage is) e = is
 usage-form lib content words _ (graph_refused {x = x} right h) e = absurd (graph-other lib content words x h (err-same x refusal.Usage e))
 usage-form lib content words _ (script_refused {g = g} {x = x} is graph h) e = absurd (script-other lib content words g x h (err-same x refusal.Usage e))

@@ -17,11 +17,10 @@ use Rattle.model_program.specs.Follows.{View, view, Follows}
 use Rattle.model_program.specs.Line.{status_of, line_of}
 use Rattle.model_program.specs.Plan.{Text, IsText, Answer, told_answer}
 use Rattle.model_program.specs.Places.{AreKnown, AreAlike}
-use Rattle.model_program.specs.Program.{form, plan}
+use Rattle.model_program.specs.Program.{form, plan, IsUsageForm}
 use Rattle.model_program.specs.Told.{TellsRun, TellsDots}
 use Rattle.model_program.specs.declared.failure.Failure.{Failure}
 use Rattle.model_program.specs.declared.failure.Failure.TheVariants.{Refused}
-use Rattle.model_program.specs.declared.form.Form.TheVariants.{Wrong}
 use Rattle.model_program.specs.declared.refusal.Refusal.{Refusal}
 use Rattle.model_program.specs.declared.refusal.Refusal.TheVariants.{Usage}
 
@@ -122,7 +121,7 @@ pub record IsAnswered {N : Type 0} (lib : Library) (words : List (List ℕ)) (fi
   -- where the contents of the script are told and its run over one set comes to its end, `dots` writes that run's report, and how many pairs each replica keeps without tombstones
   pub dots : (script : Script) (run : Run) → TellsDots lib (files.content files.before) words script → ended one_set script ≡ Ok run → status ≡ 0
       → Appends out.before (report_of run ++ dot_sizes 0 (dot_play (dot_start script.nodes) script.commands).nodes) out.after
-  -- words of no listed form: no file is read
-  pub unread : form words ≡ Wrong → files.after ≡ files.before
+  -- words of no form for one thread: no file is read
+  pub unread : IsUsageForm (form words) → files.after ≡ files.before
   -- with another status than 0 and 5 nothing is written to `out`
   pub quiet : status ≢ 0 → status ≢ 5 → out.after ≡ out.before

@@ -1,5 +1,5 @@
 -- Each answer with its cause, over told contents: one constructor for each cause, and no answer without one.
-use Rattle.std.specs.Prelude.{◌≡◌, ◌≢◌, ◌<◌, ◌≤◌, ◌+◌, ◌++◌, ◌∷◌, [], ℕ, List, length, Option, Some, None, Ok, Err}
+use Rattle.std.specs.Prelude.{◌≡◌, ◌<◌, ◌≤◌, ◌+◌, ◌++◌, ◌∷◌, [], ℕ, List, length, Option, Some, None, Ok, Err}
 use Rattle.model_functions.specs.Library.{Library}
 use Rattle.model_graph.specs.Evaluation.{eval, first_large}
 use Rattle.model_graph.specs.Graph.{Decl, name_at}
@@ -22,10 +22,10 @@ use Rattle.model_program.specs.Plan.{Exactly, Answer, word_at, file_limit}
 use Rattle.model_dot_worlds.specs.DotReport.{dot_output}
 use Rattle.model_dot_worlds.specs.DotWorld.{one_set, AreDotCommands}
 use Rattle.model_dot_worlds.specs.Words.{IsFirstOther}
-use Rattle.model_program.specs.Program.{form, stopped, exported_bytes}
+use Rattle.model_program.specs.Program.{form, stopped, exported_bytes, IsUsageForm}
 use Rattle.model_program.specs.Told.{IsFileTold, IsGraphTold, IsScriptTold, IsDotsTold, IsOfGraph, IsOfNodes, AreJoined}
 use Rattle.model_program.specs.declared.form.Form.{Form}
-use Rattle.model_program.specs.declared.form.Form.TheVariants.{Plain, Check, Dots, Export, Merge, Wrong}
+use Rattle.model_program.specs.declared.form.Form.TheVariants.{Plain, Check, Dots, Export, Merge, Threaded, Wrong}
 use Rattle.model_program.specs.declared.refusal.Refusal.{Refusal}
 use Rattle.model_program.specs.declared.refusal.Refusal.TheVariants as refusal
 use Rattle.model_program.specs.declared.state_why.StateWhy.TheVariants.{Wire, WrongGraph}
@@ -57,11 +57,17 @@ pub data IsFileRefused (content : List ℕ → Option (List ℕ)) (words : List 
 
 -- words of this form name a graph's file first
 abbrev pub ReadsGraph : Form → Type 0
-ReadsGraph f = (f ≢ Wrong) × (f ≢ Dots)
+ReadsGraph Plain = Unit {0}
+ReadsGraph Check = Unit {0}
+ReadsGraph (Export node) = Unit {0}
+ReadsGraph Merge = Unit {0}
+ReadsGraph Dots = ⊥
+ReadsGraph (Threaded threads) = ⊥
+ReadsGraph Wrong = ⊥
 
 -- the answer has its cause in these words and contents
 pub data HasCause (lib : Library) (content : List ℕ → Option (List ℕ)) (words : List (List ℕ)) : Answer → Type 0 where
-  usage : form words ≡ Wrong → HasCause lib content words (Err refusal.Usage)
+  usage : IsUsageForm (form words) → HasCause lib content words (Err refusal.Usage)
   graph_refused : {x : Refusal} → ReadsGraph (form words) → IsGraphRefused lib content words x → HasCause lib content words (Err x)
   -- `plain`
   script_refused : {g : List Decl} {x : Refusal} → form words ≡ Plain → IsGraphTold lib content words g → IsScriptRefused lib content words g x → HasCause lib content words (Err x)

@@ -53,3 +53,7 @@ Comes content words (Reads e next) f = (f ≡ e) ⊎ ((bytes : List ℕ) × (con
 unfoldable pub told_answer : (List ℕ → Option (List ℕ)) → List (List ℕ) → Plan → Option Answer
 told_answer content words (Says answer) = Some answer
 told_answer content words (Reads f next) = option_and_then (λ bytes. told_answer content words (next bytes)) (content (word_at words f))
+
+-- each file to which the plan comes over these contents is told
+abbrev pub AreTold : (List ℕ → Option (List ℕ)) → List (List ℕ) → Plan → Type 0
+AreTold content words p = (f : ℕ) → Comes content words p f → (bytes : List ℕ) × (content (word_at words f) ≡ Some bytes)

@@ -26,7 +26,9 @@ use Rattle.model_program.specs.Plan.{Plan, Says, exactly, checked, reading, word
 use Rattle.model_program.specs.declared.refusal.Refusal.{Refusal}
 use Rattle.model_program.specs.declared.refusal.Refusal.TheVariants as refusal
 use Rattle.model_program.specs.declared.form.Form.{Form}
-use Rattle.model_program.specs.declared.form.Form.TheVariants.{Plain, Check, Dots, Export, Merge, Wrong}
+use Rattle.model_program.specs.declared.form.Form.TheVariants.{Plain, Check, Dots, Export, Merge, Threaded, Wrong}
+use Rattle.model_program.specs.declared.threaded.Threaded as threads
+use Rattle.model_program.specs.declared.threaded.Threaded.TheVariants as threaded
 
 abbrev pub graph_refused : ℕ × GraphWhy → Refusal
 graph_refused e = refusal.Graph e.0 e.1
@@ -50,6 +52,28 @@ abbrev pub export_form : Option ℕ → Form
 export_form (Some node) = Export node
 export_form None = Wrong
 
+-- how many workers, 1 to 16
+abbrev pub workers_word : List ℕ → Option ℕ
+workers_word word = number_in word 1 16
+
+abbrev pub with_workers : (ℕ → threads.Threaded) → Option ℕ → Form
+with_workers make (Some workers) = Threaded (make workers)
+with_workers make None = Wrong
+
+abbrev pub load_form : Option ℕ → Option ℕ → Option ℕ → Form
+load_form (Some seed) (Some count) workers = with_workers (threaded.Load seed count) workers
+load_form (Some seed) None workers = Wrong
+load_form None count workers = Wrong
+
+-- which of the forms for several threads four words have
+unfoldable pub threaded_form : List (List ℕ) → Form
+threaded_form words =
+    if bytes_eq (word_at words 0) (codes "run") then with_workers threaded.Run (workers_word (word_at words 3)) else
+    if bytes_eq (word_at words 0) (codes "trace") then with_workers threaded.Trace (workers_word (word_at words 3)) else
+    if bytes_eq (word_at words 0) (codes "live") then with_workers threaded.Live (workers_word (word_at words 3)) else
+    if bytes_eq (word_at words 0) (codes "load") then load_form (number_in (word_at words 1) 0 2147483647) (number_in (word_at words 2) 1 20000) (workers_word (word_at words 3)) else
+    Wrong
+
 -- which of the listed forms the words have
 unfoldable pub form : List (List ℕ) → Form
 form words =
@@ -58,6 +82,7 @@ form words =
     if length words == 2 && bytes_eq (word_at words 0) (codes "dots") then Dots else
     if length words == 4 && bytes_eq (word_at words 0) (codes "export") then export_form (node_word (word_at words 3)) else
     if nat_lt 2 (length words) && nat_lt (length words) 11 && bytes_eq (word_at words 0) (codes "merge") then Merge else
+    if length words == 4 then threaded_form words else
     Wrong
 
 -- the graph is the second word's file
@@ -126,7 +151,18 @@ plan_of lib words Check = checking lib
 plan_of lib words Dots = running_dots lib
 plan_of lib words (Export node) = exporting lib node
 plan_of lib words Merge = merging lib (length words - 3)
+plan_of lib words (Threaded threads) = Says (Err refusal.Usage)
 plan_of lib words Wrong = Says (Err refusal.Usage)
+
+-- one thread answers words of this form with usage: it is for several threads, or none
+abbrev pub IsUsageForm : Form → Type 0
+IsUsageForm Plain = ⊥
+IsUsageForm Check = ⊥
+IsUsageForm Dots = ⊥
+IsUsageForm (Export node) = ⊥
+IsUsageForm Merge = ⊥
+IsUsageForm (Threaded threads) = Unit {0}
+IsUsageForm Wrong = Unit {0}
 
 -- what the program does with its words, the library being given
 abbrev pub plan : Library → List (List ℕ) → Plan

@@ -15,5 +15,8 @@ pub use dots::{causes_of_dots, dots_ends_with_few_statuses};
 pub use exports::causes_of_exports;
 pub use merges::causes_of_merges;
 pub use refusals::graphs_are_refused_at_their_first_refusal;
-pub use statuses::{answers_come_exactly_where_they_have_a_cause, statuses_tell_the_answer};
+pub use statuses::{
+    answers_come_exactly_where_they_have_a_cause, statuses_tell_the_answer,
+    told_files_decide_an_answer,
+};
 pub use words::words_have_the_listed_forms;

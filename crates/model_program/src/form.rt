@@ -1,5 +1,7 @@
 //! Which of the listed forms the words of a command line have.
 
+use super::threaded::Threaded;
+
 /// A listed form, or none of them.
 #[derive(Clone, Copy, PartialEq, Eq, Debug)]
 pub enum Form {
@@ -13,6 +15,8 @@ pub enum Form {
     Export(u8),
     /// `merge GRAPH FILE ..`, of 1 to 8 files
     Merge,
+    /// A form for several threads.
+    Threaded(Threaded),
     /// Any other words.
     Wrong,
 }

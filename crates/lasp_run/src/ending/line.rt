@@ -40,7 +40,7 @@ fn put_rest<S: Sink>(sink: &mut S, words: &[&[u8]]) -> Result<(), Failed>
 
 /// Writes a line of words, separated by one space each.
 #[tactic(auto, using(crate::proofs::TellLaws::appending))]
-pub fn put_line<S: Sink>(sink: &mut S, first: &[u8], rest: &[&[u8]]) -> Result<(), Failed>
+pub(crate) fn put_line<S: Sink>(sink: &mut S, first: &[u8], rest: &[&[u8]]) -> Result<(), Failed>
     ensures later { S.faults sink.old ≤ S.faults sink.new }
     ensures ok { OnOk result (Appends (S.written sink.old) (line (first.now ∷ map (λ w. w.now) rest.now)) (S.written sink.new)) }
     ensures part { OnErr result (AppendsPrefix (S.written sink.old) (line (first.now ∷ map (λ w. w.now) rest.now)) (S.written sink.new)) }

@@ -20,7 +20,7 @@ fn refusal_status(refusal: &Refusal) -> u8
 }
 
 /// The status that a failure ends with.
-pub fn status(failure: &Failure) -> u8
+pub(crate) fn status(failure: &Failure) -> u8
     ensures { result ≡ status_of failure.now }
 {
     match failure {

@@ -90,7 +90,7 @@ fn state_why(why: StateWhy) -> &'static [u8]
 }
 
 /// Writes one line of words.
-pub fn tell<E: Sink>(err: &mut E, first: &[u8], rest: &[&[u8]])
+pub(crate) fn tell<E: Sink>(err: &mut E, first: &[u8], rest: &[&[u8]])
     ensures later { E.faults err.old ≤ E.faults err.new }
     ensures told { Tells (writing_of E.written E.faults err.old err.new) (line (first.now ∷ map (λ w. w.now) rest.now)) }
 {
@@ -155,7 +155,7 @@ fn tell_refusal<E: Sink>(words: &[String], refusal: &Refusal, err: &mut E)
 }
 
 /// Writes the line of a failure.
-pub fn tell_failure<E: Sink>(words: &[String], failure: &Failure, err: &mut E)
+pub(crate) fn tell_failure<E: Sink>(words: &[String], failure: &Failure, err: &mut E)
     ensures later { E.faults err.old ≤ E.faults err.new }
     ensures told { Tells (writing_of E.written E.faults err.old err.new) (line_of (words_of words.now) failure.now) }
 {

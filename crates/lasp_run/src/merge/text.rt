@@ -59,7 +59,7 @@ fn text_of<N: Node>(alloc: Global, graph: &Graph, node: &N) -> Result<Vec<u8>, A
 }
 
 /// The text of a node that has the messages of so many files.
-pub fn merged_text<N: Node>(
+pub(crate) fn merged_text<N: Node>(
     alloc: Global,
     graph: &Graph,
     files: u8,

@@ -16,13 +16,13 @@ ghost use Rattle.model_scripts.specs.declared.script_why.ScriptWhy.{ScriptWhy};
 ghost use Rattle.model_program.specs.Told.{IsFileTold, IsGraphTold, IsScriptTold};
 ghost use Rattle.model_program.specs.Check.{check_text};
 ghost use Rattle.model_program.specs.Plan.{Exactly, told_answer, word_at, file_limit};
-ghost use Rattle.model_program.specs.Program.{form, plan, stopped};
-ghost use Rattle.model_program.specs.declared.form.Form.TheVariants.{Plain, Check, Wrong};
+ghost use Rattle.model_program.specs.Program.{form, plan, IsUsageForm, stopped};
+ghost use Rattle.model_program.specs.declared.form.Form.TheVariants.{Plain, Check};
 ghost use Rattle.model_program.specs.declared.refusal.Refusal.TheVariants as refusal;
 
 /// The words, and then in the form `plain GRAPH SCRIPT` the graph's file, the graph, the script's file, the script and the run.
 pub fn causes_of_answers()
-    ensures usage { (lib : Library) (content : List ℕ → Option (List ℕ)) (words : List (List ℕ)) → form words ≡ Wrong
+    ensures usage { (lib : Library) (content : List ℕ → Option (List ℕ)) (words : List (List ℕ)) → IsUsageForm (form words)
         → told_answer content words (plan lib words) ≡ Some (Err refusal.Usage) }
     ensures graph_too_long { (lib : Library) (content : List ℕ → Option (List ℕ)) (words : List (List ℕ)) (graph : List ℕ) → form words ≡ Plain
         → content (word_at words 1) ≡ Some graph → file_limit < length graph

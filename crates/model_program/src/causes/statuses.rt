@@ -7,9 +7,8 @@ ghost use Rattle.model_scripts.specs.declared.script_why.ScriptWhy.{ScriptWhy};
 ghost use Rattle.model_program.specs.Call.{Reading, view_of, Decides, Writes, Begins, IsAnswered};
 ghost use Rattle.model_program.specs.Cause.{HasCause};
 ghost use Rattle.model_program.specs.Ends.{Writing, MeetsFault};
-ghost use Rattle.model_program.specs.Plan.{Text, Answer, told_answer};
-ghost use Rattle.model_program.specs.Program.{form, plan};
-ghost use Rattle.model_program.specs.declared.form.Form.TheVariants.{Wrong};
+ghost use Rattle.model_program.specs.Plan.{Text, Answer, AreTold, told_answer};
+ghost use Rattle.model_program.specs.Program.{form, plan, IsUsageForm};
 ghost use Rattle.model_program.specs.declared.refusal.Refusal.TheVariants as refusal;
 ghost use Rattle.model_program.specs.declared.state_why.StateWhy.{StateWhy};
 
@@ -17,7 +16,7 @@ ghost use Rattle.model_program.specs.declared.state_why.StateWhy.{StateWhy};
 pub fn answers_come_exactly_where_they_have_a_cause()
     ensures exact { (lib : Library) (content : List ℕ → Option (List ℕ)) (words : List (List ℕ)) (answer : Answer)
         → (told_answer content words (plan lib words) ≡ Some answer ↔ HasCause lib content words answer) }
-    ensures usage { (lib : Library) (content : List ℕ → Option (List ℕ)) (words : List (List ℕ)) → (HasCause lib content words (Err refusal.Usage) ↔ form words ≡ Wrong) }
+    ensures usage { (lib : Library) (content : List ℕ → Option (List ℕ)) (words : List (List ℕ)) → (HasCause lib content words (Err refusal.Usage) ↔ IsUsageForm (form words)) }
 {}
 
 /// Where the contents decide an answer, each status but 7 tells which: of 0 and 5 a text, of 4 a file that is too long unless a read failed, of the others the refusal with this status. It holds for files of every type.
@@ -40,4 +39,10 @@ pub fn statuses_tell_the_answer<F>()
         → (command : ℕ) × (answer ≡ Err (refusal.NotReached command)) }
     ensures state { (lib : Library) (words : List (List ℕ)) (files : Reading F) (out err : Writing) (answer : Answer) → IsAnswered lib words files out err 9 → Decides lib words (view_of files) answer
         → (f : ℕ) × (place : ℕ) × (why : StateWhy) × (answer ≡ Err (refusal.State f place why)) }
+{}
+
+/// The contents decide an answer where each file to which the plan of the words comes is told: what is promised of decided answers is then promised of every call.
+pub fn told_files_decide_an_answer()
+    ensures { (lib : Library) (content : List ℕ → Option (List ℕ)) (words : List (List ℕ)) → AreTold content words (plan lib words)
+        → (answer : Answer) × (told_answer content words (plan lib words) ≡ Some answer) }
 {}

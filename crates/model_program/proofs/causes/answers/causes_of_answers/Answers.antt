@@ -4,14 +4,15 @@ use Rattle.model_world.specs.Report.{report_of}
 use Rattle.model_world.specs.declared.stop.Stop.TheVariants as stop
 use Rattle.model_program.specs.Plan.{Says, exactly}
 use Rattle.model_program.specs.Program.{running_script, run_answer}
-use Rattle.model_program.specs.declared.form.Form.TheVariants.{Plain, Wrong}
+use Rattle.model_program.specs.declared.form.Form.TheVariants.{Plain}
 use Rattle.model_program.specs.declared.refusal.Refusal.TheVariants as refusal
-use Rattle.model_program.proofs.CauseLaws.{told-answer}
+use Rattle.model_program.specs.Cause.{usage}
+use Rattle.model_program.proofs.BackLaws.{cause-told}
 use Rattle.model_program.proofs.PlanCauses.{told-form, opening-long, opening-refused, scripting-long, scripting-refused, ended_answer, run-ends, to-script, to-answer}
 use Rattle.model_program.proofs.causes.answers.causes_of_answers.Goals as goal
 
 pub returns-clause-usage : goal.returns-clause-usage
-returns-clause-usage c = λ lib content words is. told-form lib content words Wrong is ∙ told-answer content words (Err refusal.Usage) (Err refusal.Usage) refl
+returns-clause-usage c = λ lib content words is. cause-told lib content words (Err refusal.Usage) (usage is)
 
 pub returns-clause-graph_too_long : goal.returns-clause-graph_too_long
 returns-clause-graph_too_long c = λ lib content words graph is told long.
