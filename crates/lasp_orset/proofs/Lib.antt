@@ -6,3 +6,4 @@ pub mod CountLaws
 pub mod SpanLaws
 pub mod ShownLaws
 pub mod HintLaws
+pub mod EntryLaws

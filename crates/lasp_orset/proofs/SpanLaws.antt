@@ -143,13 +143,19 @@ within-kept v s b e up below above =
     ∙ rows-front v (drop b s) e later (subst (λ (l : List Row). first_value_cmp v (drop e l) ≡ Greater) whole above)
     ∙ rows-behind v s b up below
 
+pub within-ascending : (s : List Row) (b e : ℕ) → IsAscending s → IsAscending (take e (take (length s - b) (drop b s)))
+within-ascending s b e up =
+    let whole : take (length s - b) (drop b s) ≡ drop b s = grind (arith, take_all, length-drop) in
+    let later : IsAscending (drop b s) = ascending-right (take b s) (drop b s) (subst IsAscending (sym (take-append-drop b s)) up) in
+    subst (λ (l : List Row). IsAscending (take e l)) (sym whole) (ascending-left (take e (drop b s)) (drop e (drop b s)) (subst IsAscending (sym (take-append-drop e (drop b s))) later))
+
 alone-is : (near : List (List Row)) (s : List Row) → 1 ≤ length near → length near < 2 → s ≡ get_or near 0 s → near ≡ s ∷ []
 alone-is [] s some few e = absurd (omega (arith, some))
 alone-is (c ∷ []) s some few e = ap (λ (r : List Row). r ∷ []) (sym e)
 alone-is (c ∷ d ∷ cs) s some few e = absurd (omega (arith, few))
 
 -- A piece that stands alone among those that are near ascends.
-near-ascending : (css : List (List Row)) (b e : ℕ) → IsAscending (joined css) → IsAscending (joined (take e (take (length css - b) (drop b css))))
+pub near-ascending : (css : List (List Row)) (b e : ℕ) → IsAscending (joined css) → IsAscending (joined (take e (take (length css - b) (drop b css))))
 near-ascending css b e up =
     let whole = behind-whole css b in
     let later = ascending-drop css b up in

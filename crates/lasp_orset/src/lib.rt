@@ -4,6 +4,7 @@
 
 mod changes;
 mod counts;
+mod entries;
 mod entry;
 mod hint;
 mod insertion;
@@ -22,6 +23,7 @@ mod span;
 mod updates;
 
 pub use changes::{changed, changed_rows};
+pub use entries::{Entries, EntryRef};
 pub use entry::Entry;
 pub use rows::Rows;
 pub use set::OrSet;

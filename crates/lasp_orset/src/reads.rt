@@ -4,12 +4,14 @@ ghost use Rattle.std.specs.Prelude.{◌≡◌, ◌≤◌, ◌^◌, ◌↔◌, �
 ghost use Rattle.std.specs.Option.{option_map};
 ghost use Rattle.model_values.specs.Text.{shown_values};
 ghost use Rattle.model_sets.specs.Reads.{is_row_of, HasRowOf};
-ghost use Rattle.model_sets.specs.Rows.{IsAscending, is_of};
+ghost use Rattle.model_sets.specs.Rows.{IsAscending, of_rows, is_of};
+ghost use Rattle.model_sets.specs.Rises.{AreApart};
 ghost use Rattle.model_sets.specs.Values.{IsHeld, visible};
 ghost use Rattle.lasp_value.specs.Value.{val_of};
 ghost use Rattle.model_sets.specs.Loops.{is_last};
 ghost use Rattle.lasp_orset.specs.Shown.{shown_next};
 
+use super::entries::Entries;
 use super::entry::Entry;
 use super::rows::Rows;
 use super::set::OrSet;
@@ -27,11 +29,21 @@ impl OrSet {
         Rows::of(self.pieces())
     }
 
-    /// A pass over rows among which are all those of a value, and besides them seldom more than one. It costs a search to find them.
-    pub fn rows_near(&self, value: &Value) -> Rows<'_>
-        ensures { filter (is_of (val_of value.now)) result ≡ filter (is_of (val_of value.now)) self.now }
+    /// A pass over the rows in an order that isn't told. No two of them have one key.
+    pub fn entries(&self) -> Entries<'_>
+        ensures rows { of_rows result ≡ self.now }
+        ensures apart { AreApart result }
+        ensures small { length self.now ≤ 2 ^ 32 }
     {
-        rows_near(self.pieces(), value)
+        Entries::of(self.iter())
+    }
+
+    /// A pass in such an order over rows among which are all those of a value, and besides them seldom more than one. It costs a search to find them.
+    pub fn entries_near(&self, value: &Value) -> Entries<'_>
+        ensures rows { filter (is_of (val_of value.now)) (of_rows result) ≡ filter (is_of (val_of value.now)) self.now }
+        ensures apart { AreApart result }
+    {
+        Entries::of(rows_near(self.pieces(), value))
     }
 
     /// Whether the value has a live row. It costs a search and the value's rows.

@@ -120,7 +120,7 @@ impl OrSet {
         self.pieces.as_slice()
     }
 
-    /// Puts a row in, or makes the row of its key dead where it is. It costs a search, and a copy of the piece that has its place where other sets share that.
+    /// Puts a row in, or makes the row of its key dead where it is. A row above all others costs one comparison, any other a search, and either a copy of the piece that has its place where other sets share that.
     pub fn add(&mut self, entry: Entry) -> Result<(), AllocError>
         ensures ok { OnOk result (self.new ≡ put entry self.old) }
         ensures err { OnErr result (self.new ≡ self.old) }

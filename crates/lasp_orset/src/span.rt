@@ -15,7 +15,8 @@ use lasp_value::Value;
 pub(crate) fn rows_near<'a>(pieces: &'a [Piece], value: &Value) -> Rows<'a>
     requires ascends { IsAscending (joined pieces.now) }
     requires filled { AreFilled pieces.now }
-    ensures { filter (is_of (val_of value.now)) result ≡ filter (is_of (val_of value.now)) (joined pieces.now) }
+    ensures kept { filter (is_of (val_of value.now)) result ≡ filter (is_of (val_of value.now)) (joined pieces.now) }
+    ensures ascends { IsAscending result }
 {
     let behind = &pieces[begin_of(pieces, value)..];
     let near = &behind[..end_of(behind, value)];
@@ -28,7 +29,8 @@ pub(crate) fn rows_near<'a>(pieces: &'a [Piece], value: &Value) -> Rows<'a>
 /// The rows of a value among those of a piece, and at most one besides.
 fn rows_of<'a>(rows: &'a [Entry], value: &Value) -> &'a [Entry]
     requires { IsAscending rows.now }
-    ensures { filter (is_of (val_of value.now)) result.now ≡ filter (is_of (val_of value.now)) rows.now }
+    ensures kept { filter (is_of (val_of value.now)) result.now ≡ filter (is_of (val_of value.now)) rows.now }
+    ensures ascends { IsAscending result.now }
 {
     let behind = &rows[begin_in(rows, value)..];
     &behind[..end_in(behind, value)]

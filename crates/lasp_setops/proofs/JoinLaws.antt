@@ -4,9 +4,10 @@ use Rattle.model_values.specs.Value.{Val}
 use Rattle.model_values.specs.Row.{Row}
 use Rattle.model_sets.specs.Rows.{IsAscending, put, join, of_rows, is_of}
 use Rattle.model_sets.specs.Equations.{met, moved, filter_set}
-use Rattle.model_sets.proofs.RowLaws.{ascending-put, ascending-join, ascending-of_rows, join-append, join-row, join-nothing, join-of_rows, of_rows-ascending}
+use Rattle.model_sets.proofs.RowLaws.{ascending-put, ascending-join, ascending-of_rows, join-append, join-row, join-nothing, join-of_rows, of_rows-ascending, mark-of_rows, same_from_mark}
+use Rattle.model_sets.proofs.EquationLaws.{filter-mark, filter-ascending}
 use Rattle.model_sets.proofs.LoopLaws.{length-join}
-use Rattle.lasp_orset.proofs.PieceLaws.{ascending-left}
+use Rattle.lasp_orset.proofs.EntryLaws.{entries-mark}
 use Rattle.lasp_setops.specs.declared.refused.SetRefused.{SetRefused}
 use Rattle.lasp_setops.specs.Joined.{IsJoinedUpTo, meetings}
 
@@ -44,8 +45,8 @@ meet-none r q s up other = sym (join-nothing s up) ∙ (λ i. join s (if sym oth
 
 -- ---- the same along a pass over rows
 
-pub first-rows : (t t' w s : List Row) → t' ≡ t → IsAscending s → w ≡ join s t → IsJoinedUpTo s t' w
-first-rows t t' w s same up whole = record { ascends = up; all = ap (join s) same ∙ sym whole }
+pub first-rows : (t t' w s : List Row) → join s t' ≡ join s t → IsAscending s → w ≡ join s t → IsJoinedUpTo s t' w
+first-rows t t' w s same up whole = record { ascends = up; all = same ∙ sym whole }
 
 pub next-row : (f : Row → Row) (s t rows rest w : List Row) (r q : Row) → rows ≡ r ∷ rest → q ≡ f r → t ≡ put q s → IsJoinedUpTo s (map f rows) w → IsJoinedUpTo t (map f rest) w
 next-row f s t rows rest w r q at is new h =
@@ -77,10 +78,7 @@ pub passed-on-set : {A : Type 0} (r : Result A SetRefused) (e t : SetRefused) �
 passed-on-set (Ok x) e t h k = cc
 passed-on-set (Err y) e t h k = cc
 
--- ---- rows that are kept as they are
-
-pub kept-ascends : (whole done left : List Row) (r : Row) → IsAscending whole → done ++ r ∷ left ≡ whole → IsAscending (done ++ r ∷ [])
-kept-ascends whole done left r up h = ascending-left (done ++ r ∷ []) left (subst IsAscending (sym h ∙ sym (append_assoc done (r ∷ []) left)) up)
+-- ---- rows that meet
 
 pub meet-new : (r q m : Row) (s t : List Row) (a : Result (Unit {0}) SetRefused) → IsAscending s → is_of r.0.0 q ≡ true → m ≡ met r q → OnOk a (t ≡ put m s) → OnOk a (t ≡ join s (meetings r q))
 meet-new r q m s t (Ok x) up same is h = h ∙ ap (λ (p : Row). put p s) is ∙ meet-one r q s up same
@@ -92,22 +90,29 @@ meet-long n r q m s up same is h = subst (λ (u : List Row). n < length u) (ap (
 pub moved-is : (f : Val → Val) (r : Row) (v w : Val) (q : Row) → v ≡ r.0.0 → w ≡ f v → q ≡ ((w, r.0.1), r.1) → q ≡ moved f r
 moved-is f r v w q is image new = new ∙ (λ i. (((image ∙ ap f is) i, r.0.1), r.1))
 
-pub first-kept : (p : Val → Bool) (s rows x : List Row) → s ≡ [] → rows ≡ x → s ++ filter_set p rows ≡ filter_set p x
-first-kept p s rows x none same = λ i. none i ++ filter_set p (same i)
+-- ---- rows that are kept as they are
 
--- a row that passes goes behind those so far, and one that doesn't is left out
-pub next-kept : (p : Val → Bool) (s rows rest x : List Row) (r : Row) (v : Val) → rows ≡ r ∷ rest → v ≡ r.0.0 → p v ≡ true → s ++ filter_set p rows ≡ filter_set p x → s ++ r ∷ filter_set p rest ≡ filter_set p x
-next-kept p s rows rest x r v at is passed h = (λ i. s ++ cond (sym (ap p (sym is) ∙ passed) i) (r ∷ filter_set p rest) (filter_set p rest)) ∙ ap (λ (t : List Row). s ++ filter_set p t) (sym at) ∙ h
+pub first-kept : (p : Val → Bool) (s rows x : List Row) → s ≡ [] → of_rows rows ≡ x → IsAscending x → IsJoinedUpTo s (filter_set p rows) (filter_set p x)
+first-kept p s rows x none is up = record {
+  ascends = subst IsAscending (sym none) refl;
+  all = (λ i. join (none i) (filter_set p rows))
+      ∙ same_from_mark (of_rows (filter_set p rows)) (filter_set p x) (ascending-of_rows (filter_set p rows)) (filter-ascending p x up)
+      (λ v t. mark-of_rows (filter_set p rows) v t ∙ filter-mark p rows v t ∙ ap (λ (m : ℕ). if p v then m else 0) (entries-mark rows x is v t) ∙ sym (filter-mark p x v t));
+}
 
-pub next-left : (p : Val → Bool) (s rows rest x : List Row) (r : Row) (v : Val) → rows ≡ r ∷ rest → v ≡ r.0.0 → p v ≡ false → s ++ filter_set p rows ≡ filter_set p x → s ++ filter_set p rest ≡ filter_set p x
-next-left p s rows rest x r v at is failed h = (λ i. s ++ cond (sym (ap p (sym is) ∙ failed) i) (r ∷ filter_set p rest) (filter_set p rest)) ∙ ap (λ (t : List Row). s ++ filter_set p t) (sym at) ∙ h
+-- a row that passes goes among those so far, and one that doesn't is left out
+pub next-kept : (p : Val → Bool) (s t rows rest w : List Row) (r q : Row) (v : Val) → rows ≡ r ∷ rest → v ≡ r.0.0 → p v ≡ true → q ≡ r → t ≡ put q s → IsJoinedUpTo s (filter_set p rows) w → IsJoinedUpTo t (filter_set p rest) w
+next-kept p s t rows rest w r q v at is passed same new h =
+    let first : filter_set p rows ≡ r ∷ filter_set p rest = ap (filter_set p) at ∙ (λ i. cond ((ap p (sym is) ∙ passed) i) (r ∷ filter_set p rest) (filter_set p rest)) in
+    subst (λ (u : List Row). IsJoinedUpTo u (filter_set p rest) w) (sym (new ∙ ap (λ (z : Row). put z s) same)) (joined-row s r (filter_set p rest) w (subst (λ (u : List Row). IsJoinedUpTo s u w) first h))
 
-pub pushed-kept : (p : Val → Bool) (s t rest x : List Row) (r q : Row) → t ≡ s ++ q ∷ [] → q ≡ r → s ++ r ∷ filter_set p rest ≡ filter_set p x → t ++ filter_set p rest ≡ filter_set p x
-pushed-kept p s t rest x r q new is h = (λ i. (new ∙ ap (λ (z : Row). s ++ z ∷ []) is) i ++ filter_set p rest) ∙ append_assoc s (r ∷ []) (filter_set p rest) ∙ h
+pub next-left : (p : Val → Bool) (s rows rest w : List Row) (r : Row) (v : Val) → rows ≡ r ∷ rest → v ≡ r.0.0 → p v ≡ false → IsJoinedUpTo s (filter_set p rows) w → IsJoinedUpTo s (filter_set p rest) w
+next-left p s rows rest w r v at is failed h =
+    let first : filter_set p rows ≡ filter_set p rest = ap (filter_set p) at ∙ (λ i. cond ((ap p (sym is) ∙ failed) i) (r ∷ filter_set p rest) (filter_set p rest)) in
+    subst (λ (u : List Row). IsJoinedUpTo s u w) first h
 
-behind-nothing : (s : List Row) → s ++ [] ≡ s
-behind-nothing [] = refl
-behind-nothing (r ∷ s) = ap (λ (t : List Row). r ∷ t) (behind-nothing s)
+pub last-kept : (p : Val → Bool) (s rows w : List Row) → rows ≡ [] → IsJoinedUpTo s (filter_set p rows) w → s ≡ w
+last-kept p s rows w none h = joined-done s w (subst (λ (u : List Row). IsJoinedUpTo s (filter_set p u) w) none h)
 
 -- ---- what is joined into a fresh set, and the length along two steps
 

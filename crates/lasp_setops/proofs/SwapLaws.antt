@@ -6,9 +6,11 @@ use Rattle.std.specs.declared.cmp.Ordering.TheVariants.{Less, Equal, Greater}
 use Rattle.model_values.specs.Value.{Val, val_cmp, val_total}
 use Rattle.model_values.specs.Token.{Tok}
 use Rattle.model_values.specs.Row.{Row}
-use Rattle.model_sets.specs.Rows.{mark, join, is_of, IsAscending}
+use Rattle.model_sets.specs.Rows.{mark, of_rows, join, is_of, IsAscending}
+use Rattle.model_sets.specs.Rises.{AreApart}
 use Rattle.model_sets.specs.Equations.{paired, met, product_set, intersect_set}
 use Rattle.model_sets.proofs.RowLaws.{mark-append, mark-join, mark-of_rows, ascending-join, same_from_mark, join-of_rows}
+use Rattle.lasp_orset.proofs.EntryLaws.{map-flat, join-entries}
 use Rattle.lasp_setops.specs.Joined.{meetings}
 
 module _ (g : Row → Row → List Row) where
@@ -35,11 +37,7 @@ swap-join : (g : Row → Row → List Row) (s xs ys : List Row) → join s (by_f
 swap-join g s xs ys = same_from_mark (join s (by_first g xs ys)) (join s (by_second g xs ys)) (ascending-join s (by_first g xs ys)) (ascending-join s (by_second g xs ys))
     (λ v t. omega (arith, mark-join s (by_first g xs ys) v t, mark-join s (by_second g xs ys) v t, swap-mark g xs ys v t))
 
--- a map and a filter as lists of none or one for each row
-pub map-flat : (f : Row → Row) (ys : List Row) → map f ys ≡ flat_map (λ q. f q ∷ []) ys
-map-flat f [] = refl
-map-flat f (q ∷ ys) = ap (λ (s : List Row). f q ∷ s) (map-flat f ys)
-
+-- a map of rows that pass as lists of none or one for each row
 pub kept-flat : (f : Row → Row) (p : Row → Bool) (ys : List Row) → map f (filter p ys) ≡ flat_map (λ q. if p q then f q ∷ [] else []) ys
 kept-flat f p [] = refl
 kept-flat f p (q ∷ ys) = by (p q) (kept-flat f p ys) where
@@ -69,8 +67,12 @@ pub intersect-by_second : (s x y : List Row) → join s (flat_map (λ q. flat_ma
 intersect-by_second s x y = sym (swap-join meetings s x y) ∙ intersect-by_first s x y
 
 -- the rows of a value are enough to find the meetings with one of its rows
-pub meetings-near : (r : Row) (near y : List Row) → filter (is_of r.0.0) near ≡ filter (is_of r.0.0) y → flat_map (meetings r) near ≡ flat_map (meetings r) y
+meetings-near : (r : Row) (near y : List Row) → filter (is_of r.0.0) near ≡ filter (is_of r.0.0) y → flat_map (meetings r) near ≡ flat_map (meetings r) y
 meetings-near r near y same = meetings-kept r near ∙ ap (map (met r)) same ∙ sym (meetings-kept r y)
+
+-- in any order they are joined in alike
+pub meetings-any : (s : List Row) (r : Row) (near y : List Row) → AreApart near → filter (is_of r.0.0) (of_rows near) ≡ filter (is_of r.0.0) y → join s (flat_map (meetings r) near) ≡ join s (flat_map (meetings r) y)
+meetings-any s r near y apart same = join-entries s (meetings r) near (of_rows near) apart refl ∙ ap (λ (t : List Row). join s t) (meetings-near r (of_rows near) y same)
 
 of-either : (v w : Val) → is_eq (val_cmp v w) ≡ is_eq (val_cmp w v)
 of-either v w = by (val_cmp v w) (val_cmp w v) (val_total.antisymm v w) where
@@ -82,5 +84,8 @@ of-either v w = by (val_cmp v w) (val_cmp w v) (val_total.antisymm v w) where
 pub met_by-kept : (q : Row) (x : List Row) → flat_map (λ r. meetings r q) x ≡ map (λ r. met r q) (filter (is_of q.0.0) x)
 met_by-kept q x = (λ i. flat_map (λ r. if of-either r.0.0 q.0.0 i then met r q ∷ [] else []) x) ∙ sym (kept-flat (λ r. met r q) (is_of q.0.0) x)
 
-pub met_by-near : (q : Row) (near x : List Row) → filter (is_of q.0.0) near ≡ filter (is_of q.0.0) x → flat_map (λ r. meetings r q) near ≡ flat_map (λ r. meetings r q) x
+met_by-near : (q : Row) (near x : List Row) → filter (is_of q.0.0) near ≡ filter (is_of q.0.0) x → flat_map (λ r. meetings r q) near ≡ flat_map (λ r. meetings r q) x
 met_by-near q near x same = met_by-kept q near ∙ ap (map (λ r. met r q)) same ∙ sym (met_by-kept q x)
+
+pub met_by-any : (s : List Row) (q : Row) (near x : List Row) → AreApart near → filter (is_of q.0.0) (of_rows near) ≡ filter (is_of q.0.0) x → join s (flat_map (λ r. meetings r q) near) ≡ join s (flat_map (λ r. meetings r q) x)
+met_by-any s q near x apart same = join-entries s (λ r. meetings r q) near (of_rows near) apart refl ∙ ap (λ (t : List Row). join s t) (met_by-near q (of_rows near) x same)

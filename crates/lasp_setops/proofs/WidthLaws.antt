@@ -6,11 +6,12 @@ use Rattle.model_values.specs.Token.{Tok, single, both}
 use Rattle.model_values.specs.Row.{Key, Row, key_cmp, key_exact}
 use Rattle.model_values.specs.Size.{leaves, text_bytes, HasSmallInts, IsSized, IsOfWidth, IsTokenOfWidth}
 use Rattle.model_functions.specs.Map.{MapOp, mapped}
-use Rattle.model_sets.specs.Rows.{level, row_mark, HasRow, put}
+use Rattle.model_sets.specs.Rows.{level, row_mark, HasRow, put, of_rows}
 use Rattle.model_sets.proofs.RowLaws.{is-Equal, mark-put}
 use Rattle.model_sets.specs.Equations.{map_set, filter_set, union_set, product_set, intersect_set}
 use Rattle.model_sets.proofs.WordLaws.{map-has, filter-has, union-has, product-has, product-only, intersect-has, intersect-only}
 use Rattle.model_sets.proofs.EquationLaws.{tied_key}
+use Rattle.lasp_orset.proofs.EntryLaws.{entries-mark}
 use Rattle.lasp_fns.proofs.SizeLaws.{width-mapped}
 use Rattle.lasp_setops.specs.Width.{IsSetOfWidth}
 
@@ -79,6 +80,12 @@ sized-row rows rest r v at is h small =
     let first = subst (IsSetOfWidth 16) at h in
     let width = first.values r.0.0 r.0.1 (omega (arith, own-row r)) in
     record { leaves = omega (arith, ap leaves is, width.leaves); bytes = omega (arith, ap text_bytes is, width.bytes); ints = small }
+
+pub width-entries : (w : ℕ) (rows x : List Row) → of_rows rows ≡ x → IsSetOfWidth w x → IsSetOfWidth w rows
+width-entries w rows x is h = record {
+  values = λ v t has. h.values v t (omega (arith, has, entries-mark rows x is v t));
+  tokens = λ v t has. h.tokens v t (omega (arith, has, entries-mark rows x is v t));
+}
 
 pub width-rest : (w : ℕ) (rows rest : List Row) (r : Row) → rows ≡ r ∷ rest → IsSetOfWidth w rows → IsSetOfWidth w rest
 width-rest w rows rest r at h =

@@ -22,12 +22,12 @@ pub fn map_counted(alloc: Global, lib: &mut StepLib, f: u32, x: &OrSet) -> Resul
     ensures ticks { ticks_of lib.new ≤ ticks_of lib.old + length x.now }
 {
     let mut out = x.empty();
-    let mut rows = x.iter();
+    let mut rows = x.entries();
     while let Some(row) = rows.next() {
         let value = row.value();
         value.recall_ints();
         let image = lib.call_map(f, value)?;
-        let moved = with_value(alloc, row, image)?;
+        let moved = with_value(alloc, &row, image)?;
         out.add(moved)?;
     }
     Ok(out)
@@ -43,13 +43,13 @@ pub fn filter_counted(lib: &mut StepLib, p: u32, x: &OrSet) -> Result<OrSet, All
 {
     x.ascends();
     let mut out = x.empty();
-    let mut rows = x.iter();
+    let mut rows = x.entries();
     while let Some(row) = rows.next() {
         let value = row.value();
         value.recall_ints();
         if lib.call_pred(p, value) {
-            let kept = row.try_clone()?;
-            out.append(kept)?;
+            let kept = row.entry()?;
+            out.add(kept)?;
         }
     }
     Ok(out)

@@ -8,7 +8,7 @@ ghost use Rattle.model_states.specs.Content.{row_limit};
 
 use crate::refused::SetRefused;
 use crate::row::{add_within, met};
-use lasp_orset::{Entry, OrSet};
+use lasp_orset::{EntryRef, OrSet};
 use std::alloc::Global;
 
 /// Each row of the first set with each row of the second that has its value: the value, both tokens, dead where either is.
@@ -36,9 +36,9 @@ pub(crate) fn add_first(
     ensures too_many { result ≡ Err SetRefused.TooManyRows → row_limit < length (join out.old (intersect_set x.now y.now)) }
 {
     out.ascends();
-    let mut rows = x.iter();
+    let mut rows = x.entries();
     while let Some(row) = rows.next() {
-        meet_with(alloc, out, row, y)?;
+        meet_with(alloc, out, &row, y)?;
     }
     Ok(())
 }
@@ -56,45 +56,45 @@ pub(crate) fn add_second(
     ensures too_many { result ≡ Err SetRefused.TooManyRows → row_limit < length (join out.old (intersect_set x.now y.now)) }
 {
     out.ascends();
-    let mut rows = y.iter();
+    let mut rows = y.entries();
     while let Some(row) = rows.next() {
-        meet_each(alloc, out, x, row)?;
+        meet_each(alloc, out, x, &row)?;
     }
     Ok(())
 }
 
 /// Joins in a row with each row of its value in a set.
-fn meet_with(alloc: Global, out: &mut OrSet, row: &Entry, y: &OrSet) -> Result<(), SetRefused>
+fn meet_with(alloc: Global, out: &mut OrSet, row: &EntryRef, y: &OrSet) -> Result<(), SetRefused>
     requires { length out.old ≤ row_limit }
     ensures ok { OnOk result (out.new ≡ join out.old (flat_map (meetings row.now) y.now)) }
     ensures small { OnOk result (length out.new ≤ row_limit) }
     ensures too_many { result ≡ Err SetRefused.TooManyRows → row_limit < length (join out.old (flat_map (meetings row.now) y.now)) }
 {
     out.ascends();
-    let mut others = y.rows_near(row.value());
+    let mut others = y.entries_near(row.value());
     while let Some(other) = others.next() {
-        meet(alloc, out, row, other)?;
+        meet(alloc, out, row, &other)?;
     }
     Ok(())
 }
 
 /// Joins in each row of a set that has a row's value with that row.
-fn meet_each(alloc: Global, out: &mut OrSet, x: &OrSet, row: &Entry) -> Result<(), SetRefused>
+fn meet_each(alloc: Global, out: &mut OrSet, x: &OrSet, row: &EntryRef) -> Result<(), SetRefused>
     requires { length out.old ≤ row_limit }
     ensures ok { OnOk result (out.new ≡ join out.old (flat_map (λ r. meetings r row.now) x.now)) }
     ensures small { OnOk result (length out.new ≤ row_limit) }
     ensures too_many { result ≡ Err SetRefused.TooManyRows → row_limit < length (join out.old (flat_map (λ r. meetings r row.now) x.now)) }
 {
     out.ascends();
-    let mut others = x.rows_near(row.value());
+    let mut others = x.entries_near(row.value());
     while let Some(other) = others.next() {
-        meet(alloc, out, other, row)?;
+        meet(alloc, out, &other, row)?;
     }
     Ok(())
 }
 
 /// Joins in two rows as one, where they have one value.
-fn meet(alloc: Global, out: &mut OrSet, row: &Entry, other: &Entry) -> Result<(), SetRefused>
+fn meet(alloc: Global, out: &mut OrSet, row: &EntryRef, other: &EntryRef) -> Result<(), SetRefused>
     requires { length out.old ≤ row_limit }
     ensures ok { OnOk result (out.new ≡ join out.old (meetings row.now other.now)) }
     ensures small { OnOk result (length out.new ≤ row_limit) }

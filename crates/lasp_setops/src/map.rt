@@ -18,12 +18,12 @@ pub fn map_set(alloc: Global, f: &StoredMap, x: &OrSet) -> Result<OrSet, AllocEr
     ensures { IfOk result (λ s. s ≡ map_set (mapped (ops_of f.now)) x.now) }
 {
     let mut out = x.empty();
-    let mut rows = x.iter();
+    let mut rows = x.entries();
     while let Some(row) = rows.next() {
         let value = row.value();
         value.recall_ints();
         let image = f.call(value)?;
-        let moved = with_value(alloc, row, image)?;
+        let moved = with_value(alloc, &row, image)?;
         out.add(moved)?;
     }
     Ok(out)

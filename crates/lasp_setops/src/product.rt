@@ -7,7 +7,7 @@ ghost use Rattle.model_states.specs.Content.{row_limit};
 
 use crate::refused::SetRefused;
 use crate::row::{add_within, paired};
-use lasp_orset::{Entry, OrSet};
+use lasp_orset::{EntryRef, OrSet};
 use std::alloc::Global;
 
 /// Each row of the first set with each row of the second: both values as a pair, both tokens, dead where either is.
@@ -35,9 +35,9 @@ pub(crate) fn add_first(
     ensures too_many { result ≡ Err SetRefused.TooManyRows → row_limit < length (join out.old (product_set x.now y.now)) }
 {
     out.ascends();
-    let mut rows = x.iter();
+    let mut rows = x.entries();
     while let Some(row) = rows.next() {
-        pair_with(alloc, out, row, y)?;
+        pair_with(alloc, out, &row, y)?;
     }
     Ok(())
 }
@@ -55,40 +55,40 @@ pub(crate) fn add_second(
     ensures too_many { result ≡ Err SetRefused.TooManyRows → row_limit < length (join out.old (product_set x.now y.now)) }
 {
     out.ascends();
-    let mut rows = y.iter();
+    let mut rows = y.entries();
     while let Some(row) = rows.next() {
-        pair_each(alloc, out, x, row)?;
+        pair_each(alloc, out, x, &row)?;
     }
     Ok(())
 }
 
 /// Joins in a row with each row of a set.
-fn pair_with(alloc: Global, out: &mut OrSet, row: &Entry, y: &OrSet) -> Result<(), SetRefused>
+fn pair_with(alloc: Global, out: &mut OrSet, row: &EntryRef, y: &OrSet) -> Result<(), SetRefused>
     requires { length out.old ≤ row_limit }
     ensures ok { OnOk result (out.new ≡ join out.old (map (paired row.now) y.now)) }
     ensures small { OnOk result (length out.new ≤ row_limit) }
     ensures too_many { result ≡ Err SetRefused.TooManyRows → row_limit < length (join out.old (map (paired row.now) y.now)) }
 {
     out.ascends();
-    let mut others = y.iter();
+    let mut others = y.entries();
     while let Some(other) = others.next() {
-        let pair = paired(alloc, row, other)?;
+        let pair = paired(alloc, row, &other)?;
         add_within(out, pair)?;
     }
     Ok(())
 }
 
 /// Joins in each row of a set with a row.
-fn pair_each(alloc: Global, out: &mut OrSet, x: &OrSet, row: &Entry) -> Result<(), SetRefused>
+fn pair_each(alloc: Global, out: &mut OrSet, x: &OrSet, row: &EntryRef) -> Result<(), SetRefused>
     requires { length out.old ≤ row_limit }
     ensures ok { OnOk result (out.new ≡ join out.old (map (λ r. paired r row.now) x.now)) }
     ensures small { OnOk result (length out.new ≤ row_limit) }
     ensures too_many { result ≡ Err SetRefused.TooManyRows → row_limit < length (join out.old (map (λ r. paired r row.now) x.now)) }
 {
     out.ascends();
-    let mut others = x.iter();
+    let mut others = x.entries();
     while let Some(other) = others.next() {
-        let pair = paired(alloc, other, row)?;
+        let pair = paired(alloc, &other, row)?;
         add_within(out, pair)?;
     }
     Ok(())

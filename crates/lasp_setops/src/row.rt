@@ -9,7 +9,7 @@ ghost use Rattle.lasp_value.specs.Value.{val_of};
 ghost use Rattle.lasp_value.specs.Token.{tok_of};
 
 use crate::refused::SetRefused;
-use lasp_orset::{Entry, OrSet};
+use lasp_orset::{Entry, EntryRef, OrSet};
 use lasp_value::{Token, Value};
 use std::alloc::{AllocError, Global};
 
@@ -17,7 +17,7 @@ use std::alloc::{AllocError, Global};
 const MOST_ROWS: u64 = 65_536;
 
 /// The row with another value.
-pub(crate) fn with_value(alloc: Global, row: &Entry, value: Value) -> Result<Entry, AllocError>
+pub(crate) fn with_value(alloc: Global, row: &EntryRef, value: Value) -> Result<Entry, AllocError>
     ensures { IfOk result (λ r. r ≡ ((val_of value, row.now.0.1), row.now.1)) }
 {
     let token = row.token().try_clone(alloc)?;
@@ -25,7 +25,7 @@ pub(crate) fn with_value(alloc: Global, row: &Entry, value: Value) -> Result<Ent
 }
 
 /// Two rows as one: both values and both tokens, dead where either is.
-pub(crate) fn paired(alloc: Global, row: &Entry, other: &Entry) -> Result<Entry, AllocError>
+pub(crate) fn paired(alloc: Global, row: &EntryRef, other: &EntryRef) -> Result<Entry, AllocError>
     ensures { IfOk result (λ r. r ≡ paired row.now other.now) }
 {
     let first = row.value().try_clone(alloc)?;
@@ -36,7 +36,7 @@ pub(crate) fn paired(alloc: Global, row: &Entry, other: &Entry) -> Result<Entry,
 }
 
 /// Two rows of one value as one: both tokens, dead where either is.
-pub(crate) fn met(alloc: Global, row: &Entry, other: &Entry) -> Result<Entry, AllocError>
+pub(crate) fn met(alloc: Global, row: &EntryRef, other: &EntryRef) -> Result<Entry, AllocError>
     ensures { IfOk result (λ r. r ≡ met row.now other.now) }
 {
     let value = row.value().try_clone(alloc)?;
@@ -44,7 +44,7 @@ pub(crate) fn met(alloc: Global, row: &Entry, other: &Entry) -> Result<Entry, Al
     Entry::new(alloc, value, tokens, row.is_dead() || other.is_dead())
 }
 
-fn both(alloc: Global, row: &Entry, other: &Entry) -> Result<Token, AllocError>
+fn both(alloc: Global, row: &EntryRef, other: &EntryRef) -> Result<Token, AllocError>
     ensures { IfOk result (λ t. tok_of t ≡ tok.both row.now.0.1 other.now.0.1) }
 {
     let first = row.token().try_clone(alloc)?;

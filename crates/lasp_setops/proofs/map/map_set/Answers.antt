@@ -5,22 +5,23 @@ use Rattle.model_sets.specs.Equations.{moved, map_set}
 use Rattle.model_sets.specs.Rows.{IsAscending, join}
 use Rattle.lasp_value.specs.Value.{val_of}
 use Rattle.lasp_fns.specs.Stored.{ops_of}
+use Rattle.lasp_orset.proofs.EntryLaws.{join-moved}
 use Rattle.lasp_setops.specs.Width.{IsSetOfWidth}
 use Rattle.lasp_setops.proofs.JoinLaws.{first-rows, next-row, last-row, moved-is}
-use Rattle.lasp_setops.proofs.WidthLaws.{sized-row, width-rest}
+use Rattle.lasp_setops.proofs.WidthLaws.{sized-row, width-entries, width-rest}
 use Rattle.lasp_setops.proofs.map.map_set.Goals as goal
 
 pub loop-row-init : goal.loop-row-init
 loop-row-init g c =
-    (first-rows (map (moved (mapped (ops_of c.args.f.now))) c.args.x.now) (map (moved (mapped (ops_of c.args.f.now))) c.iter-rows.result) (map_set (mapped (ops_of c.args.f.now)) c.args.x.now) c.empty-out.result (ap (map (moved (mapped (ops_of c.args.f.now)))) c.iter-rows.ensures.exact) (subst IsAscending (sym c.empty-out.ensures) refl) (λ i. join (sym c.empty-out.ensures i) (map (moved (mapped (ops_of c.args.f.now))) c.args.x.now)), subst (IsSetOfWidth 16) (sym c.iter-rows.ensures.exact) c.requires.width)
+    (first-rows (map (moved (mapped (ops_of c.args.f.now))) c.args.x.now) (map (moved (mapped (ops_of c.args.f.now))) c.entries-rows.result) (map_set (mapped (ops_of c.args.f.now)) c.args.x.now) c.empty-out.result (join-moved c.empty-out.result (moved (mapped (ops_of c.args.f.now))) c.entries-rows.result c.args.x.now c.entries-rows.ensures.apart c.entries-rows.ensures.rows) (subst IsAscending (sym c.empty-out.ensures) refl) (λ i. join (sym c.empty-out.ensures i) (map (moved (mapped (ops_of c.args.f.now))) c.args.x.now)), width-entries 16 c.entries-rows.result c.args.x.now c.entries-rows.ensures.rows c.requires.width)
 
 pub call-requires : goal.call-requires
 call-requires g c =
-    sized-row c.loop-row.rows c.next.new.self c.in-Some.row.now (val_of c.value-value.result.now) c.in-Some.ensures.some c.value-value.ensures c.loop-row.invariant.1 c.recall_ints.ensures
+    sized-row c.loop-row.rows c.next.new.self c.in-Some.row (val_of c.value-value.result.now) c.in-Some.ensures.some c.value-value.ensures c.loop-row.invariant.1 c.recall_ints.ensures
 
 pub loop-row-preserved : goal.loop-row-preserved
 loop-row-preserved g c =
-    (next-row (moved (mapped (ops_of c.args.f.now))) c.loop-row.out c.add.new.self c.loop-row.rows c.next.new.self (map_set (mapped (ops_of c.args.f.now)) c.args.x.now) c.in-Some.row.now c.in_ok-moved.moved c.in-Some.ensures.some (moved-is (mapped (ops_of c.args.f.now)) c.in-Some.row.now (val_of c.value-value.result.now) (val_of c.in_ok-image.image) c.in_ok-moved.moved c.value-value.ensures c.in_ok-image.ensures c.in_ok-moved.ensures) c.in_ok-add.ensures.ok c.loop-row.invariant.0, width-rest 16 c.loop-row.rows c.next.new.self c.in-Some.row.now c.in-Some.ensures.some c.loop-row.invariant.1)
+    (next-row (moved (mapped (ops_of c.args.f.now))) c.loop-row.out c.add.new.self c.loop-row.rows c.next.new.self (map_set (mapped (ops_of c.args.f.now)) c.args.x.now) c.in-Some.row c.in_ok-moved.moved c.in-Some.ensures.some (moved-is (mapped (ops_of c.args.f.now)) c.in-Some.row (val_of c.value-value.result.now) (val_of c.in_ok-image.image) c.in_ok-moved.moved c.value-value.ensures c.in_ok-image.ensures c.in_ok-moved.ensures) c.in_ok-add.ensures.ok c.loop-row.invariant.0, width-rest 16 c.loop-row.rows c.next.new.self c.in-Some.row c.in-Some.ensures.some c.loop-row.invariant.1)
 
 pub returns : goal.returns
 returns g c =

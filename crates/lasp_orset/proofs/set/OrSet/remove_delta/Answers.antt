@@ -9,7 +9,7 @@ pub loop-row-init : goal.loop-row-init
 loop-row-init c =
     ap (λ (d : List Row). join d (remove_delta (val_of c.args.value.now) c.rows_near-rows.result)) c.empty-delta.ensures
     ∙ remove-begin (val_of c.args.value.now) c.args.self.now c.rows_near-rows.result c.pieces-pieces.ensures.ascends
-    (c.rows_near-rows.ensures ∙ ap (filter (is_of (val_of c.args.value.now))) c.pieces-pieces.ensures.rows)
+    (c.rows_near-rows.ensures.kept ∙ ap (filter (is_of (val_of c.args.value.now))) c.pieces-pieces.ensures.rows)
 
 pub loop-row-preserved-in_ok-add : goal.loop-row-preserved-in_ok-add
 loop-row-preserved-in_ok-add c =
