@@ -1,5 +1,5 @@
 -- What stands at the places that the searches find among ascending rows.
-use Rattle.std.proofs.Common.{◌≡◌, ◌≢◌, ◌↔◌, ℕ, zero, suc, ◌+◌, ◌≤◌, ◌<◌, max, Bool, true, false, cond, not, ◌&&◌, ◌||◌, nat_lt, if◌then◌else◌, IsTrue, List, [], ◌∷◌, ◌++◌, length, filter, take, drop, slice_index_or, refl, sym, ap, subst, ◌∙◌, arith}
+use Rattle.std.proofs.Common.{◌≡◌, ◌≢◌, ◌↔◌, ℕ, zero, suc, ◌≤◌, ◌<◌, max, Bool, true, false, cond, not, ◌&&◌, ◌||◌, nat_lt, if◌then◌else◌, IsTrue, List, [], ◌∷◌, ◌++◌, length, filter, take, drop, slice_index_or, slice_get, Some, refl, sym, ap, subst, ◌∙◌, arith}
 use Rattle.std.proofs.lemmas.Bool.Decides.{nat_tests}
 use Rattle.std.specs.List.{insert, list_any}
 use Rattle.std.specs.Ordering.{is_eq, is_lt, is_gt, ordering_reverse, ordering_then, eq_by_cmp}
@@ -15,22 +15,15 @@ use Rattle.model_sets.specs.Values.{IsHeld, visible}
 use Rattle.model_sets.proofs.RowLaws.{and-left, and-right, is-Less, is-Equal, below-chain, mark-below}
 use Rattle.model_sets.proofs.EquationLaws.{tied_key}
 use Rattle.model_sets.proofs.WordLaws.{visible-live}
-use Rattle.lasp_dots.specs.Places.{is_below, is_before, is_within, many}
+use Rattle.lasp_pieces.specs.Pieces.{many, IsParted}
+use Rattle.lasp_pieces.proofs.PartLaws.{many-more, many-pass, many-fail}
+use Rattle.lasp_dots.specs.Places.{is_below, is_before, is_within}
 
 -- ---- tests that lesser rows pass
 
 -- a row that is below one that passes passes, too
 abbrev pub IsDownward : (Row → Bool) → Type 0
 IsDownward test = (r q : Row) → key_cmp r.0 q.0 ≡ Less → test q ≡ true → test r ≡ true
-
-many-more : (test : Row → Bool) (r : Row) (s : List Row) → many test (r ∷ s) ≡ (if test r then suc (many test s) else many test s)
-many-more test r s = elim (test r) as (λ b. length (cond b (r ∷ filter test s) (filter test s)) ≡ (if b then suc (many test s) else many test s)) [ true ↦ refl | false ↦ refl ]
-
-many-pass : (test : Row → Bool) (r : Row) (s : List Row) → test r ≡ true → many test (r ∷ s) ≡ suc (many test s)
-many-pass test r s e = many-more test r s ∙ ap (λ (b : Bool). if b then suc (many test s) else many test s) e
-
-many-fail : (test : Row → Bool) (r : Row) (s : List Row) → test r ≡ false → many test (r ∷ s) ≡ many test s
-many-fail test r s e = many-more test r s ∙ ap (λ (b : Bool). if b then suc (many test s) else many test s) e
 
 -- behind a row that fails all fail
 none-pass : (test : Row → Bool) → IsDownward test → (r : Row) (s : List Row) → IsTrue (below_all key_cmp r.0 s) → test r ≡ false → many test s ≡ 0
@@ -54,43 +47,16 @@ positive n = grind (arith, nat_tests)
 shifted : (i n : ℕ) → nat_lt i n ≡ nat_lt (suc i) (suc n)
 shifted i n = grind (arith, nat_tests)
 
-never : (i : ℕ) → nat_lt i 0 ≡ nat_lt (suc i) 0
-never i = grind (arith, nat_tests)
+-- such a test parts ascending rows
+pub parted : (test : Row → Bool) → IsDownward test → (s : List Row) → IsAscending s → IsParted test s
+parted test down [] up = tt
+parted test down (r ∷ s) up = (parted test down s (rest-ascends r s up), none-first test down r s up)
 
--- a row passes where its place is below the number of those that do
-pub many-at : (test : Row → Bool) → IsDownward test → (s : List Row) (i : ℕ) (d : Row) → IsAscending s → i < length s → test (slice_index_or s i d) ≡ nat_lt i (many test s)
-many-at test down [] i d up h = absurd (omega (arith, h))
-many-at test down (r ∷ s) zero d up h = choose (test r) refl where
-  choose : (b : Bool) → test r ≡ b → test r ≡ nat_lt 0 (many test (r ∷ s))
-  choose true e = e ∙ positive (many test s) ∙ ap (nat_lt 0) (sym (many-pass test r s e))
-  choose false e = e ∙ ap (nat_lt 0) (sym (many-fail test r s e ∙ none-first test down r s up e))
-many-at test down (r ∷ s) (suc i) d up h = choose (many-at test down s i d (rest-ascends r s up) (omega (arith, h))) (test r) refl where
-  choose : test (slice_index_or s i d) ≡ nat_lt i (many test s) → (b : Bool) → test r ≡ b → test (slice_index_or s i d) ≡ nat_lt (suc i) (many test (r ∷ s))
-  choose rest true e = rest ∙ shifted i (many test s) ∙ ap (nat_lt (suc i)) (sym (many-pass test r s e))
-  choose rest false e =
-      let none = none-first test down r s up e in
-      rest ∙ ap (nat_lt i) none ∙ never i ∙ ap (nat_lt (suc i)) (sym (many-fail test r s e ∙ none))
-
-pub many-small : (test : Row → Bool) (s : List Row) → many test s ≤ length s
-many-small test [] = omega arith
-many-small test (r ∷ s) = omega (arith, many-more test r s, at (test r), many-small test s) where
-  at : (b : Bool) → (if b then suc (many test s) else many test s) ≤ suc (many test s)
-  at true = omega arith
-  at false = omega arith
-
--- a search between the two ends
-pub search-init : (test : Row → Bool) (s : List Row) → (0 ≤ many test s) × (many test s ≤ length s) × (length s ≤ length s)
-search-init test s = (omega arith, many-small test s, omega arith)
-
-pub found-pass : (test : Row → Bool) → IsDownward test → (s : List Row) (i : ℕ) (q : Row) → IsAscending s → i < length s → q ≡ slice_index_or s i q → test q ≡ true → i + 1 ≤ many test s
-found-pass test down s i q up h is e =
-    let yes : nat_lt i (many test s) ≡ true = sym (many-at test down s i q up h) ∙ ap test (sym is) ∙ e in
-    grind (arith, nat_tests, yes)
-
-pub found-fail : (test : Row → Bool) → IsDownward test → (s : List Row) (i : ℕ) (q : Row) → IsAscending s → i < length s → q ≡ slice_index_or s i q → test q ≡ false → many test s ≤ i
-found-fail test down s i q up h is e =
-    let none : nat_lt i (many test s) ≡ false = sym (many-at test down s i q up h) ∙ ap test (sym is) ∙ e in
-    grind (arith, nat_tests, none)
+-- the row at a place
+get-is : (s : List Row) (n : ℕ) (q : Row) → slice_get s n ≡ Some q → (n < length s) × (q ≡ slice_index_or s n q)
+get-is [] n q e = absurd cc
+get-is (r ∷ s) zero q e = (omega arith, let same : r ≡ q = cc in sym same)
+get-is (r ∷ s) (suc n) q e = let rest = get-is s n q e in (omega (arith, rest.0), rest.1)
 
 -- ---- the three tests
 
@@ -139,7 +105,7 @@ beside k r s d n = ap (λ (b : Bool). b && is_eq (key_cmp (slice_index_or s n d)
 front : (k : Key) (r : Row) (s : List Row) (d : Row) → (nat_lt 0 (length (r ∷ s)) && is_eq (key_cmp r.0 k)) ≡ is_eq (key_cmp r.0 k)
 front k r s d = ap (λ (b : Bool). b && is_eq (key_cmp r.0 k)) (sym (positive (length s)))
 
-pub holds-at : (k : Key) (s : List Row) (d : Row) → IsAscending s
+holds-at : (k : Key) (s : List Row) (d : Row) → IsAscending s
     → (nat_lt (many (is_below k) s) (length s) && is_eq (key_cmp (slice_index_or s (many (is_below k) s) d).0 k)) ≡ nat_lt 0 (mark s k.0 k.1)
 holds-at k [] d up = refl
 holds-at k (r ∷ s) d up = choose (holds-at k s d (rest-ascends r s up)) (key_cmp r.0 k) refl where
@@ -168,17 +134,25 @@ holds-at k (r ∷ s) d up = choose (holds-at k s d (rest-ascends r s up)) (key_c
       let behind : mark s k.0 k.1 ≡ 0 = mark-below k s (below-chain k r.0 s (turned Greater e) (and-left (below_all key_cmp r.0 s) (is_sorted key_cmp s) up)) in
       ap at here ∙ front k r s d ∙ ap is_eq e ∙ (λ i. nat_lt 0 (max (sym none i) (sym behind i)))
 
-pub holds-there : (k : Key) (s : List Row) (n : ℕ) (q : Row) → IsAscending s → n ≡ many (is_below k) s → n < length s → q ≡ slice_index_or s n q → is_eq (key_cmp q.0 k) ≡ nat_lt 0 (mark s k.0 k.1)
+holds-there : (k : Key) (s : List Row) (n : ℕ) (q : Row) → IsAscending s → n ≡ many (is_below k) s → n < length s → q ≡ slice_index_or s n q → is_eq (key_cmp q.0 k) ≡ nat_lt 0 (mark s k.0 k.1)
 holds-there k s n q up e h is =
     let yes : true ≡ nat_lt n (length s) = grind (arith, nat_tests, h) in
     ap (λ (p : Row). is_eq (key_cmp p.0 k)) is ∙ ap (λ (b : Bool). b && is_eq (key_cmp (slice_index_or s n q).0 k)) yes
     ∙ ap (λ (m : ℕ). nat_lt m (length s) && is_eq (key_cmp (slice_index_or s m q).0 k)) e ∙ holds-at k s q up
 
-pub holds-nowhere : (k : Key) (s : List Row) (n : ℕ) → IsAscending s → n ≡ many (is_below k) s → length s ≤ n → nat_lt n (length s) ≡ nat_lt 0 (mark s k.0 k.1)
+holds-nowhere : (k : Key) (s : List Row) (n : ℕ) → IsAscending s → n ≡ many (is_below k) s → length s ≤ n → nat_lt n (length s) ≡ nat_lt 0 (mark s k.0 k.1)
 holds-nowhere k s n up e h =
     let none : nat_lt n (length s) ≡ false = grind (arith, nat_tests, h) in
     none ∙ ap (λ (b : Bool). b && is_eq (key_cmp (slice_index_or s n (k, false)).0 k)) (sym none)
     ∙ ap (λ (m : ℕ). nat_lt m (length s) && is_eq (key_cmp (slice_index_or s m (k, false)).0 k)) e ∙ holds-at k s (k, false) up
+
+pub holds-found : (k : Key) (s : List Row) (q : Row) → IsAscending s → slice_get s (many (is_below k) s) ≡ Some q → is_eq (key_cmp q.0 k) ≡ nat_lt 0 (mark s k.0 k.1)
+holds-found k s q up got = let at = get-is s (many (is_below k) s) q got in holds-there k s (many (is_below k) s) q up refl at.0 at.1
+
+pub holds-none : (k : Key) (s : List Row) → IsAscending s → length s ≤ many (is_below k) s → false ≡ nat_lt 0 (mark s k.0 k.1)
+holds-none k s up h =
+    let none : nat_lt (many (is_below k) s) (length s) ≡ false = grind (arith, nat_tests, h) in
+    sym none ∙ holds-nowhere k s (many (is_below k) s) up refl h
 
 pub insert-put : (r : Row) (s : List Row) → IsAscending s → mark s r.0.0 r.0.1 ≡ 0 → insert s (many (is_below r.0) s) r ≡ put r s
 insert-put r [] up fresh = refl
@@ -247,11 +221,8 @@ none-within v (q ∷ t) e = choose (λ f. none-within v t f) (val_cmp q.0.0 v) r
   choose rest Greater f =
       ap (λ (b : Bool). b || list_any (is_of v) t) (of-value v q Greater f) ∙ rest (omega (arith, e, many-fail (is_within v) q t (ap (λ o. not (is_gt o)) f)))
 
-pub taken-between : (v : Val) (s : List Row) (b e : ℕ) → IsAscending s → b ≡ many (is_before v) s → e ≡ many (is_within v) s → take b s ++ drop e s ≡ filter (λ r. not (is_of v r)) s
-taken-between v s b e up is_b is_e = (λ i. take (is_b i) s ++ drop (is_e i) s) ∙ taken-out v s up
-
 -- whether a row is of the value
-pub any-value : (v : Val) (s : List Row) (d : Row) → IsAscending s
+any-value : (v : Val) (s : List Row) (d : Row) → IsAscending s
     → (nat_lt (many (is_before v) s) (length s) && is_of v (slice_index_or s (many (is_before v) s) d)) ≡ list_any (is_of v) s
 any-value v [] d up = refl
 any-value v (r ∷ s) d up = choose (any-value v s d (rest-ascends r s up)) (val_cmp r.0.0 v) refl where
@@ -318,13 +289,21 @@ any-visible v s up live b e = (there, back) where
       let has = (visible-live s up v).0 h in
       e ∙ of-row v s has.0 (omega (arith, has.1))
 
-pub value-there : (v : Val) (s : List Row) (n : ℕ) (q : Row) → IsAscending s → n ≡ many (is_before v) s → n < length s → q ≡ slice_index_or s n q → is_of v q ≡ list_any (is_of v) s
+value-there : (v : Val) (s : List Row) (n : ℕ) (q : Row) → IsAscending s → n ≡ many (is_before v) s → n < length s → q ≡ slice_index_or s n q → is_of v q ≡ list_any (is_of v) s
 value-there v s n q up e h is =
     let yes : true ≡ nat_lt n (length s) = grind (arith, nat_tests, h) in
     ap (is_of v) is ∙ ap (λ (b : Bool). b && is_of v (slice_index_or s n q)) yes ∙ ap (λ (m : ℕ). nat_lt m (length s) && is_of v (slice_index_or s m q)) e ∙ any-value v s q up
 
-pub value-nowhere : (v : Val) (s : List Row) (n : ℕ) → IsAscending s → n ≡ many (is_before v) s → length s ≤ n → nat_lt n (length s) ≡ list_any (is_of v) s
+value-nowhere : (v : Val) (s : List Row) (n : ℕ) → IsAscending s → n ≡ many (is_before v) s → length s ≤ n → nat_lt n (length s) ≡ list_any (is_of v) s
 value-nowhere v s n up e h =
     let d : Row = ((v, single 0 0), false) in
     let none : nat_lt n (length s) ≡ false = grind (arith, nat_tests, h) in
     none ∙ ap (λ (b : Bool). b && is_of v (slice_index_or s n d)) (sym none) ∙ ap (λ (m : ℕ). nat_lt m (length s) && is_of v (slice_index_or s m d)) e ∙ any-value v s d up
+
+pub value-found : (v : Val) (s : List Row) (q : Row) → IsAscending s → slice_get s (many (is_before v) s) ≡ Some q → is_of v q ≡ list_any (is_of v) s
+value-found v s q up got = let at = get-is s (many (is_before v) s) q got in value-there v s (many (is_before v) s) q up refl at.0 at.1
+
+pub value-none : (v : Val) (s : List Row) → IsAscending s → length s ≤ many (is_before v) s → false ≡ list_any (is_of v) s
+value-none v s up h =
+    let none : nat_lt (many (is_before v) s) (length s) ≡ false = grind (arith, nat_tests, h) in
+    sym none ∙ value-nowhere v s (many (is_before v) s) up refl h

@@ -1,3 +1,3 @@
--- What is kept of a set, and what its searches find.
+-- What is kept of a set, and the tests of its searches.
 pub mod Kept
 pub mod Places

@@ -1,5 +1,5 @@
--- What a search among ascending rows finds: how many rows stand below a key or a value.
-use Rattle.std.specs.Prelude.{ℕ, Bool, not, List, length, filter}
+-- The tests by which ascending rows are searched: which rows stand below a key or a value.
+use Rattle.std.specs.Prelude.{Bool, not}
 use Rattle.std.specs.Ordering.{is_lt, is_gt}
 use Rattle.model_values.specs.Value.{Val, val_cmp}
 use Rattle.model_values.specs.Row.{Key, Row, key_cmp}
@@ -15,7 +15,3 @@ is_before v r = is_lt (val_cmp r.0.0 v)
 -- the row's value isn't above the value
 abbrev pub is_within : Val → Row → Bool
 is_within v r = not (is_gt (val_cmp r.0.0 v))
-
--- how many rows pass a test
-abbrev pub many : (Row → Bool) → List Row → ℕ
-many test s = length (filter test s)

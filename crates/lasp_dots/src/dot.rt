@@ -9,6 +9,7 @@ ghost use Rattle.model_dots.specs.Dots.{is_counted};
 ghost use Rattle.lasp_value.specs.Value.{val_of};
 ghost use Rattle.lasp_value.specs.Token.{tok_of};
 
+use lasp_log::Share;
 use lasp_value::{Token, Value};
 use std::alloc::{AllocError, Global};
 use std::cmp::Ordering;
@@ -45,15 +46,6 @@ impl Dot {
     {
         Ok(Dot {
             shared: Arc::new(alloc, Pair { value, token })?,
-        })
-    }
-
-    /// The same pair; it takes no memory.
-    pub(crate) fn try_clone(&self) -> Result<Dot, AllocError>
-        ensures { IfOk result (λ d. d ≡ self.now) }
-    {
-        Ok(Dot {
-            shared: Arc::try_clone(&self.shared)?,
         })
     }
 
@@ -110,6 +102,14 @@ impl Dot {
             Token::Base(replica, k) => *k <= count_at(counts, *replica),
             Token::Both(_, _) => false,
         }
+    }
+}
+
+impl Share for Dot {
+    fn share(&self) -> Result<Dot, AllocError> {
+        Ok(Dot {
+            shared: Arc::try_clone(&self.shared)?,
+        })
     }
 }
 

@@ -5,6 +5,7 @@
 mod changes;
 mod counts;
 mod dot;
+mod edges;
 mod lattice;
 mod order;
 mod reads;

@@ -10,6 +10,7 @@ use super::dot::Dot;
 use super::search::holds;
 use super::set::DotSet;
 use super::weave::woven;
+use lasp_pieces::Pieces;
 use std::alloc::AllocError;
 
 impl DotSet {
@@ -54,11 +55,12 @@ impl DotSet {
 }
 
 /// Whether each pair of the others outlives the join with these: it is among these, or its update isn't counted here.
-fn all_outlive(dots: &[Dot], counts: &[u64], others: &[Dot]) -> bool
+fn all_outlive(dots: &Pieces<Dot>, counts: &[u64], others: &Pieces<Dot>) -> bool
     requires { IsAscending dots.now }
     ensures { result ≡ list_all (λ r. outlives (record { rows = dots.now; counts = counts.now }) r.0) others.now }
 {
-    for other in others {
+    let mut left = others.iter();
+    while let Some(other) = left.next() {
         if other.is_counted(counts) && !holds(dots, other) {
             return false;
         }

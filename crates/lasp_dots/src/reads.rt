@@ -21,12 +21,12 @@ impl DotSet {
         self.live.len() as u64
     }
 
-    /// The pair at a place, counted from 0.
+    /// The pair at a place, counted from 0. It costs a step for each piece before it.
     pub fn dot_at(&self, i: u64) -> (&Value, &Token)
         requires { i < length self.now.rows }
         ensures { slice_get self.now.rows i ≡ Some ((val_of result.0.now, tok_of result.1.now), false) }
     {
-        let dot = &self.live[i as usize];
+        let dot = self.live.at(i as usize);
         dot.is_live();
         (dot.value(), dot.token())
     }
@@ -63,7 +63,8 @@ impl DotSet {
         let alloc = *self.known.allocator();
         let mut values = Values::new(alloc);
         let mut last: Option<&Value> = None;
-        for dot in &self.live {
+        let mut left = self.live.iter();
+        while let Some(dot) = left.next() {
             dot.is_live();
             if is_shown(last, dot.value()) {
                 continue;

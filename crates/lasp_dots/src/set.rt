@@ -9,6 +9,7 @@ ghost use Rattle.lasp_dots.specs.declared.refused.DotRefused.TheVariants.{CountF
 use super::changes::{put_in, take_out};
 use super::dot::Dot;
 use super::refused::DotRefused;
+use lasp_pieces::Pieces;
 use lasp_value::{Token, Value};
 use std::alloc::{AllocError, Global};
 use std::marker::Model;
@@ -19,7 +20,7 @@ const COUNT_LIMIT: u64 = 100_000;
 /// A set without tombstones, seen as its live rows, ascending by value and then by token, and the count of each node.
 #[derive(Drop)]
 pub struct DotSet {
-    pub(crate) live: Vec<Dot>,
+    pub(crate) live: Pieces<Dot>,
     pub(crate) known: Vec<u64>,
 }
 
@@ -30,9 +31,9 @@ impl Model for DotSet {
 
     ghost coded = { coded_dots };
 
-    ghost view = { λ a. record { rows = a.live.items; counts = a.known.items } };
+    ghost view = { λ a. record { rows = a.live; counts = a.known.items } };
 
-    ghost invariant = { λ a. IsState (record { rows = a.live.items; counts = a.known.items }) };
+    ghost invariant = { λ a. IsState (record { rows = a.live; counts = a.known.items }) };
 }
 
 impl DotSet {
@@ -45,22 +46,21 @@ impl DotSet {
         let mut known = Vec::new(alloc);
         known.resize(usize::from(nodes), 0)?;
         Ok(DotSet {
-            live: Vec::new(alloc),
+            live: Pieces::new(alloc),
             known,
         })
     }
 
-    /// An equal set; it shares the values. It costs a word for each pair.
+    /// An equal set; it shares the pairs, so that the cost is one share for each piece of mostly 64 to 128 pairs.
     pub fn try_clone(&self) -> Result<DotSet, AllocError>
         ensures { IfOk result (λ s. s ≡ self.now) }
     {
         let alloc = *self.known.allocator();
         let known = Vec::from_slice(alloc, self.known.as_slice())?;
-        let mut live = Vec::with_capacity(alloc, self.live.len())?;
-        for dot in &self.live {
-            live.push(dot.try_clone()?)?;
-        }
-        Ok(DotSet { live, known })
+        Ok(DotSet {
+            live: self.live.share()?,
+            known,
+        })
     }
 
     /// Recalls, at no cost, what every set is.
@@ -70,7 +70,7 @@ impl DotSet {
         let _live = &self.live;
     }
 
-    /// A replica adds a value, under the token of this update; it answers the update's number. It costs one copy of the value, a search, and a move of the words behind.
+    /// A replica adds a value, under the token of this update; it answers the update's number. It costs one copy of the value, a search, and a copy of at most 128 shares where another set has the piece in which the pair belongs.
     pub fn add(&mut self, value: &Value, replica: u8) -> Result<u64, DotRefused>
         requires { replica < length self.old.counts }
         ensures ok { OnOk result (self.new ≡ add_dot (val_of value.now) replica self.old) }
@@ -86,7 +86,7 @@ impl DotSet {
         Ok(k)
     }
 
-    /// A replica removes a value: all its pairs go. It answers the update's number. It costs two searches and a move of the words behind, and takes no memory.
+    /// A replica removes a value: all its pairs go. It answers the update's number. It costs two searches, and a copy of what is left of the pieces that the pairs are in.
     pub fn remove(&mut self, value: &Value, replica: u8) -> Result<u64, DotRefused>
         requires { replica < length self.old.counts }
         ensures ok { OnOk result (self.new ≡ remove_dots (val_of value.now) replica self.old) }
@@ -95,7 +95,7 @@ impl DotSet {
         ensures err { OnErr result (self.new ≡ self.old) }
     {
         let number = self.next_count(replica)?;
-        take_out(&mut self.live, value);
+        take_out(&mut self.live, value)?;
         self.known[usize::from(replica)] = number;
         Ok(number)
     }

@@ -8,6 +8,8 @@ mod calls;
 #[cfg(test)]
 mod dice;
 #[cfg(test)]
+mod many;
+#[cfg(test)]
 mod worlds;
 #[cfg(test)]
 mod wrong;

@@ -1,26 +1,18 @@
-use Rattle.std.proofs.Common.{rules, ◌≡◌, ap, ◌∙◌, not, filter, arith, List}
-use Rattle.model_values.specs.Row.{Row}
-use Rattle.model_sets.specs.Rows.{is_of}
+use Rattle.std.proofs.Common.{◌∙◌}
 use Rattle.lasp_value.specs.Value.{val_of}
-use Rattle.lasp_dots.specs.Places.{is_before, is_within, many}
-use Rattle.lasp_dots.proofs.PlaceLaws.{many-small, before-within, taken-between}
+use Rattle.lasp_pieces.proofs.PartLaws.{on_ok}
+use Rattle.lasp_dots.specs.Places.{is_before, is_within}
+use Rattle.lasp_dots.proofs.PlaceLaws.{down-before, down-within, before-within, parted, taken-out}
 use Rattle.lasp_dots.proofs.changes.take_out.Goals as goal
 
-pub drain-requires-clause-start_le_end : goal.drain-requires-clause-start_le_end
-drain-requires-clause-start_le_end c =
-    let begin : c.begin_of-begin.result ≡ many (is_before (val_of c.args.value.now)) c.args.dots.now.items = c.begin_of-begin.ensures ∙ ap (λ (s : List Row). many (is_before (val_of c.args.value.now)) s) c.deref.ensures.value in
-    let end : c.end_of-end.result ≡ many (is_within (val_of c.args.value.now)) c.args.dots.now.items = c.end_of-end.ensures ∙ ap (λ (s : List Row). many (is_within (val_of c.args.value.now)) s) c.deref-2.ensures.value in
-    omega (arith, begin, end, before-within (val_of c.args.value.now) c.args.dots.now.items)
+pub take_between-requires-clause-from : goal.take_between-requires-clause-from
+take_between-requires-clause-from c = parted (is_before (val_of c.args.value.now)) (down-before (val_of c.args.value.now)) c.args.dots.now c.requires
 
-pub drain-requires-clause-in_bounds : goal.drain-requires-clause-in_bounds
-drain-requires-clause-in_bounds c =
-    omega (arith, c.end_of-end.ensures, many-small (is_within (val_of c.args.value.now)) c.deref-2.result.now, c.deref-2.ensures.len)
+pub take_between-requires-clause-to : goal.take_between-requires-clause-to
+take_between-requires-clause-to c = parted (is_within (val_of c.args.value.now)) (down-within (val_of c.args.value.now)) c.args.dots.now c.requires
 
-pub returns : goal.returns
-returns c =
-    let left : c.drop-drain.new.self.0.items ≡ filter (λ r. not (is_of (val_of c.args.value.now) r)) c.args.dots.now.items =
-    c.drop-drain.ensures.items ∙ c.drain.ensures.kept
-    ∙ taken-between (val_of c.args.value.now) c.args.dots.now.items c.begin_of-begin.result c.end_of-end.result c.requires
-    (c.begin_of-begin.ensures ∙ ap (λ (s : List Row). many (is_before (val_of c.args.value.now)) s) c.deref.ensures.value)
-    (c.end_of-end.ensures ∙ ap (λ (s : List Row). many (is_within (val_of c.args.value.now)) s) c.deref-2.ensures.value) in
-    search (rules, left)
+pub take_between-requires-clause-order : goal.take_between-requires-clause-order
+take_between-requires-clause-order c = before-within (val_of c.args.value.now) c.args.dots.now
+
+pub returns-clause-ok : goal.returns-clause-ok
+returns-clause-ok c = on_ok c.take_between.result (λ e. e ∙ taken-out (val_of c.args.value.now) c.args.dots.now c.requires) c.take_between.ensures.ok

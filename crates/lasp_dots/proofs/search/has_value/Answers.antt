@@ -1,11 +1,14 @@
-use Rattle.std.proofs.Common.{◌∙◌, arith}
+use Rattle.std.proofs.Common.{◌∙◌}
 use Rattle.lasp_value.specs.Value.{val_of}
-use Rattle.lasp_dots.proofs.PlaceLaws.{value-there, value-nowhere}
+use Rattle.lasp_dots.specs.Places.{is_before}
+use Rattle.lasp_dots.proofs.PlaceLaws.{down-before, parted, value-found, value-none}
 use Rattle.lasp_dots.proofs.search.has_value.Goals as goal
 
-pub returns-then-at-dots : goal.returns-then-at-dots
-returns-then-at-dots c =
-    c.is_of.ensures ∙ value-there (val_of c.args.value.now) c.args.dots.now c.begin_of-at.result c.index-dots-at.result c.requires c.begin_of-at.ensures (omega (arith, c.if-at-dots.true)) c.index-dots-at.is
+pub behind-requires : goal.behind-requires
+behind-requires c = parted (is_before (val_of c.args.value.now)) (down-before (val_of c.args.value.now)) c.args.dots.now c.requires
 
-pub returns-else-at-dots : goal.returns-else-at-dots
-returns-else-at-dots c = value-nowhere (val_of c.args.value.now) c.args.dots.now c.begin_of-at.result c.requires c.begin_of-at.ensures (omega (arith, c.if-at-dots.false))
+pub returns-in-Some : goal.returns-in-Some
+returns-in-Some c = c.is_of.ensures ∙ value-found (val_of c.args.value.now) c.args.dots.now c.in-Some.found.now c.requires c.in-Some.ensures.some
+
+pub returns-in-None : goal.returns-in-None
+returns-in-None c = value-none (val_of c.args.value.now) c.args.dots.now c.requires c.in-None.ensures.none

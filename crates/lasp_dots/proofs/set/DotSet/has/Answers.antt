@@ -8,4 +8,4 @@ use Rattle.lasp_dots.proofs.set.DotSet.has.Goals as goal
 pub returns : goal.returns
 returns c =
     any-visible (val_of c.args.value.now) c.args.self.now.rows c.holds.ensures.ascends c.holds.ensures.live c.has_value.result
-    (c.has_value.ensures ∙ ap (λ s. list_any (is_of (val_of c.args.value.now)) s) (c.deref.ensures.value ∙ ap (λ z. z.rows) c.self.view_is))
+    (c.has_value.ensures ∙ ap (λ s. list_any (is_of (val_of c.args.value.now)) s) (ap (λ z. z.rows) c.self.view_is))

@@ -9,9 +9,9 @@ pub returns-then-are_at_most : goal.returns-then-are_at_most
 returns-then-are_at_most c =
     let counts : c.deref.result.now ≡ c.args.self.now.counts = c.deref.ensures.value ∙ ap (λ z. z.counts) c.self.view_is in
     let others : c.deref-2.result.now ≡ c.args.other.now.counts = c.deref-2.ensures.value ∙ ap (λ z. z.counts) c.other.view_is in
-    let rows : c.deref-then-are_at_most.result.now ≡ c.args.self.now.rows = c.deref-then-are_at_most.ensures.value ∙ ap (λ z. z.rows) c.self.view_is in
-    let known : c.deref-then-are_at_most-2.result.now ≡ c.args.self.now.counts = c.deref-then-are_at_most-2.ensures.value ∙ ap (λ z. z.counts) c.self.view_is in
-    let other_rows : c.deref-then-are_at_most-3.result.now ≡ c.args.other.now.rows = c.deref-then-are_at_most-3.ensures.value ∙ ap (λ z. z.rows) c.other.view_is in
+    let rows : c.self.inside.live ≡ c.args.self.now.rows = ap (λ z. z.rows) c.self.view_is in
+    let known : c.deref-then-are_at_most.result.now ≡ c.args.self.now.counts = c.deref-then-are_at_most.ensures.value ∙ ap (λ z. z.counts) c.self.view_is in
+    let other_rows : c.other.inside.live ≡ c.args.other.now.rows = ap (λ z. z.rows) c.other.view_is in
     order-there c.args.self.now c.args.other.now c.holds.ensures c.holds-2.ensures c.requires
     (subst (λ (a : List ℕ). AreCountsAtMost a c.args.other.now.counts) counts (subst (λ (b : List ℕ). AreCountsAtMost c.deref.result.now b) others (c.are_at_most.ensures.0 c.if-are_at_most.true)))
     c.all_outlive.result (c.all_outlive.ensures ∙ (λ i. list_all (λ r. outlives (record { rows = rows i; counts = known i }) r.0) (other_rows i)))

@@ -7,6 +7,6 @@ use Rattle.lasp_dots.proofs.set.DotSet.visible.Goals as goal
 
 pub loop-dot-init : goal.loop-dot-init
 loop-dot-init c =
-    ap (λ (vs : List Val). vs ++ values_after None c.deref-dot-items.result.now) c.new-values.ensures
-    ∙ ap (λ (s : List Row). values_after None s) (c.deref-dot-items.ensures.value ∙ ap (λ z. z.rows) c.self.view_is)
+    ap (λ (vs : List Val). vs ++ values_after None c.iter-left.result) c.new-values.ensures
+    ∙ ap (λ (s : List Row). values_after None s) (c.iter-left.ensures ∙ ap (λ z. z.rows) c.self.view_is)
     ∙ values_after-visible c.args.self.now.rows c.holds.ensures.ascends

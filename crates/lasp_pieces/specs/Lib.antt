@@ -1,0 +1,2 @@
+-- Lists in pieces, and where a test parts them.
+pub mod Pieces
