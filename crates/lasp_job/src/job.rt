@@ -8,6 +8,7 @@ ghost use Rattle.model_readings.specs.Lawful.{FitsAll};
 ghost use Rattle.lasp_fns.specs.Steps as counted;
 ghost use Rattle.lasp_state.specs.State.{content_of, shape_of, number_of};
 ghost use Rattle.lasp_graph.specs.Library.{library_of};
+ghost use Rattle.lasp_graph.specs.Delta.{gained};
 ghost use Rattle.lasp_graph.specs.Evaluated.{process, Becomes, seen, derived_shape, number_by, second_of};
 ghost use Rattle.lasp_job.specs.Asked.{IsAsked, IsAsked-prop, IsGained, IsGained-prop};
 
@@ -101,6 +102,7 @@ impl Job {
         ensures number { IfOk result (λ s. number_of s ≡ number_by (kind_at (arc_value self.old.graph) self.old.var) (content_of s)) }
         ensures some { IfOk result (λ s. IsSome self.new.gain) }
         ensures gain { IfOk result (λ s. IfSome self.new.gain (λ rows. join (content_of (arc_value self.old.before)).rows rows ≡ (content_of s).rows)) }
+        ensures gains { IfOk result (λ s. IfSome self.new.gain (λ rows. rows ≡ gained (kind_at (arc_value self.old.graph) self.old.var) self.old.first (content_of (arc_value self.old.inputs.first)).rows self.old.second (content_of (second_of self.old.inputs)).rows)) }
         ensures err { OnErr result (self.new.gain ≡ self.old.gain) }
         ensures var { (self.new.var ≡ self.old.var) × (self.new.n ≡ self.old.n) }
         ensures inputs { (self.new.inputs ≡ self.old.inputs) × (self.new.graph ≡ self.old.graph) }

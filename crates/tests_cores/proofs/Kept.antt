@@ -1,6 +1,7 @@
 -- Jobs and reads that are kept while a core's journal goes on.
 use Rattle.std.proofs.Common.{◌≡◌, ◌++◌, ◌∷◌, [], ℕ, suc, zero, ◌<◌, Bool, true, false, if◌then◌else◌, List, length, take, sym, subst, arith}
 use Rattle.std.specs.List.{AllByRecursion, remove, slice_index_or}
+use Rattle.model_values.proofs.ListLaws.{each-weaker, each-push}
 use Rattle.model_graph.specs.Lawful.{IsDerived}
 use Rattle.model_journal.specs.Entry.{Entry, Frame}
 use Rattle.model_journal.specs.Journal.{graph}
@@ -26,17 +27,9 @@ ReadsStay = (X : Frame) (entries more : List Entry) (r : Read) → IsOpen X entr
 
 -- ---- lists of which something holds
 
-all-map : {A : Type 0} (P Q : A → Type 0) → ((x : A) → P x → Q x) → (xs : List A) → AllByRecursion P xs → AllByRecursion Q xs
-all-map P Q each [] all = tt
-all-map P Q each (x ∷ xs) all = (each x all.0, all-map P Q each xs all.1)
-
-all-push : {A : Type 0} (P : A → Type 0) (xs : List A) (x : A) → AllByRecursion P xs → P x → AllByRecursion P (xs ++ x ∷ [])
-all-push P [] x all is = (is, tt)
-all-push P (y ∷ xs) x all is = (all.0, all-push P xs x all.1 is)
-
 -- a list to which an element was added, where there was room
 all-pushed : {A : Type 0} (P : A → Type 0) (xs new : List A) (x : A) (b : Bool) → new ≡ (if b then xs ++ x ∷ [] else xs) → AllByRecursion P xs → P x → AllByRecursion P new
-all-pushed P xs new x true e all is = subst (AllByRecursion P) (sym e) (all-push P xs x all is)
+all-pushed P xs new x true e all is = subst (AllByRecursion P) (sym e) (each-push P xs x all is)
 all-pushed P xs new x false e all is = subst (AllByRecursion P) (sym e) all
 
 all-remove : {A : Type 0} (P : A → Type 0) (xs : List A) (i : ℕ) → AllByRecursion P xs → AllByRecursion P (remove xs i)
@@ -62,21 +55,21 @@ module _ {W R : Type 0} (job : W → Job) (state : W → State) (read : R → Re
   -- a core whose journal went on
   pub kept-next : JobsStay → ResultsStay → ReadsStay → (a b : Core) (ws : List W) (rs : List R) → b.frame ≡ a.frame → GoesOn a.entries b.entries → AreKept job state read a ws rs → AreKept job state read b ws rs
   kept-next jobs results reads a b ws rs frame on kept = record {
-    works_are = all-map (IsWorkAt a) (IsWorkAt b) (λ w is. record {
+    works_are = each-weaker (IsWorkAt a) (IsWorkAt b) (λ w is. record {
       job_is = subst (λ (X : Frame). IsJobOf X b.entries (job w)) (sym frame)
           (subst (λ (h : List Entry). IsJobOf a.frame h (job w)) (sym on.1) (jobs a.frame a.entries on.0 (job w) is.job_is));
       result_is = subst (λ (X : Frame). IsResultOf X b.entries (job w) (state w)) (sym frame)
           (subst (λ (h : List Entry). IsResultOf a.frame h (job w) (state w)) (sym on.1) (results a.frame a.entries on.0 (job w) (state w) is.job_is.derived is.result_is));
     }) ws kept.works_are;
-    reads_are = all-map (IsOpenAt a) (IsOpenAt b) (λ r is. subst (λ (X : Frame). IsOpen X b.entries (read r)) (sym frame)
+    reads_are = each-weaker (IsOpenAt a) (IsOpenAt b) (λ r is. subst (λ (X : Frame). IsOpen X b.entries (read r)) (sym frame)
         (subst (λ (h : List Entry). IsOpen a.frame h (read r)) (sym on.1) (reads a.frame a.entries on.0 (read r) is))) rs kept.reads_are;
   }
 
   -- a core with the same entries
   pub kept-same : (a b : Core) (ws : List W) (rs : List R) → b.frame ≡ a.frame → b.entries ≡ a.entries → AreKept job state read a ws rs → AreKept job state read b ws rs
   kept-same a b ws rs frame entries kept = record {
-    works_are = all-map (IsWorkAt a) (IsWorkAt b) (λ w is. subst (λ (X : Frame). IsWork X b.entries (job w) (state w)) (sym frame) (subst (λ (h : List Entry). IsWork a.frame h (job w) (state w)) (sym entries) is)) ws kept.works_are;
-    reads_are = all-map (IsOpenAt a) (IsOpenAt b) (λ r is. subst (λ (X : Frame). IsOpen X b.entries (read r)) (sym frame) (subst (λ (h : List Entry). IsOpen a.frame h (read r)) (sym entries) is)) rs kept.reads_are;
+    works_are = each-weaker (IsWorkAt a) (IsWorkAt b) (λ w is. subst (λ (X : Frame). IsWork X b.entries (job w) (state w)) (sym frame) (subst (λ (h : List Entry). IsWork a.frame h (job w) (state w)) (sym entries) is)) ws kept.works_are;
+    reads_are = each-weaker (IsOpenAt a) (IsOpenAt b) (λ r is. subst (λ (X : Frame). IsOpen X b.entries (read r)) (sym frame) (subst (λ (h : List Entry). IsOpen a.frame h (read r)) (sym entries) is)) rs kept.reads_are;
   }
 
   pub kept-push : (c : Core) (ws new : List W) (rs : List R) (w : W) (b : Bool) → new ≡ (if b then ws ++ w ∷ [] else ws) → AreKept job state read c ws rs → IsWork c.frame c.entries (job w) (state w) → AreKept job state read c new rs
