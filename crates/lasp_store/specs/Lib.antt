@@ -1,0 +1,3 @@
+pub mod Turn
+pub mod Tried
+pub mod Settled

@@ -1,0 +1,230 @@
+//! What the feed does: updates, deliveries, declarations, and what it sends.
+
+ghost use Rattle.std.specs.Prelude.{◌≡◌, ◌↔◌, ◌+◌, ◌<◌, ◌∷◌, [], false, length, IfOk, OnOk, OnErr, IsTrue};
+ghost use Rattle.std.specs.List.{AllByRecursion};
+ghost use Rattle.std.specs.Arc.{arc_value};
+ghost use Rattle.model_graph.specs.Graph.{kind_at, is_source};
+ghost use Rattle.model_graph.specs.Lawful.{variable_limit};
+ghost use Rattle.model_readings.specs.Lawful.{IsNext as MayFollow};
+ghost use Rattle.model_world.specs.World.{message_at};
+ghost use Rattle.model_journal.specs.Entry as model;
+ghost use Rattle.model_journal.specs.Entry.{entry};
+ghost use Rattle.model_core.specs.Peer.{peer_of};
+ghost use Rattle.model_core.specs.Core.{is_met};
+ghost use Rattle.lasp_histlock.specs.Passes.{after_miss};
+ghost use Rattle.lasp_state.specs.State.{op_of};
+ghost use Rattle.lasp_graph.specs.Decl.{decl_of};
+ghost use Rattle.lasp_graph.specs.States.{held_of};
+ghost use Rattle.lasp_replica.specs.Replica.{IsSmall, update_refusal, IsAnswered, IsDelivered};
+ghost use Rattle.lasp_core.specs.Core.{AreAscending, state_after};
+ghost use Rattle.lasp_core.specs.Watched.{IsBusy};
+ghost use Rattle.lasp_store.specs.Turn.{HadTurn, TriedTurn, IsInTurn, HasEnded, frame_of, graph_at, vals_at, counts_at, graph_seen};
+ghost use Rattle.lasp_store.specs.Tried.{Tried, IfRefused};
+
+use crate::store::{Feed, Store};
+use lasp_core::{Core, DeliverRefused, Released, Try, UpdateRefused};
+use lasp_graph::Decl;
+use lasp_state::{Op, State};
+use lasp_wire::Message;
+use std::alloc::{AllocError, Global};
+use std::sync::{Arc, Wait};
+
+impl Store {
+    fn end_update(
+        &self,
+        f: &mut Feed,
+        mut core: Core,
+        var: u8,
+        op: &Op,
+    ) -> Result<Released, UpdateRefused>
+        requires turn { IsInTurn self.now f.old core }
+        requires first { f.old.number ≡ 0 }
+        requires small { IsSmall (frame_of f.old).nodes op.now }
+        ensures ok { OnOk result (HasEnded (entry 0 (model.Update var (op_of op.now)) ∷ []) f.old f.new) }
+        ensures err { OnErr result (HasEnded [] f.old f.new) }
+        ensures answer { IsAnswered (update_refusal (frame_of f.new).nodes (frame_of f.new).replica (graph_at f.new) (vals_at f.new) (counts_at f.new) var op.now) result }
+        ensures met { IfOk result (AllByRecursion (λ r. IsTrue (is_met (frame_of f.new) f.new.seen r))) }
+        ensures ascending { IfOk result AreAscending }
+    {
+        core.recall();
+        let updated = core.update(0, var, op);
+        core.recall();
+        self.end(f, core);
+        updated
+    }
+
+    /// Updates a source, as `Core::update`. It may wait for others.
+    pub fn update<R: Wait>(
+        &self,
+        rt: &R,
+        f: &mut Feed,
+        var: u8,
+        op: &Op,
+    ) -> Result<Released, UpdateRefused>
+        requires lock { f.old.lock ≡ self.now }
+        requires idle { f.old.turn ≡ false }
+        requires first { f.old.number ≡ 0 }
+        requires small { IsSmall (frame_of f.old).nodes op.now }
+        ensures ok { OnOk result (HadTurn (entry 0 (model.Update var (op_of op.now)) ∷ []) f.old f.new) }
+        ensures err { OnErr result (HadTurn [] f.old f.new) }
+        ensures answer { IsAnswered (update_refusal (frame_of f.new).nodes (frame_of f.new).replica (graph_at f.new) (vals_at f.new) (counts_at f.new) var op.now) result }
+        ensures met { IfOk result (AllByRecursion (λ r. IsTrue (is_met (frame_of f.new) f.new.seen r))) }
+        ensures ascending { IfOk result AreAscending }
+    {
+        let core = self.begin(rt, f);
+        self.end_update(f, core, var, op)
+    }
+
+    /// The same, where nobody else has the core. It never waits.
+    pub fn try_update(&self, f: &mut Feed, var: u8, op: &Op) -> Result<Released, Try<UpdateRefused>>
+        requires lock { f.old.lock ≡ self.now }
+        requires idle { f.old.turn ≡ false }
+        requires first { f.old.number ≡ 0 }
+        requires small { IsSmall (frame_of f.old).nodes op.now }
+        ensures busy { IsBusy result → f.new ≡ after_miss f.old }
+        ensures missed { IsBusy result ↔ (f.new.misses ≡ f.old.misses + 1) }
+        ensures ok { OnOk result (TriedTurn (entry 0 (model.Update var (op_of op.now)) ∷ []) f.old f.new) }
+        ensures refused { IfRefused result (λ why. TriedTurn [] f.old f.new) }
+        ensures answer { Tried (IsAnswered (update_refusal (frame_of f.new).nodes (frame_of f.new).replica (graph_at f.new) (vals_at f.new) (counts_at f.new) var op.now)) result }
+        ensures met { IfOk result (AllByRecursion (λ r. IsTrue (is_met (frame_of f.new) f.new.seen r))) }
+        ensures ascending { IfOk result AreAscending }
+    {
+        match self.try_begin(f) {
+            None => Err(Try::Busy),
+            Some(core) => match self.end_update(f, core, var, op) {
+                Ok(released) => Ok(released),
+                Err(why) => Err(Try::Refused(why)),
+            },
+        }
+    }
+
+    fn end_deliver(
+        &self,
+        f: &mut Feed,
+        mut core: Core,
+        number: u32,
+        m: &Arc<Message>,
+    ) -> Result<Released, DeliverRefused>
+        requires turn { IsInTurn self.now f.old core }
+        requires first { f.old.number ≡ 0 }
+        ensures ok { OnOk result (HasEnded (entry 0 (model.Deliver number (arc_value m.now)) ∷ []) f.old f.new) }
+        ensures err { OnErr result (HasEnded [] f.old f.new) }
+        ensures answer { IsDelivered (frame_of f.new).nodes (graph_at f.new) (vals_at f.new) (arc_value m.now) result }
+        ensures met { IfOk result (AllByRecursion (λ r. IsTrue (is_met (frame_of f.new) f.new.seen r))) }
+        ensures ascending { IfOk result AreAscending }
+    {
+        core.recall();
+        let delivered = core.deliver(0, number, m);
+        core.recall();
+        self.end(f, core);
+        delivered
+    }
+
+    /// Joins a message in, as `Core::deliver`. It may wait for others.
+    pub fn deliver<R: Wait>(
+        &self,
+        rt: &R,
+        f: &mut Feed,
+        number: u32,
+        m: &Arc<Message>,
+    ) -> Result<Released, DeliverRefused>
+        requires lock { f.old.lock ≡ self.now }
+        requires idle { f.old.turn ≡ false }
+        requires first { f.old.number ≡ 0 }
+        ensures ok { OnOk result (HadTurn (entry 0 (model.Deliver number (arc_value m.now)) ∷ []) f.old f.new) }
+        ensures err { OnErr result (HadTurn [] f.old f.new) }
+        ensures answer { IsDelivered (frame_of f.new).nodes (graph_at f.new) (vals_at f.new) (arc_value m.now) result }
+        ensures met { IfOk result (AllByRecursion (λ r. IsTrue (is_met (frame_of f.new) f.new.seen r))) }
+        ensures ascending { IfOk result AreAscending }
+    {
+        let core = self.begin(rt, f);
+        self.end_deliver(f, core, number, m)
+    }
+
+    /// The same, where nobody else has the core. It never waits.
+    pub fn try_deliver(
+        &self,
+        f: &mut Feed,
+        number: u32,
+        m: &Arc<Message>,
+    ) -> Result<Released, Try<DeliverRefused>>
+        requires lock { f.old.lock ≡ self.now }
+        requires idle { f.old.turn ≡ false }
+        requires first { f.old.number ≡ 0 }
+        ensures busy { IsBusy result → f.new ≡ after_miss f.old }
+        ensures missed { IsBusy result ↔ (f.new.misses ≡ f.old.misses + 1) }
+        ensures ok { OnOk result (TriedTurn (entry 0 (model.Deliver number (arc_value m.now)) ∷ []) f.old f.new) }
+        ensures refused { IfRefused result (λ why. TriedTurn [] f.old f.new) }
+        ensures answer { Tried (IsDelivered (frame_of f.new).nodes (graph_at f.new) (vals_at f.new) (arc_value m.now)) result }
+        ensures met { IfOk result (AllByRecursion (λ r. IsTrue (is_met (frame_of f.new) f.new.seen r))) }
+        ensures ascending { IfOk result AreAscending }
+    {
+        match self.try_begin(f) {
+            None => Err(Try::Busy),
+            Some(core) => match self.end_deliver(f, core, number, m) {
+                Ok(released) => Ok(released),
+                Err(why) => Err(Try::Refused(why)),
+            },
+        }
+    }
+
+    fn end_extend(&self, f: &mut Feed, mut core: Core, d: &Decl) -> Result<(), AllocError>
+        requires turn { IsInTurn self.now f.old core }
+        requires first { f.old.number ≡ 0 }
+        requires room { length (graph_seen f.old) < variable_limit }
+        requires next { MayFollow (graph_seen f.old) (decl_of d.now) }
+        ensures ok { OnOk result (HasEnded (entry 0 (model.Extend (decl_of d.now)) ∷ []) f.old f.new) }
+        ensures err { OnErr result (HasEnded [] f.old f.new) }
+    {
+        core.recall();
+        let extended = core.extend(0, d);
+        core.recall();
+        self.end(f, core);
+        extended
+    }
+
+    /// Declares a variable behind the others, as `Core::extend`. The feed alone declares variables, so the graph is the one that it has seen. It may wait for others.
+    pub fn extend<R: Wait>(&self, rt: &R, f: &mut Feed, d: &Decl) -> Result<(), AllocError>
+        requires lock { f.old.lock ≡ self.now }
+        requires idle { f.old.turn ≡ false }
+        requires first { f.old.number ≡ 0 }
+        requires room { length (graph_seen f.old) < variable_limit }
+        requires next { MayFollow (graph_seen f.old) (decl_of d.now) }
+        ensures ok { OnOk result (HadTurn (entry 0 (model.Extend (decl_of d.now)) ∷ []) f.old f.new) }
+        ensures err { OnErr result (HadTurn [] f.old f.new) }
+    {
+        f.known();
+        let core = self.begin(rt, f);
+        f.known();
+        self.end_extend(f, core, d)
+    }
+
+    /// The state of a source, shared: what a script's mark keeps. It may wait for others.
+    pub fn mark<R: Wait>(&self, rt: &R, f: &mut Feed, var: u8) -> Result<Arc<State>, AllocError>
+        requires lock { f.old.lock ≡ self.now }
+        requires idle { f.old.turn ≡ false }
+        requires first { f.old.number ≡ 0 }
+        requires var { var < length (graph_seen f.old) }
+        requires source { IsTrue (is_source (kind_at (graph_seen f.old) var)) }
+        ensures turn { HadTurn [] f.old f.new }
+        ensures state { IfOk result (λ s. held_of (arc_value s) ≡ state_after (frame_of f.new) f.new.seen var) }
+    {
+        self.look(rt, f, var)
+    }
+
+    /// The same, where nobody else has the core. It never waits.
+    pub fn try_mark(&self, f: &mut Feed, var: u8) -> Result<Arc<State>, Try<AllocError>>
+        requires lock { f.old.lock ≡ self.now }
+        requires idle { f.old.turn ≡ false }
+        requires first { f.old.number ≡ 0 }
+        requires var { var < length (graph_seen f.old) }
+        requires source { IsTrue (is_source (kind_at (graph_seen f.old) var)) }
+        ensures busy { IsBusy result → f.new ≡ after_miss f.old }
+        ensures missed { IsBusy result ↔ (f.new.misses ≡ f.old.misses + 1) }
+        ensures ok { OnOk result (TriedTurn [] f.old f.new) }
+        ensures refused { IfRefused result (λ why. TriedTurn [] f.old f.new) }
+        ensures state { IfOk result (λ s. held_of (arc_value s) ≡ state_after (frame_of f.new) f.new.seen var) }
+    {
+        self.try_look(f, var)
+    }
+}

@@ -1,0 +1,26 @@
+//! What callers need of turns. There is nothing to run here: the contract is a group of laws.
+
+ghost use Rattle.std.specs.Prelude.{◌≡◌, ℕ, ◌<◌, ◌≤◌, ◌++◌, List, length};
+ghost use Rattle.model_graph.specs.Graph.{kind_at};
+ghost use Rattle.model_journal.specs.Entry.{Entry};
+ghost use Rattle.model_journal.specs.Journal.{declared};
+ghost use Rattle.lasp_core.specs.Listed.{GoesOn};
+ghost use Rattle.lasp_store.specs.Turn.{Knows, HadTurn, IsSeated, frame_of, graph_seen};
+ghost use Rattle.lasp_histlock.specs.Names.{LockId};
+ghost use Rattle.lasp_store.specs.Settled.{KnowsOwn};
+
+/// A turn leaves what a pass knows of its replica, and the list that it has seen goes on and is legal. So a variable that it has seen declared stays declared, and of its kind.
+#[tactic(auto, using(crate::proofs::TurnLaws::turns))]
+pub fn turns_go_on()
+    ensures frame { (more : List Entry) (old new : Knows) → HadTurn more old new → frame_of new ≡ frame_of old }
+    ensures seen { (more : List Entry) (old new : Knows) → HadTurn more old new → GoesOn old.seen new.seen }
+    ensures declared { (more : List Entry) (old new : Knows) → HadTurn more old new → length (graph_seen old) ≤ length (graph_seen new) }
+    ensures seated { (store : LockId) (more : List Entry) (old new : Knows) → old.lock ≡ store → HadTurn more old new → IsSeated store new }
+    ensures kind { (more : List Entry) (old new : Knows) → HadTurn more old new → (x : ℕ) → x < length (graph_seen old) → kind_at (graph_seen new) x ≡ kind_at (graph_seen old) x }
+{}
+
+/// The graph that a feed has seen grows in a turn by what it declares there, since no hand declares a variable. What is asked of both passes is what `Pass::known` recalls.
+#[tactic(auto, using(crate::proofs::SettleLaws::graphs))]
+pub fn feeds_tell_the_graph()
+    ensures { (old new : Knows) (more : List Entry) → KnowsOwn old → KnowsOwn new → old.number ≡ 0 → HadTurn more old new → graph_seen new ≡ graph_seen old ++ declared more }
+{}

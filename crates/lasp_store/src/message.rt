@@ -1,0 +1,53 @@
+//! What a store sends.
+
+ghost use Rattle.std.specs.Prelude.{◌≡◌, [], false, IfOk};
+ghost use Rattle.model_world.specs.World.{message_at};
+ghost use Rattle.model_journal.specs.Journal as journal;
+ghost use Rattle.model_core.specs.Peer.{peer_of};
+ghost use Rattle.lasp_store.specs.Turn.{HadTurn, IsInTurn, HasEnded, frame_of, graph_seen};
+
+use crate::store::{Feed, Store};
+use lasp_core::Core;
+use lasp_wire::Message;
+use std::alloc::{AllocError, Global};
+use std::sync::Wait;
+
+/// The message of a core: its counts, and its sources in their order, each by its name and kind. It copies names and counts, and shares the states' rows.
+fn message_of(alloc: Global, core: &Core) -> Result<Message, AllocError>
+    ensures { IfOk result (λ m. m ≡ message_at (journal.graph core.now.frame core.now.entries) (peer_of core.now.frame core.now.entries)) }
+{
+    core.recall();
+    let graph = core.graph();
+    graph.recall();
+    lasp_gossip::message_of(alloc, graph, core.states(), core.counts().as_slice())
+}
+
+impl Store {
+    fn end_message(&self, alloc: Global, f: &mut Feed, core: Core) -> Result<Message, AllocError>
+        requires turn { IsInTurn self.now f.old core }
+        ensures turn { HasEnded [] f.old f.new }
+        ensures message { IfOk result (λ m. m ≡ message_at (graph_seen f.new) (peer_of (frame_of f.new) f.new.seen)) }
+    {
+        core.recall();
+        let message = message_of(alloc, &core);
+        self.end(f, core);
+        message
+    }
+
+    /// The message of the replica: its counts and its sources. It copies names and counts, and shares the states' rows. It may wait for others.
+    pub fn message<R: Wait>(
+        &self,
+        rt: &R,
+        alloc: Global,
+        f: &mut Feed,
+    ) -> Result<Message, AllocError>
+        requires lock { f.old.lock ≡ self.now }
+        requires idle { f.old.turn ≡ false }
+        requires first { f.old.number ≡ 0 }
+        ensures turn { HadTurn [] f.old f.new }
+        ensures message { IfOk result (λ m. m ≡ message_at (graph_seen f.new) (peer_of (frame_of f.new) f.new.seen)) }
+    {
+        let core = self.begin(rt, f);
+        self.end_message(alloc, f, core)
+    }
+}
