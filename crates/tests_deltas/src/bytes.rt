@@ -1,0 +1,98 @@
+//! A delta between two messages, as bytes and as what it makes of a message.
+
+use lasp_delta::{DeltaRefused, apply, decode_delta, delta_of, encode_delta, is_before};
+use lasp_wire::{WireRefused, WireWhy, decode, encode};
+use std::alloc::{AllocError, Global};
+use std::test::Fail;
+
+/// A node that counted 1, and a set `a` with the value 5.
+const BEFORE: &[u8; 45] =
+    b"LASP\x02\x01\0\0\0\0\0\0\0\x01\x01\x01a\x01\0\0\0\x01\0\0\0\0\0\0\0\0\x05\0\0\0\x01\0\0\0\0\0\0\0\0\x01\0";
+
+/// The same node once it added 6.
+const AFTER: &[u8; 68] =
+    b"LASP\x02\x01\0\0\0\0\0\0\0\x02\x01\x01a\x01\0\0\0\x02\0\0\0\0\0\0\0\0\x05\0\0\0\x01\0\0\0\0\0\0\0\0\x01\0\0\0\0\0\0\0\0\0\x06\0\0\0\x01\0\0\0\0\0\0\0\0\x02\0";
+
+/// What the second has beside the first.
+const DELTA: &[u8; 53] =
+    b"LASD\x01\x01\0\0\0\0\0\0\0\x01\0\0\0\0\0\0\0\x02\x01\x01a\x01\0\0\0\x01\0\0\0\0\0\0\0\0\x06\0\0\0\x01\0\0\0\0\0\0\0\0\x02\0";
+
+/// A message of a node that counted nothing yet.
+const NOTHING: &[u8; 22] = b"LASP\x02\x01\0\0\0\0\0\0\0\0\x01\x01a\x01\0\0\0\0";
+
+/// Whether the delta from a message to a later one has these bytes.
+fn is_spelled(
+    alloc: Global,
+    before: &[u8],
+    after: &[u8],
+    bytes: &[u8],
+) -> Result<bool, WireRefused> {
+    let before = decode(alloc, before)?;
+    let after = decode(alloc, after)?;
+    if !is_before(&before, &after) {
+        return Ok(false);
+    }
+    let delta = delta_of(alloc, &before, &after)?;
+    Ok(encode_delta(alloc, &delta)?.as_slice() == bytes)
+}
+
+/// What the delta of these bytes makes of a message, as bytes, or why it makes nothing of it; none where it is no delta for it.
+fn applied(
+    alloc: Global,
+    base: &[u8],
+    bytes: &[u8],
+) -> Result<Option<Result<Vec<u8>, DeltaRefused>>, WireRefused> {
+    let base = decode(alloc, base)?;
+    let delta = decode_delta(alloc, bytes)?;
+    if !delta.suits(&base) {
+        return Ok(None);
+    }
+    match apply(alloc, &base, &delta) {
+        Ok(message) => Ok(Some(Ok(encode(alloc, &message)?))),
+        Err(refused) => Ok(Some(Err(refused))),
+    }
+}
+
+/// Whether a delta made these bytes of a message.
+fn is_made(made: Option<Result<Vec<u8>, DeltaRefused>>, bytes: &[u8]) -> bool {
+    match made {
+        Some(Ok(message)) => message.as_slice() == bytes,
+        _ => false,
+    }
+}
+
+/// Whether a delta was refused for a gap of the first node, of which so many updates are known, where it goes on from so many.
+fn is_gap(made: Option<Result<Vec<u8>, DeltaRefused>>, known: u64, after: u64) -> bool {
+    match made {
+        Some(
+            Err(
+                DeltaRefused::Gap {
+                    replica,
+                    have,
+                    from,
+                },
+            ),
+        ) => replica == 0 && have == known && from == after,
+        _ => false,
+    }
+}
+
+/// Whether bytes without the last are refused as short at a place.
+fn is_short(alloc: Global, bytes: &[u8], place: u64) -> bool {
+    let (cut, _) = bytes.split_at(bytes.len().saturating_sub(1));
+    match decode_delta(alloc, cut) {
+        Err(WireRefused::At { place: p, why }) => p == place && why == WireWhy::Short,
+        _ => false,
+    }
+}
+
+#[test]
+fn a_delta_brings_a_message_to_the_later_one_or_tells_of_a_gap(
+    rt: HostRuntime,
+) -> Result<(), Fail> {
+    assert!(rt; is_spelled(rt.alloc(), BEFORE, AFTER, DELTA)?);
+    assert!(rt; is_made(applied(rt.alloc(), BEFORE, DELTA)?, AFTER));
+    assert!(rt; is_gap(applied(rt.alloc(), NOTHING, DELTA)?, 0, 1));
+    assert!(rt; is_short(rt.alloc(), DELTA, 52));
+    Ok(())
+}

@@ -1,0 +1,5 @@
+//! Tests of deltas: from one message to a later one, through bytes written by hand from the format, and back into a message.
+#![tactic(auto)]
+
+#[cfg(test)]
+mod bytes;
