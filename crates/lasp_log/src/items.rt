@@ -39,6 +39,17 @@ impl<'a, T: Share> Items<'a, T> {
         }
     }
 
+    /// A pass over the same items.
+    pub fn rest(&self) -> Items<'a, T>
+        ensures { result ≡ self.now }
+    {
+        Items {
+            items: self.items,
+            chunks: self.chunks,
+            newest: self.newest,
+        }
+    }
+
     /// The next item. It costs a step, and one for each chunk that ends.
     pub fn next(&mut self) -> Option<&'a T>
         ensures some { IfSome result (λ x. self.old ≡ x.now ∷ self.new) }

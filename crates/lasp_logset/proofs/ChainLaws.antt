@@ -117,8 +117,8 @@ chained-stay before after newest older chained stay = record {
       chained.older_live j b h i at (sym (stay.hashes j (omega (arith, lt, chained.covered))) ∙ hash) less (stay.live h i (omega (arith, less, lt, chained.covered)) live);
 }
 
-pub chained-none : AreChained [] [] []
-chained-none = record {
+pub chained-none : (rows : List Row) → AreChained rows [] []
+chained-none rows = record {
   covered = omega arith;
   begins = λ h. record { within = omega arith; hash = λ k e. absurd (omega (arith, e)) };
   newest_live = λ h i lt live. absurd (omega (arith, lt));

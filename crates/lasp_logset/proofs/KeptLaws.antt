@@ -157,7 +157,7 @@ more-any log (r ∷ news) new n empty many is some up made = λ same. more-some 
 
 -- ---- how many rows
 
-apart-length : (s : List Row) → AreApart s → length (of_rows s) ≡ length s
+pub apart-length : (s : List Row) → AreApart s → length (of_rows s) ≡ length s
 apart-length [] apart = refl
 apart-length (r ∷ s) apart =
     length-put_row r (of_rows s) (ascending-of_rows s) ∙ choose (mark (of_rows s) r.0.0 r.0.1) (mark-of_rows s r.0.0 r.0.1 ∙ apart.0) (apart-length s apart.1) where
@@ -188,7 +188,7 @@ new_rows-put r s (q ∷ t) none =
     ]
 
 -- a join has the rows of the first, and those of the second whose keys the first lacks, where no two of these have one key
-length-join : (s t : List Row) → IsAscending s → AreApart t → length (join s t) ≡ length s + new_rows s t
+pub length-join : (s t : List Row) → IsAscending s → AreApart t → length (join s t) ≡ length s + new_rows s t
 length-join s [] up apart = ap length (join-nothing s up) ∙ omega arith
 length-join s (r ∷ t) up apart =
     let step : join s (r ∷ t) ≡ join (put r s) t = join-append s (r ∷ []) t ∙ ap (λ (u : List Row). join u t) (join-row s r up) in
@@ -199,7 +199,7 @@ length-join s (r ∷ t) up apart =
       | false ↦ refl
     ]
 
-new_rows-alike : (s s' t : List Row) → ((v : Val) (w : Tok) → mark s v w ≡ mark s' v w) → new_rows s t ≡ new_rows s' t
+pub new_rows-alike : (s s' t : List Row) → ((v : Val) (w : Tok) → mark s v w ≡ mark s' v w) → new_rows s t ≡ new_rows s' t
 new_rows-alike s s' t same = ap length (filter_agree (λ (r : Row). mark s r.0.0 r.0.1 == 0) (λ (r : Row). mark s' r.0.0 r.0.1 == 0) (λ r. ap (λ (n : ℕ). n == 0) (same r.0.0 r.0.1)) t)
 
 pub joined-length : (rows log others more : List Row) (n m : ℕ) → AreKept rows log → AreKept others more → AreApart others → n ≡ length (of_rows log) → m ≡ new_rows rows others → n + m ≡ length (join (of_rows log) (of_rows more))

@@ -2,3 +2,6 @@
 pub mod KeptLaws
 pub mod LiveLaws
 pub mod ChainLaws
+pub mod WholeLaws
+pub mod PassLaws
+pub mod ShownLaws

@@ -1,5 +1,5 @@
 -- What is kept of a set beside its log.
-use Rattle.std.specs.Prelude.{◌≡◌, ℕ, ◌≤◌, List, [], length}
+use Rattle.std.specs.Prelude.{◌≡◌, ℕ, ◌≤◌, ◌^◌, List, [], ◌++◌, length}
 use Rattle.model_values.specs.Value.{Val}
 use Rattle.model_values.specs.Token.{Tok}
 use Rattle.model_values.specs.Row.{Row}
@@ -26,3 +26,11 @@ pub record IsPast (log : List Row) (rows : ℕ) : Type 0 where
   pub rises : AreRises [] log
   pub ints : HaveSmallInts log
   pub counted : rows ≡ length (of_rows log)
+  pub small : rows ≤ 2 ^ 32
+
+-- a table of the rows of a log that a pass over it has left behind
+pub record IsTable (rows left log : List Row) : Type 0 where
+  pub before : List Row
+  pub whole : before ++ left ≡ log
+  pub kept : AreKept rows before
+  pub rises : AreRises before left

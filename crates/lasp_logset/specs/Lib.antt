@@ -3,3 +3,6 @@ pub mod Chains
 pub mod Kept
 pub mod Live
 pub mod Orders
+pub mod Whole
+pub mod Passes
+pub mod Shown

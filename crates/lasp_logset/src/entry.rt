@@ -1,6 +1,7 @@
 //! One row as it is kept in a log.
 
 ghost use Rattle.std.specs.Prelude.{◌≡◌, true, IfOk};
+ghost use Rattle.model_values.specs.Size.{HasSmallInts};
 ghost use Rattle.model_sets.specs.Rows.{is_of};
 ghost use Rattle.lasp_value.specs.Value.{val_of};
 ghost use Rattle.lasp_value.specs.Token.{tok_of};
@@ -64,6 +65,13 @@ impl Entry {
             name: self.name.share()?,
             dead: true,
         })
+    }
+
+    /// Recalls, at no cost, that each number in its value has at most 64 bits.
+    pub(crate) fn recall_ints(&self)
+        ensures { HasSmallInts self.now.0.0 }
+    {
+        self.name.recall_ints()
     }
 
     pub(crate) fn name(&self) -> &Name

@@ -1,15 +1,15 @@
 //! A state of the past: a share of a set's log, without the table.
 
-ghost use Rattle.std.specs.Prelude.{◌≡◌, ◌≤◌, ◌^◌, ◌↔◌, [], IfOk, IsTrue, length};
+ghost use Rattle.std.specs.Prelude.{◌≡◌, ◌≤◌, ◌^◌, ◌↔◌, ◌∷◌, [], IfOk, IsTrue, length};
 ghost use Rattle.model_sets.specs.Rows.{of_rows, IsAtMost};
-ghost use Rattle.model_sets.specs.Rises.{AreRises};
+ghost use Rattle.model_sets.specs.Rises.{AreRises, AreApart};
 ghost use Rattle.model_sets.specs.Reads.{HaveSmallInts};
 ghost use Rattle.lasp_logset.specs.Kept.{IsPast};
 
 use super::entry::Entry;
 use super::set::LogSet;
 use lasp_log::{Items, Log};
-use std::alloc::AllocError;
+use std::alloc::{AllocError, Global};
 use std::marker::Model;
 
 /// A state that a set had, seen as the log by then.
@@ -34,6 +34,36 @@ impl Model for Past {
 }
 
 impl Past {
+    /// The state without rows; it takes no memory yet.
+    pub(crate) fn new(alloc: Global) -> Past
+        ensures { result ≡ [] }
+    {
+        Past {
+            log: Log::new(alloc),
+            rows: 0,
+        }
+    }
+
+    /// The state of one row.
+    pub(crate) fn one(alloc: Global, entry: Entry) -> Result<Past, AllocError>
+        ensures { IfOk result (λ p. p ≡ entry ∷ []) }
+    {
+        entry.recall_ints();
+        let mut log = Log::new(alloc);
+        log.push(entry)?;
+        Ok(Past { log, rows: 1 })
+    }
+
+    /// The state of rows of which no two have one key.
+    pub(crate) fn of_apart(log: Log<Entry>) -> Past
+        requires apart { AreApart log.items }
+        requires ints { HaveSmallInts log.items }
+        ensures { result ≡ log.items }
+    {
+        let rows = log.len() as u64;
+        Past { log, rows }
+    }
+
     pub(crate) fn of(log: Log<Entry>, rows: u64) -> Past
         requires { IsPast log.items rows }
         ensures { result ≡ log.items }
@@ -51,9 +81,22 @@ impl Past {
         })
     }
 
+    /// The allocator that the set was made with.
+    pub(crate) fn allocator(&self) -> Global {
+        self.log.allocator()
+    }
+
+    /// A set of the same rows. It costs an insertion for each change.
+    pub fn whole(&self) -> Result<LogSet, AllocError>
+        ensures { IfOk result (λ s. s ≡ self.now) }
+    {
+        LogSet::of_log(&self.log)
+    }
+
     /// The number of rows, dead ones counted.
     pub fn rows(&self) -> u64
-        ensures { result ≡ length (of_rows self.now) }
+        ensures exact { result ≡ length (of_rows self.now) }
+        ensures small { result ≤ 2 ^ 32 }
     {
         self.rows
     }
@@ -81,8 +124,12 @@ impl Past {
     }
 
     pub(crate) fn log(&self) -> &Log<Entry>
-        ensures { result.now.items ≡ self.now }
+        ensures items { result.now.items ≡ self.now }
+        ensures rises { AreRises [] self.now }
+        ensures ints { HaveSmallInts self.now }
+        ensures small { length self.now ≤ 2 ^ 32 }
     {
+        let _len = self.log.len();
         &self.log
     }
 

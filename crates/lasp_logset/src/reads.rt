@@ -86,14 +86,14 @@ impl LogSet {
 }
 
 /// Whether the row is of the value, and dead where `dead` is true.
-fn is_row_of(row: &TableRow, value: &Value, dead: bool) -> bool
+pub(crate) fn is_row_of(row: &TableRow, value: &Value, dead: bool) -> bool
     ensures { result ≡ is_row_of (val_of value.now) dead row.now }
 {
     row.is_of(value) && (row.is_dead() || !dead)
 }
 
 /// Whether the value is the last one that was shown.
-fn is_shown(last: Option<&Value>, value: &Value) -> bool
+pub(crate) fn is_shown(last: Option<&Value>, value: &Value) -> bool
     ensures { result ≡ is_last (option_map (λ v. val_of v.now) last.entry) (val_of value.now) }
 {
     match last {

@@ -1,6 +1,6 @@
 //! A pass over the rows of a set as they are now.
 
-ghost use Rattle.std.specs.Prelude.{◌≡◌, ◌∷◌, [], IfOk, IfSome, IfNone};
+ghost use Rattle.std.specs.Prelude.{◌≡◌, ◌∷◌, ◌||◌, [], true, IfOk, IfSome, IfNone};
 ghost use Rattle.std.specs.Ordering.{eq_by_cmp, as_partial_cmp};
 ghost use Rattle.std.specs.Cmp.{partial_equiv_from_equiv};
 ghost use Rattle.std.proofs.Common.{refl};
@@ -75,6 +75,29 @@ impl<'a> TableRow<'a> {
         ensures { IfOk result (λ r. r ≡ self.now) }
     {
         Ok(Entry::of(self.name.share()?, self.dead))
+    }
+
+    /// The same row, dead, to be put into another set. It takes no memory.
+    pub fn buried(&self) -> Result<Entry, AllocError>
+        ensures { IfOk result (λ r. r ≡ (self.now.0, true)) }
+    {
+        Ok(Entry::of(self.name.share()?, true))
+    }
+
+    pub(crate) fn name(&self) -> &'a Name
+        ensures { result.now ≡ self.now.0 }
+    {
+        self.name
+    }
+
+    /// The row of its key that is dead where either is.
+    pub(crate) fn united(&self, dead: bool) -> TableRow<'a>
+        ensures { result ≡ (self.now.0, self.now.1 || dead) }
+    {
+        TableRow {
+            name: self.name,
+            dead: self.dead || dead,
+        }
     }
 }
 

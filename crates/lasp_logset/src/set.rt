@@ -13,7 +13,7 @@ use super::coming::Coming;
 use super::entry::Entry;
 use super::name::Name;
 use super::past::Past;
-use super::table::{brings_nothing, news, put_in, put_news, raises};
+use super::table::{brings_nothing, news, put_in, put_news, raises, table_of};
 use indexmap::IndexMap;
 use lasp_log::Log;
 use std::alloc::{AllocError, Global};
@@ -58,6 +58,36 @@ impl LogSet {
         ensures { result ≡ [] }
     {
         LogSet::new(self.allocator())
+    }
+
+    /// The set of a log, with a table made of it. It costs an insertion for each row of the log.
+    pub(crate) fn of_log(log: &Log<Entry>) -> Result<LogSet, AllocError>
+        requires rises { AreRises [] log.now.items }
+        requires ints { HaveSmallInts log.now.items }
+        ensures { IfOk result (λ s. s ≡ log.now.items) }
+    {
+        Ok(LogSet {
+            rows: table_of(log)?,
+            log: log.share()?,
+            chains: Chains::new(log.allocator()),
+        })
+    }
+
+    /// An equal set with a table of its own, which costs an insertion for each row of the log.
+    pub fn try_clone(&self) -> Result<LogSet, AllocError>
+        ensures { IfOk result (λ s. s ≡ self.now) }
+    {
+        LogSet::of_log(&self.log)
+    }
+
+    pub(crate) fn log(&self) -> &Log<Entry>
+        ensures items { result.now.items ≡ self.now }
+        ensures rises { AreRises [] self.now }
+        ensures ints { HaveSmallInts self.now }
+        ensures small { length self.now ≤ 2 ^ 32 }
+    {
+        let _len = self.log.len();
+        &self.log
     }
 
     /// The allocator that the set was made with.
@@ -122,6 +152,20 @@ impl LogSet {
         raises(&self.rows, entry.name(), entry.is_dead())
     }
 
+    /// Whether the row of a key isn't dead, or there is none.
+    pub(crate) fn is_live(&self, entry: &Entry) -> bool
+        ensures { result ≡ nat_lt (mark self.now entry.now.0.0 entry.now.0.1) 2 }
+    {
+        raises(&self.rows, entry.name(), true)
+    }
+
+    /// Whether a row tells more than the set, as `raises` does.
+    pub(crate) fn lacks(&self, name: &Name, dead: bool) -> bool
+        ensures { result ≡ nat_lt (mark self.now name.now.0 name.now.1) (level dead) }
+    {
+        raises(&self.rows, name, dead)
+    }
+
     /// The order: each row of this set is in the other one, and is dead there if it is dead here. It costs a look-up for each row of the log, up to the first that the other set lacks.
     pub fn le(&self, other: &LogSet) -> bool
         ensures { IsTrue result ↔ IsAtMost self.now other.now }
@@ -172,7 +216,7 @@ impl LogSet {
         self.join_log(past.log())
     }
 
-    fn join_log(&mut self, log: &Log<Entry>) -> Result<bool, AllocError>
+    pub(crate) fn join_log(&mut self, log: &Log<Entry>) -> Result<bool, AllocError>
         requires { AreRises [] log.now.items }
         ensures ok { OnOk result (self.new ≡ self.old ++ changed self.old log.now.items) }
         ensures grew { IfOk result (λ grew. IsTrue grew ↔ (of_rows self.new ≢ of_rows self.old)) }

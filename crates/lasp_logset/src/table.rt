@@ -5,6 +5,7 @@ ghost use Rattle.indexmap.specs.IndexMap.{spare};
 ghost use Rattle.model_sets.specs.Rows.{level, mark};
 ghost use Rattle.model_sets.specs.Equations.{changed};
 ghost use Rattle.model_sets.specs.Loops.{new_rows};
+ghost use Rattle.model_sets.specs.Reads.{HaveSmallInts};
 ghost use Rattle.model_sets.specs.Rises.{AreRises};
 ghost use Rattle.lasp_logset.specs.Chains.{StayRows};
 ghost use Rattle.lasp_logset.specs.Kept.{AreKept};
@@ -64,6 +65,21 @@ pub(crate) fn brings_nothing(rows: &IndexMap<Name, bool>, log: &Log<Entry>) -> b
         }
     }
     true
+}
+
+/// The table of a log. It costs an insertion for each of its rows.
+pub(crate) fn table_of(log: &Log<Entry>) -> Result<IndexMap<Name, bool>, AllocError>
+    requires rises { AreRises [] log.now.items }
+    requires ints { HaveSmallInts log.now.items }
+    ensures { IfOk result (λ rows. AreKept rows.entries log.now.items) }
+{
+    let mut rows = IndexMap::new(log.allocator());
+    rows.reserve(log.len())?;
+    let mut left = log.iter();
+    while let Some(entry) = left.next() {
+        rows.insert(entry.name().share()?, entry.is_dead())?;
+    }
+    Ok(rows)
 }
 
 /// The number of the other table's rows whose key no row of the table has. It costs a look-up for each.

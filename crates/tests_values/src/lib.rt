@@ -14,4 +14,6 @@ mod logset;
 #[cfg(test)]
 mod orset;
 #[cfg(test)]
+mod shared;
+#[cfg(test)]
 mod value;

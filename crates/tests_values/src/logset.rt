@@ -24,9 +24,7 @@ impl Both {
 
     /// Adds a value, and tells whether both forms say the same of it.
     fn add(&mut self, alloc: Global, value: &Value, k: u64) -> Result<bool, AllocError> {
-        let grew = self
-            .log
-            .join_in(&lasp_logset::add_delta(alloc, value, 0, k)?)?;
+        let grew = self.log.join_in(&LogSet::add_delta(alloc, value, 0, k)?)?;
         let grew_too = self
             .set
             .join_in(&lasp_orset::add_delta(alloc, value, 0, k)?)?;

@@ -1,0 +1,63 @@
+//! What an update joins in, and what became more from one set to another.
+
+ghost use Rattle.std.specs.Prelude.{◌≡◌, IfOk};
+ghost use Rattle.model_sets.specs.Rows.{add_delta, remove_delta};
+ghost use Rattle.model_sets.specs.Equations.{changed};
+ghost use Rattle.lasp_value.specs.Value.{val_of};
+
+use super::entry::Entry;
+use super::orset::OrSet;
+use super::past::Past;
+use lasp_log::Log;
+use lasp_value::{Token, Value};
+use std::alloc::{AllocError, Global};
+
+/// What the k-th update of a replica joins in where it adds a value: one live row with a token of its own.
+pub fn add_delta(alloc: Global, value: &Value, replica: u8, k: u64) -> Result<OrSet, AllocError>
+    ensures { IfOk result (λ d. d ≡ add_delta (val_of value.now) replica k) }
+{
+    let entry = Entry::new(
+        alloc,
+        value.try_clone(alloc)?,
+        Token::Base(replica, k),
+        false,
+    )?;
+    Ok(OrSet::of_past(Past::one(alloc, entry)?))
+}
+
+impl OrSet {
+    /// What an update joins in where it removes a value: the rows of the value that stand here, each dead. It costs a pass over the rows.
+    pub fn remove_delta(&self, value: &Value) -> Result<OrSet, AllocError>
+        ensures { IfOk result (λ d. d ≡ remove_delta (val_of value.now) self.now) }
+    {
+        let mut log = Log::new(self.allocator());
+        self.recall_ints();
+        self.ascends();
+        let mut rows = self.entries()?;
+        while let Some(row) = rows.next() {
+            if row.is_of(value) {
+                log.push(row.buried()?)?;
+            }
+        }
+        log.seal();
+        Ok(OrSet::of_past(Past::of_apart(log)))
+    }
+}
+
+/// The rows of the second set that the first one lacks, or that are dead in the second alone. Where the first one is at most the second, these joined into the first give the second.
+/// Each row of the second set costs a look-up; the keys are shared.
+pub fn changed(alloc: Global, before: &OrSet, after: &OrSet) -> Result<OrSet, AllocError>
+    ensures { IfOk result (λ s. s ≡ changed before.now after.now) }
+{
+    let mut log = Log::new(alloc);
+    let known = before.table()?;
+    after.recall_ints();
+    let mut rows = after.entries()?;
+    while let Some(row) = rows.next() {
+        if known.lacks(row.name(), row.is_dead()) {
+            log.push(row.entry()?)?;
+        }
+    }
+    log.seal();
+    Ok(OrSet::of_past(Past::of_apart(log)))
+}

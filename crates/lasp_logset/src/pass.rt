@@ -1,0 +1,83 @@
+//! A pass over the rows of a set, in any order.
+
+ghost use Rattle.std.specs.Prelude.{◌≡◌, ◌∷◌, [], IfSome, IfNone};
+ghost use Rattle.std.specs.Arc.{arc_value};
+ghost use Rattle.lasp_logset.specs.Whole.{standing};
+
+use super::entry::Entry;
+use super::rows::{Rows, TableRow};
+use super::set::LogSet;
+use super::standing::Standing;
+use lasp_log::Items;
+use std::marker::Model;
+use std::sync::Arc;
+
+/// The rows that are left of a pass, seen as their list.
+#[derive(Drop)]
+pub struct Pass<'a> {
+    left: Left<'a>,
+}
+
+/// Where the rows stand.
+#[derive(Drop)]
+enum Left<'a> {
+    Table(Rows<'a>),
+    Log(Items<'a, Entry>),
+    Standing(Standing<'a>),
+}
+
+impl<'a> Model for Pass<'a> {
+    ghost use Rattle.std.specs.Prelude.{List};
+    ghost use Rattle.model_values.specs.Row.{Row, coded_rows};
+    ghost use Rattle.lasp_logset.specs.Passes.{left_of};
+
+    ghost Value = { List Row };
+
+    ghost coded = { coded_rows };
+
+    ghost view = { λ a. left_of a.left };
+}
+
+impl<'a> Pass<'a> {
+    pub(crate) fn of_table(left: Rows<'a>) -> Pass<'a>
+        ensures { result ≡ left.entry }
+    {
+        Pass {
+            left: Left::Table(left),
+        }
+    }
+
+    pub(crate) fn of_log(left: Items<'a, Entry>) -> Pass<'a>
+        ensures { result ≡ left.entry }
+    {
+        Pass {
+            left: Left::Log(left),
+        }
+    }
+
+    pub(crate) fn of_standing(left: Items<'a, Entry>, set: Arc<LogSet>) -> Pass<'a>
+        ensures { result ≡ standing (arc_value set) left.entry }
+    {
+        Pass {
+            left: Left::Standing(Standing::of(left, set)),
+        }
+    }
+
+    /// The next row. It costs a step, and in a log that was given a table a look-up for each live row.
+    pub fn next(&mut self) -> Option<TableRow<'a>>
+        ensures some { IfSome result (λ r. self.old ≡ r ∷ self.new) }
+        ensures none { IfNone result (self.old ≡ []) }
+    {
+        match &mut self.left {
+            Left::Table(left) => left.next(),
+            Left::Log(left) => {
+                let entry = left.next()?;
+                Some(TableRow::of(entry.name(), entry.is_dead()))
+            }
+            Left::Standing(left) => {
+                let entry = left.next()?;
+                Some(TableRow::of(entry.name(), entry.is_dead()))
+            }
+        }
+    }
+}

@@ -1,0 +1,226 @@
+//! What a set shows, and passes over its rows.
+
+ghost use Rattle.std.specs.Prelude.{◌≡◌, ◌≤◌, ◌^◌, ◌+◌, ◌↔◌, ◌++◌, [], IfOk, OnOk, IsTrue, length, string_bytes};
+ghost use Rattle.model_values.specs.Text.{shown_values};
+ghost use Rattle.model_sets.specs.Rows.{of_rows, join};
+ghost use Rattle.model_sets.specs.Rises.{AreRises, AreApart};
+ghost use Rattle.model_sets.specs.Reads.{HasRowOf};
+ghost use Rattle.model_sets.specs.Values.{IsHeld, visible};
+ghost use Rattle.model_sets.specs.Loops.{collapse, new_rows};
+ghost use Rattle.lasp_value.specs.Value.{val_of};
+ghost use Rattle.lasp_logset.specs.Shown.{shown_next};
+
+use super::entry::Entry;
+use super::orset::{Kept, OrSet};
+use super::pass::Pass;
+use super::passes::{count_more, has_live_in};
+use super::reads::{is_row_of, is_shown};
+use super::rows::TableRow;
+use super::set::LogSet;
+use lasp_log::Log;
+use lasp_value::{Value, Values, print_into};
+use std::alloc::{AllocError, Global};
+use std::sync::Arc;
+
+impl OrSet {
+    /// A pass over the rows in any order, each key once. It takes no memory but where the set has no table and a row of it died after it had come: there a table is made.
+    pub fn entries(&self) -> Result<Pass<'_>, AllocError>
+        ensures rows { IfOk result (λ rows. of_rows rows ≡ self.now) }
+        ensures apart { IfOk result (λ rows. AreApart rows) }
+    {
+        match &self.kept {
+            Kept::Whole(set) => Ok(Pass::of_table(set.iter())),
+            Kept::Past(past) => {
+                if past.rows() == past.version() {
+                    return Ok(Pass::of_log(past.log().iter()));
+                }
+                self.standing()
+            }
+        }
+    }
+
+    /// A pass over the log that leaves out what died later, by a table that is made for it.
+    fn standing(&self) -> Result<Pass<'_>, AllocError>
+        ensures rows { IfOk result (λ rows. of_rows rows ≡ self.now) }
+        ensures apart { IfOk result (λ rows. AreApart rows) }
+    {
+        let log = self.log();
+        let set = Arc::new(log.allocator(), LogSet::of_log(log)?)?;
+        Ok(Pass::of_standing(log.iter(), set))
+    }
+
+    /// A pass over the rows in any order, where a row that died after it had come may be passed twice, first as it was. It takes no memory.
+    #[tactic(auto, using(crate::proofs::WholeLaws::passes))]
+    pub fn iter(&self) -> Pass<'_>
+        ensures rows { of_rows result ≡ self.now }
+        ensures rises { AreRises [] result }
+    {
+        match &self.kept {
+            Kept::Whole(set) => Pass::of_table(set.iter()),
+            Kept::Past(past) => Pass::of_log(past.log().iter()),
+        }
+    }
+
+    /// The rows, ascending by value and then by token. It takes memory for a pointer to each change, and sorts these.
+    pub fn sorted(&self) -> Result<Vec<TableRow<'_>>, AllocError>
+        ensures { IfOk result (λ rows. rows.items ≡ self.now) }
+    {
+        match &self.kept {
+            Kept::Whole(set) => set.sorted(),
+            Kept::Past(past) => collapsed(past.allocator(), sorted_changes(past.log())?),
+        }
+    }
+
+    /// Whether the value has a live row. It costs two look-ups, and a pass over the rows that came since the table's values were indexed; where there is no table one is made.
+    pub fn has(&self, value: &Value) -> bool
+        ensures { IsTrue result ↔ IsHeld (visible self.now) (val_of value.now) }
+    {
+        match self.table() {
+            Ok(set) => set.has(value),
+            Err(_) => has_live_in(self.log(), value),
+        }
+    }
+
+    /// Whether the value has a row, and a dead one where `dead` is true. It costs a pass over the changes.
+    pub fn has_row(&self, value: &Value, dead: bool) -> bool
+        ensures { IsTrue result ↔ HasRowOf self.now (val_of value.now) dead }
+    {
+        let mut rows = self.iter();
+        while let Some(row) = rows.next() {
+            if is_row_of(&row, value, dead) {
+                return true;
+            }
+        }
+        false
+    }
+
+    /// The values with a live row, ascending, each once. It costs what `sorted` does.
+    pub fn visible(&self) -> Result<Values, AllocError>
+        ensures { IfOk result (λ values. values ≡ visible self.now) }
+    {
+        self.ascends();
+        let alloc = self.allocator();
+        let mut values = Values::new(alloc);
+        let mut last: Option<&Value> = None;
+        let sorted = self.sorted()?;
+        for row in &sorted {
+            if row.is_dead() || is_shown(last, row.value()) {
+                continue;
+            }
+            values.push(row.value().try_clone(alloc)?)?;
+            last = Some(row.value());
+        }
+        Ok(values)
+    }
+
+    /// Appends the visible values as a JSON array. It copies no value, and costs what `sorted` does. After want of memory a part may have been appended.
+    pub fn print_into(&self, out: &mut String) -> Result<(), AllocError>
+        ensures { OnOk result (string_bytes out.new ≡ string_bytes out.old ++ shown_values (visible self.now)) }
+    {
+        self.ascends();
+        let sorted = self.sorted()?;
+        out.push('[')?;
+        let mut last: Option<&Value> = None;
+        for row in &sorted {
+            if row.is_dead() || is_shown(last, row.value()) {
+                continue;
+            }
+            print_next(out, last.is_some(), row.value())?;
+            last = Some(row.value());
+        }
+        out.push(']')
+    }
+
+    /// The number of rows that the join with another set has, dead ones counted. Each row of one of them costs a look-up in the other one: of two with tables, each of the smaller one. It takes no memory where that other one has a table.
+    pub fn joined_rows(&self, other: &OrSet) -> u64
+        ensures { result ≡ length (join self.now other.now) }
+    {
+        if self.is_asked(other) {
+            joined_count(self, other)
+        } else {
+            joined_count(other, self)
+        }
+    }
+
+    /// Whether the rows of another set are better looked up in this one than the other way round.
+    fn is_asked(&self, other: &OrSet) -> bool {
+        match (&self.kept, &other.kept) {
+            (Kept::Whole(_), Kept::Past(_)) => true,
+            (Kept::Past(_), Kept::Whole(_)) => false,
+            (_, _) => self.rows() >= other.rows(),
+        }
+    }
+}
+
+/// The number of rows of the join of two sets, by looking those of the second up in the first.
+fn joined_count(set: &OrSet, other: &OrSet) -> u64
+    ensures { result ≡ length (join set.now other.now) }
+{
+    set.ascends();
+    let _rows = other.rows();
+    match (set.table(), other.entries()) {
+        (Ok(table), Ok(rows)) => set.rows() + count_lacking(&table, rows),
+        (_, _) => set.rows() + count_more(set.log(), other.log()),
+    }
+}
+
+/// The number of rows of a pass whose key no row of a set has.
+fn count_lacking(set: &LogSet, rows: Pass<'_>) -> u64
+    requires { length rows ≤ 2 ^ 32 }
+    ensures exact { result ≡ new_rows set.now rows.entry }
+    ensures few { result ≤ length rows.entry }
+{
+    let mut count = 0u64;
+    let mut left = rows;
+    while let Some(row) = left.next() {
+        if set.lacks(row.name(), false) {
+            count += 1;
+        }
+    }
+    count
+}
+
+/// The changes of a log in the order of their keys.
+fn sorted_changes(log: &Log<Entry>) -> Result<Vec<TableRow<'_>>, AllocError>
+    ensures { IfOk result (λ rows. collapse rows.items ≡ of_rows log.now.items) }
+{
+    let mut sorted = Vec::with_capacity(log.allocator(), log.len())?;
+    let mut left = log.iter();
+    while let Some(entry) = left.next() {
+        sorted.push(TableRow::of(entry.name(), entry.is_dead()))?;
+    }
+    sorted.sort()?;
+    Ok(sorted)
+}
+
+/// Rows in the order of their keys, those of one key as one, dead where one of them is.
+fn collapsed<'a>(alloc: Global, sorted: Vec<TableRow<'a>>) -> Result<Vec<TableRow<'a>>, AllocError>
+    ensures { IfOk result (λ rows. rows.items ≡ collapse sorted.entry.items) }
+{
+    let mut rows = Vec::with_capacity(alloc, sorted.len())?;
+    let mut left = sorted.into_iter();
+    let Some(first) = left.next() else {
+        return Ok(rows);
+    };
+    let mut last = first;
+    while let Some(row) = left.next() {
+        if last == row {
+            last = last.united(row.is_dead());
+        } else {
+            rows.push(last)?;
+            last = row;
+        }
+    }
+    rows.push(last)?;
+    Ok(rows)
+}
+
+/// Appends a value, behind a comma where it isn't the first.
+fn print_next(out: &mut String, is_behind: bool, value: &Value) -> Result<(), AllocError>
+    ensures { OnOk result (string_bytes out.new ≡ string_bytes out.old ++ shown_next is_behind (val_of value.now)) }
+{
+    if is_behind {
+        out.push(',')?;
+    }
+    print_into(out, value)
+}
