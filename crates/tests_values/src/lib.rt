@@ -14,6 +14,4 @@ mod logset;
 #[cfg(test)]
 mod orset;
 #[cfg(test)]
-mod shared;
-#[cfg(test)]
 mod value;
