@@ -1,6 +1,6 @@
 -- Acts one after the other, and acts that were done along a list of nodes.
 use Rattle.std.proofs.Common.{zero, suc, refl, sym, ap, subst, ◌∙◌, arith, drop, take}
-use Rattle.std.specs.Prelude.{◌≡◌, ℕ, ◌+◌, ◌<◌, ◌≤◌, ◌==◌, not, Bool, true, false, if◌then◌else◌, List, [], ◌∷◌, ◌++◌, map, flat_map, filter, length, Result, Ok, Err, OnOk}
+use Rattle.std.specs.Prelude.{◌≡◌, ℕ, ◌+◌, ◌<◌, ◌≤◌, ◌==◌, not, Bool, true, false, if◌then◌else◌, List, [], ◌∷◌, ◌++◌, map, flat_map, filter, length, Result, Ok, Err, OnOk, slice_get, slice_set, Some}
 use Rattle.std.specs.List.{range_with_len}
 use Rattle.std.proofs.lemmas.List.{drop_more}
 use Rattle.std.proofs.lemmas.Bool.{eq-eqb, ne_eqb}
@@ -9,17 +9,20 @@ use Rattle.model_graph.specs.Chain.{◌>>=◌}
 use Rattle.model_world.specs.Lawful.{Stage}
 use Rattle.model_world.specs.World.{Run, Act, Post, Take, act, each, takes, sync_acts}
 use Rattle.model_world.specs.declared.stop.Stop.{Stop}
-use Rattle.model_runs.specs.Calls.{call_of}
+use Rattle.model_runs.specs.Calls.{call_of, calls_of_acts}
 use Rattle.model_runs.proofs.MatchLaws.{append-nothing}
 use Rattle.model_runs.proofs.SoundLaws.{sound-later}
+use Rattle.lasp_drive.specs.Node.{NodeView}
+use Rattle.lasp_drive.specs.Nodes.{calls_of}
 use Rattle.lasp_drive.specs.Waiting.{GoOnByReads}
-use Rattle.lasp_drive.specs.Calls.{GoOnByCalls}
+use Rattle.lasp_drive.specs.Calls.{calls_at, GoOnByCalls}
 use Rattle.lasp_drive.specs.Driver.{DriverView, run_of, stage_of, Stands}
-use Rattle.lasp_drive.specs.Acts.{Halts, staged, all_staged, asks, all_asks, Acted, ActsSeen}
+use Rattle.lasp_drive.specs.Acts.{Halts, staged, all_staged, asks, all_asks, Acted, ActsSeen, StopsWithin}
 use Rattle.lasp_drive.specs.declared.halt.Halt.{Halt}
 use Rattle.lasp_drive.specs.declared.halt.Halt.TheVariants as halt
+use Rattle.lasp_drive.proofs.NodeLaws.{same-set}
 use Rattle.lasp_drive.proofs.WaitLaws.{all-later}
-use Rattle.lasp_drive.proofs.CallLaws.{calls-one, calls-then}
+use Rattle.lasp_drive.proofs.CallLaws.{calls-one, calls-then, calls-append, calls-more, part-before, part-behind, within-none}
 
 -- ---- stops
 
@@ -68,6 +71,20 @@ acted-one c next d e a ready size stage done calls opened = record {
 pub halts-one : (c : ℕ) (run : Run) (a : Act) (why : Halt) → Halts (act c run a) why → Halts (each c run (a ∷ [])) why
 halts-one c run a why h = halts-then (act c run a) (λ n. each c n []) why h
 
+-- ---- a stop within one act
+
+-- the nodes have the calls that they had
+pub stops-still : (c : ℕ) (d : DriverView) (a : Act) (why : Halt) (nodes : List NodeView) → calls_of nodes ≡ calls_of d.nodes → Halts (act c (run_of d) a) why → StopsWithin c d (a ∷ []) why nodes
+stops-still c d a why nodes same h = record { halts = halts-one c (run_of d) a why h; calls = within-none d.nodes nodes (λ q. calls_of_acts c (run_of d) q (a ∷ [])) same }
+
+-- a node was called in vain
+pub stops-at : (c p : ℕ) (d : DriverView) (a : Act) (why : Halt) (n new : NodeView) → slice_get d.nodes p ≡ Some n → new.calls ≡ n.calls → Halts (act c (run_of d) a) why → StopsWithin c d (a ∷ []) why (slice_set d.nodes p new)
+stops-at c p d a why n new at same h = stops-still c d a why (slice_set d.nodes p new) (same-set (λ (n : NodeView). n.calls) d.nodes p n new at same) h
+
+-- memory was wanting, and no node was called
+pub stops-early : (c : ℕ) (d : DriverView) (all : List Act) → StopsWithin c d all halt.Memory d.nodes
+stops-early c d all = record { halts = tt; calls = within-none d.nodes d.nodes (λ q. calls_of_acts c (run_of d) q all) refl }
+
 -- ---- no act, and acts one after the other
 
 pub acted-none : (c : ℕ) (d : DriverView) → Stands c d → Acted c c d [] d
@@ -111,12 +128,24 @@ halts-behind : (c m : ℕ) (d e : DriverView) (xs ys : List Act) (why : Halt) �
 halts-behind c m d e xs ys why first h =
     halts-as (each c (run_of d) (xs ++ ys)) (each c (run_of e) ys) why (each-append c (run_of d) xs ys ∙ ap (λ (r : Result Run Stop). r >>= (λ n. each c n ys)) first.run) h
 
-pub halts-before : (c : ℕ) (run : Run) (xs ys : List Act) (why : Halt) → Halts (each c run xs) why → Halts (each c run (xs ++ ys)) why
-halts-before c run xs ys why h = halts-as (each c run (xs ++ ys)) (each c run xs >>= (λ m. each c m ys)) why (each-append c run xs ys) (halts-then (each c run xs) (λ m. each c m ys) why h)
+stops-behind : (c m : ℕ) (d e : DriverView) (xs ys : List Act) (why : Halt) (nodes : List NodeView) → Acted c m d xs e → StopsWithin c e ys why nodes → StopsWithin c d (xs ++ ys) why nodes
+stops-behind c m d e xs ys why nodes first stop = record {
+  halts = halts-behind c m d e xs ys why first stop.halts;
+  calls = λ q low.
+      part-behind (calls_at d.nodes q) (calls_at e.nodes q) (calls_at nodes q) (calls_of_acts c (run_of d) q xs) (calls_of_acts c (run_of e) q ys) (calls_of_acts c (run_of d) q (xs ++ ys))
+      (first.calls q low) (calls-append c (run_of d) (run_of e) q xs ys first.run) (stop.calls q (omega (arith, low, first.size)));
+}
+
+-- a stop within some acts is one within more
+pub stops-before : (c : ℕ) (d : DriverView) (xs ys : List Act) (why : Halt) (nodes : List NodeView) → StopsWithin c d xs why nodes → StopsWithin c d (xs ++ ys) why nodes
+stops-before c d xs ys why nodes stop = record {
+  halts = halts-as (each c (run_of d) (xs ++ ys)) (each c (run_of d) xs >>= (λ m. each c m ys)) why (each-append c (run_of d) xs ys) (halts-then (each c (run_of d) xs) (λ m. each c m ys) why stop.halts);
+  calls = λ q low. part-before (calls_at d.nodes q) (calls_at nodes q) (calls_of_acts c (run_of d) q xs) (calls_of_acts c (run_of d) q (xs ++ ys)) (calls-more c (run_of d) q xs ys) (stop.calls q low);
+}
 
 pub acts-then : {A : Type 0} (c m next : ℕ) (d e f : DriverView) (xs ys : List Act) (result : Result A Halt) → Acted c m d xs e → ActsSeen c next e ys result f → ActsSeen c next d (xs ++ ys) result f
 acts-then c m next d e f xs ys (Ok done) first second = acted-then c m next d e f xs ys first second
-acts-then c m next d e f xs ys (Err why) first second = halts-behind c m d e xs ys why first second
+acts-then c m next d e f xs ys (Err why) first second = stops-behind c m d e xs ys why f.nodes first second
 
 -- ---- acts along a list of nodes
 
@@ -158,13 +187,13 @@ module _ (acts : List ℕ → List Act) (parts : (xs ys : List ℕ) → acts (xs
       (acted-then c c c d e f (acts (take p (range_with_len 0 n))) (acts (p ∷ [])) first second)
 
   -- the next node stopped the run
-  pub done-halts : (p : ℕ) (e : DriverView) (why : Halt) → p < n → AreDone acts c n d p e → Halts (each c (run_of e) (acts (p ∷ []))) why → Halts (each c (run_of d) (acts (range_with_len 0 n))) why
-  done-halts p e why within first h =
+  pub done-stops : (p : ℕ) (e : DriverView) (why : Halt) (nodes : List NodeView) → p < n → AreDone acts c n d p e → StopsWithin c e (acts (p ∷ [])) why nodes → StopsWithin c d (acts (range_with_len 0 n)) why nodes
+  done-stops p e why nodes within first stop =
       let rest = drop (p + 1) (range_with_len 0 n) in
       let all : acts (range_with_len 0 n) ≡ acts (take p (range_with_len 0 n)) ++ (acts (p ∷ []) ++ acts rest) =
       ap acts (split (range_with_len 0 n) p ∙ ap (λ (ks : List ℕ). take p (range_with_len 0 n) ++ ks) (next-range n p within)) ∙ parts (take p (range_with_len 0 n)) (p ∷ rest) ∙ ap (λ (more : List Act). acts (take p (range_with_len 0 n)) ++ more) (parts (p ∷ []) rest) in
-      halts-as (each c (run_of d) (acts (range_with_len 0 n))) _ why (ap (each c (run_of d)) all)
-      (halts-behind c c d e (acts (take p (range_with_len 0 n))) (acts (p ∷ []) ++ acts rest) why first (halts-before c (run_of e) (acts (p ∷ [])) (acts rest) why h))
+      subst (λ (done : List Act). StopsWithin c d done why nodes) (sym all)
+      (stops-behind c c d e (acts (take p (range_with_len 0 n))) (acts (p ∷ []) ++ acts rest) why nodes first (stops-before c e (acts (p ∷ [])) (acts rest) why nodes stop))
 
   -- all were done
   pub done-all : (p : ℕ) (e : DriverView) → n ≤ p → AreDone acts c n d p e → Acted c c d (acts (range_with_len 0 n)) e

@@ -1,6 +1,7 @@
 -- Laws of the calls of a run's nodes, and of how many reads they opened.
-use Rattle.std.proofs.Common.{zero, suc, ◌⊎◌, inl, inr, refl, sym, ap, subst, ◌∙◌, arith}
-use Rattle.std.specs.Prelude.{◌≡◌, ◌≢◌, ℕ, ◌+◌, ◌<◌, ◌==◌, Bool, if◌then◌else◌, List, [], ◌∷◌, ◌++◌, map, length, replicate, slice_get, slice_set, slice_index_or, Some, Result, Ok}
+use Rattle.std.proofs.Common.{zero, suc, ◌⊎◌, inl, inr, refl, sym, ap, subst, ◌∙◌, arith, take, drop}
+use Rattle.std.specs.Prelude.{◌≡◌, ◌≢◌, ℕ, ◌+◌, ◌<◌, ◌==◌, Bool, if◌then◌else◌, List, [], ◌∷◌, ◌++◌, map, length, replicate, slice_get, slice_set, slice_index_or, Some, Result, Ok, Err}
+use Rattle.std.proofs.lemmas.List.{length-map}
 use Rattle.std.proofs.lemmas.Bool.{eq-eqb, ne_eqb}
 use Rattle.std.proofs.lemmas.Option.{slice_get_within}
 use Rattle.model_states.specs.Update.{Op}
@@ -14,7 +15,7 @@ use Rattle.model_runs.specs.Calls.{fed, call_of, when_done, calls_of_acts}
 use Rattle.model_runs.proofs.MatchLaws.{append-nothing, append-again}
 use Rattle.lasp_drive.specs.Node.{NodeView}
 use Rattle.lasp_drive.specs.Nodes.{calls_of}
-use Rattle.lasp_drive.specs.Calls.{calls_at, GoOnByCalls}
+use Rattle.lasp_drive.specs.Calls.{calls_at, GoOnByCalls, IsPart, GotFirst, GoesOnWithin}
 use Rattle.lasp_drive.specs.Reads.{Reads, no_reads}
 use Rattle.lasp_drive.specs.Waiting.{opened_counts, opened_by, GoOnByReads}
 use Rattle.lasp_drive.proofs.NodeLaws.{mapped-or}
@@ -85,6 +86,64 @@ pub calls-one : (old new : List NodeView) (c : ℕ) (run next : Run) (a : Act) �
 calls-one old new c run next a done went q low =
     went q low ∙ ap (λ (h : List Entry). calls_at old q ++ h)
     (sym (append-nothing (call_of run q a)) ∙ ap (λ (r : Result Run Stop). call_of run q a ++ when_done r (λ n. calls_of_acts c n q [])) (sym done))
+
+-- ---- the first of some calls
+
+-- none of them
+pub none-of : (h more : List Entry) → GotFirst h h more
+none-of h more = record { rest = more; part = record { first = []; is = sym (append-nothing h); part = refl } }
+
+pub within-none : (old new : List NodeView) (more : ℕ → List Entry) → calls_of new ≡ calls_of old → GoesOnWithin old new more
+within-none old new more same p low = subst (λ (h : List Entry). GotFirst (calls_at old p) h (more p)) (sym (ap (λ (hs : List (List Entry)). slice_index_or hs p []) same)) (none-of (calls_at old p) (more p))
+
+-- the nodes below a number were called alike, and no other
+pub within-each : (old new : List NodeView) (p : ℕ) (e : Entry) → calls_of new ≡ map (λ h. h ++ e ∷ []) (take p (calls_of old)) ++ drop p (calls_of old) → GoesOnWithin old new (λ q. e ∷ [])
+within-each old new p e same q low =
+    subst (λ (h : List Entry). GotFirst (calls_at old q) h (e ∷ [])) (sym (ap (λ (hs : List (List Entry)). slice_index_or hs q []) same)) (here (calls_of old) p q (omega (arith, low, length-map old (λ (n : NodeView). n.calls))))
+  where
+    here : (hs : List (List Entry)) (p q : ℕ) → q < length hs → GotFirst (slice_index_or hs q []) (slice_index_or (map (λ h. h ++ e ∷ []) (take p hs) ++ drop p hs) q []) (e ∷ [])
+    here [] p q low = absurd (omega (arith, low))
+    here (h ∷ hs) zero q low = none-of (slice_index_or (h ∷ hs) q []) (e ∷ [])
+    here (h ∷ hs) (suc p) zero low = record { rest = []; part = record { first = e ∷ []; is = refl; part = refl } }
+    here (h ∷ hs) (suc p) (suc q) low = here hs p q (omega (arith, low))
+
+-- the calls of acts are the first of those of more acts
+pub record HasMore (some all : List Entry) : Type 0 where
+  pub tail : List Entry
+  pub is : all ≡ some ++ tail
+
+pub calls-more : (c : ℕ) (run : Run) (q : ℕ) (xs ys : List Act) → HasMore (calls_of_acts c run q xs) (calls_of_acts c run q (xs ++ ys))
+calls-more c run q [] ys = record { tail = calls_of_acts c run q ys; is = refl }
+calls-more c run q (a ∷ xs) ys = behind (act c run a) (λ n. calls-more c n q xs ys) where
+  behind : (r : Result Run Stop) → ((n : Run) → HasMore (calls_of_acts c n q xs) (calls_of_acts c n q (xs ++ ys)))
+      → HasMore (call_of run q a ++ when_done r (λ n. calls_of_acts c n q xs)) (call_of run q a ++ when_done r (λ n. calls_of_acts c n q (xs ++ ys)))
+  behind (Ok n) more = record {
+    tail = (more n).tail;
+    is = ap (λ (h : List Entry). call_of run q a ++ h) (more n).is ∙ sym (append-again (call_of run q a) (calls_of_acts c n q xs) (more n).tail);
+  }
+  behind (Err stop) more = record { tail = []; is = sym (append-nothing (call_of run q a ++ [])) }
+
+-- the first of some calls are the first of more
+pub part-before : (old new some all : List Entry) → HasMore some all → GotFirst old new some → GotFirst old new all
+part-before old new some all more got = record {
+  rest = got.rest ++ more.tail;
+  part = record {
+    first = got.part.first;
+    is = got.part.is;
+    part = sym (append-again got.part.first got.rest more.tail) ∙ ap (λ (h : List Entry). h ++ more.tail) got.part.part ∙ sym more.is;
+  };
+}
+
+-- some calls, and the first of those behind them
+pub part-behind : (old mid new some more all : List Entry) → mid ≡ old ++ some → all ≡ some ++ more → GotFirst mid new more → GotFirst old new all
+part-behind old mid new some more all first both got = record {
+  rest = got.rest;
+  part = record {
+    first = some ++ got.part.first;
+    is = got.part.is ∙ ap (λ (h : List Entry). h ++ got.part.first) first ∙ append-again old some got.part.first;
+    part = append-again some got.part.first got.rest ∙ ap (λ (h : List Entry). some ++ h) got.part.part ∙ sym both;
+  };
+}
 
 -- ---- how many reads were opened
 

@@ -5,3 +5,4 @@ pub mod CallLaws
 pub mod ActLaws
 pub mod StepLaws
 pub mod PlayLaws
+pub mod StretchLaws

@@ -69,6 +69,10 @@ seen-high view nodes p low = omega (arith, low, length-map nodes view)
 pub seen-set : {N V : Type 0} (view : N → V) (nodes : List N) (p : ℕ) (new : N) (P : List V → Type 0) → P (slice_set (map view nodes) p (view new)) → P (map view (slice_set nodes p new))
 seen-set view nodes p new P holds = subst P (sym (map-set view nodes p new)) holds
 
+-- a node that is where it was leaves all where they were
+pub same-place : {N P : Type 0} (place : N → P) (nodes : List N) (p : ℕ) (n new : N) → p < length nodes → n ≡ get_or nodes p n → place new ≡ place n → map place (slice_set nodes p new) ≡ map place nodes
+same-place place nodes p n new within found same = same-set place nodes p n new (slice_get_read nodes (length nodes) p n refl within found) same
+
 -- ---- nodes of one run
 
 -- the nodes after a call of one of them

@@ -20,15 +20,16 @@ use Rattle.model_journal.specs.Entry.{Entry}
 use Rattle.model_runs.specs.Calls.{when_done, calls_of_acts, calls}
 use Rattle.model_runs.proofs.MatchLaws.{append-nothing, append-again}
 use Rattle.lasp_drive.specs.Node.{NodeView, AreSettled}
-use Rattle.lasp_drive.specs.Calls.{calls_at, GoOnByCalls}
+use Rattle.lasp_drive.specs.Calls.{calls_at, IsPart, GoOnByCalls}
 use Rattle.lasp_drive.specs.Waiting.{opened_by, GoOnByReads}
 use Rattle.lasp_drive.specs.Driver.{DriverView, run_of, stage_of, Stands, Starts}
-use Rattle.lasp_drive.specs.Acts.{Halts, all_staged, all_asks, Acted, ActsSeen}
-use Rattle.lasp_drive.specs.Play.{asked, all_asked, stages_after, MayPlay, Played, PlaysSeen}
+use Rattle.lasp_drive.specs.Acts.{Halts, all_staged, all_asks, Acted, ActsSeen, StopsWithin}
+use Rattle.lasp_drive.specs.Stretch.{GoesOn, MayGoOn}
+use Rattle.lasp_drive.specs.Play.{asked, all_asked, stages_after, MayPlay, Played, PlaysSeen, StopsAmong}
 use Rattle.lasp_drive.specs.Run.{IsRunnable, Ends}
 use Rattle.lasp_drive.specs.declared.halt.Halt.{Halt}
 use Rattle.lasp_drive.proofs.ActLaws.{acts-later, halts-as, halts-then, takes_of, posted-stage, all-taken-stage, staged-append, asks-append}
-use Rattle.lasp_drive.proofs.CallLaws.{no_calls, called-alone, opened-alone}
+use Rattle.lasp_drive.proofs.CallLaws.{no_calls, called-alone, opened-alone, part-before, part-behind}
 
 pub drop-at : {X : Type 0} (xs : List X) (i : ℕ) (x : X) → slice_get xs i ≡ Some x → drop i xs ≡ x ∷ drop (i + 1) xs
 drop-at xs i x e = drop_more xs i x (slice_get_within xs i x e) ∙ ap (λ y. y ∷ drop (i + 1) xs) (get_or_from_slice_get xs i x x e)
@@ -179,42 +180,72 @@ steps-sync c n d e result size done =
 
 -- ---- the commands of a script
 
--- commands were done up to one, and these are left
-pub record IsUnderWay (c : ℕ) (old now : DriverView) (left all : List Command) : Type 0 where
-  pub ready : Stands c now
-  pub size : length now.nodes ≡ length old.nodes
-  pub stage : stages_after (length old.nodes) (stage_of now) left ≡ stages_after (length old.nodes) (stage_of old) all
-  pub run : play c (run_of now) left ≡ play 1 (run_of old) all
-  pub calls : (p : ℕ) → p < length old.nodes → calls_at now.nodes p ++ calls c (run_of now) p left ≡ calls_at old.nodes p ++ calls 1 (run_of old) p all
-  pub opened : (p : ℕ) → p < length old.nodes → opened_by now.nodes p + all_asked p left ≡ opened_by old.nodes p + all_asked p all
-
-pub way-begins : (d : DriverView) (all : List Command) → Stands 1 d → IsUnderWay 1 d d all all
-way-begins d all ready = record { ready = ready; size = refl; stage = refl; run = refl; calls = λ p low. refl; opened = λ p low. refl }
+pub way-begins : (b : ℕ) (d : DriverView) (all : List Command) → Stands b d → GoesOn b b d d all all
+way-begins b d all ready = record { ready = ready; size = refl; stage = refl; run = refl; calls = λ p low. record { first = []; is = sym (append-nothing (calls_at d.nodes p)); part = refl }; opened = λ p low. refl }
 
 -- the next command was done
-pub way-next : (c : ℕ) (old now next : DriverView) (k : Command) (left all : List Command) → IsUnderWay c old now (k ∷ left) all → Acted c (c + 1) now (acts (run_of now) k) next → IsUnderWay (c + 1) old next left all
+pub way-next : (b c : ℕ) (old now next : DriverView) (k : Command) (left all : List Command) → GoesOn b c old now all (k ∷ left) → Acted c (c + 1) now (acts (run_of now) k) next → GoesOn b (c + 1) old next all left
 unfolding play calls
-way-next c old now next k left all way done = record {
+way-next b c old now next k left all way done = record {
   ready = done.ready;
   size = done.size ∙ way.size;
   stage = ap (λ (s : Stage). stages_after (length old.nodes) s left) (done.stage ∙ command-stage (length old.nodes) (stage_of now) (run_of now) k (length-map now.nodes (λ (n : NodeView). n.peer) ∙ way.size)) ∙ way.stage;
   run = sym (ap (λ (r : Result Run Stop). r >>= (λ n. play (c + 1) n left)) done.run) ∙ way.run;
   calls = λ p low.
-      ap (λ (h : List Entry). h ++ calls (c + 1) (run_of next) p left) (done.calls p (omega (arith, low, way.size)))
-      ∙ append-again (calls_at now.nodes p) (calls_of_acts c (run_of now) p (acts (run_of now) k)) (calls (c + 1) (run_of next) p left)
-      ∙ ap (λ (r : Result Run Stop). calls_at now.nodes p ++ (calls_of_acts c (run_of now) p (acts (run_of now) k) ++ when_done r (λ n. calls (c + 1) n p left))) (sym done.run)
-      ∙ way.calls p low;
+      let part = way.calls p low in
+      let here = calls_of_acts c (run_of now) p (acts (run_of now) k) in
+      record {
+        first = part.first ++ here;
+        is = done.calls p (omega (arith, low, way.size)) ∙ ap (λ (h : List Entry). h ++ here) part.is ∙ append-again (calls_at old.nodes p) part.first here;
+        part = append-again part.first here (calls (c + 1) (run_of next) p left)
+            ∙ ap (λ (r : Result Run Stop). part.first ++ (here ++ when_done r (λ n. calls (c + 1) n p left))) (sym done.run)
+            ∙ part.part;
+      };
   opened = λ p low. omega (arith, done.opened p (omega (arith, low, way.size)), way.opened p low, command-asks p (run_of now) k);
 }
 
 -- the next command stopped the run
-pub way-halts : (c : ℕ) (old now : DriverView) (k : Command) (left all : List Command) (why : Halt) → IsUnderWay c old now (k ∷ left) all → Halts (each c (run_of now) (acts (run_of now) k)) why → Halts (play 1 (run_of old) all) why
-unfolding play
-way-halts c old now k left all why way h =
-    halts-as (play 1 (run_of old) all) (step c (run_of now) k >>= (λ n. play (c + 1) n left)) why (sym way.run) (halts-then (step c (run_of now) k) (λ n. play (c + 1) n left) why h)
+pub way-stops : (b c : ℕ) (old now : DriverView) (k : Command) (left all : List Command) (why : Halt) (nodes : List NodeView) → GoesOn b c old now all (k ∷ left) → StopsWithin c now (acts (run_of now) k) why nodes → StopsAmong b old all why nodes
+unfolding play calls
+way-stops b c old now k left all why nodes way stop = record {
+  halts = halts-as (play b (run_of old) all) (step c (run_of now) k >>= (λ n. play (c + 1) n left)) why (sym way.run) (halts-then (step c (run_of now) k) (λ n. play (c + 1) n left) why stop.halts);
+  calls = λ p low.
+      let part = way.calls p low in
+      let here = calls_of_acts c (run_of now) p (acts (run_of now) k) in
+      let behind = when_done (step c (run_of now) k) (λ n. calls (c + 1) n p left) in
+      part-behind (calls_at old.nodes p) (calls_at now.nodes p) (calls_at nodes p) part.first (here ++ behind) (calls b (run_of old) p all) part.is (sym part.part)
+      (part-before (calls_at now.nodes p) (calls_at nodes p) here (here ++ behind) (record { tail = behind; is = refl }) (stop.calls p (omega (arith, low, way.size))));
+}
+
+-- some commands were done, and then others of those that were left
+pub way-then : (b c e : ℕ) (old mid new : DriverView) (all left rest : List Command) → GoesOn b c old mid all left → GoesOn c e mid new left rest → GoesOn b e old new all rest
+way-then b c e old mid new all left rest first second = record {
+  ready = second.ready;
+  size = second.size ∙ first.size;
+  stage = ap (λ (many : ℕ). stages_after many (stage_of new) rest) (sym first.size) ∙ second.stage ∙ ap (λ (many : ℕ). stages_after many (stage_of mid) left) first.size ∙ first.stage;
+  run = second.run ∙ first.run;
+  calls = λ p low.
+      let one = first.calls p low in
+      let two = second.calls p (omega (arith, low, first.size)) in
+      record {
+        first = one.first ++ two.first;
+        is = two.is ∙ ap (λ (h : List Entry). h ++ two.first) one.is ∙ append-again (calls_at old.nodes p) one.first two.first;
+        part = append-again one.first two.first (calls e (run_of new) p rest) ∙ ap (λ (h : List Entry). one.first ++ h) two.part ∙ one.part;
+      };
+  opened = λ p low. omega (arith, second.opened p (omega (arith, low, first.size)), first.opened p low);
+}
+
+-- the run stopped among those that were left
+pub way-halts : (b c : ℕ) (old mid : DriverView) (all left : List Command) (why : Halt) (nodes : List NodeView) → GoesOn b c old mid all left → StopsAmong c mid left why nodes → StopsAmong b old all why nodes
+way-halts b c old mid all left why nodes first stop = record {
+  halts = halts-as (play b (run_of old) all) (play c (run_of mid) left) why (sym first.run) stop.halts;
+  calls = λ p low.
+      let one = first.calls p low in
+      part-behind (calls_at old.nodes p) (calls_at mid.nodes p) (calls_at nodes p) one.first (calls c (run_of mid) p left) (calls b (run_of old) p all) one.is (sym one.part) (stop.calls p (omega (arith, low, first.size)));
+}
 
 -- none is left: the end of a script is a point
-pub way-ends : {A : Type 0} (c : ℕ) (old now new : DriverView) (all : List Command) (result : Result A Halt) → c ≤ 100000 → IsUnderWay c old now [] all → ActsSeen c c now (Point ∷ []) result new → OnOk result (AreSettled new.nodes) → PlaysSeen old all result new
+pub way-ends : {A : Type 0} (c : ℕ) (old now new : DriverView) (all : List Command) (result : Result A Halt) → c ≤ 100000 → GoesOn 1 c old now all [] → ActsSeen c c now (Point ∷ []) result new → OnOk result (AreSettled new.nodes) → PlaysSeen old all result new
 unfolding play calls
 way-ends c old now new all (Ok done) few way point settled = record {
   last = c;
@@ -224,7 +255,10 @@ way-ends c old now new all (Ok done) few way point settled = record {
   settled = settled;
   stage = point.stage ∙ way.stage;
   run = sym way.run ∙ sym (one-point (act c (run_of now) Point)) ∙ point.run;
-  calls = λ p low. point.calls p (omega (arith, low, way.size)) ∙ ap (λ (h : List Entry). calls_at now.nodes p ++ h) (none-called (act c (run_of now) Point)) ∙ way.calls p low;
+  calls = λ p low.
+      let part = way.calls p low in
+      point.calls p (omega (arith, low, way.size)) ∙ ap (λ (h : List Entry). calls_at now.nodes p ++ h) (none-called (act c (run_of now) Point)) ∙ append-nothing (calls_at now.nodes p)
+      ∙ part.is ∙ ap (λ (h : List Entry). calls_at old.nodes p ++ h) (sym (append-nothing part.first) ∙ part.part);
   opened = λ p low. omega (arith, point.opened p (omega (arith, low, way.size)), way.opened p low);
 } where
   one-point : (r : Result Run Stop) → r >>= (λ n. each c n []) ≡ r
@@ -234,12 +268,21 @@ way-ends c old now new all (Ok done) few way point settled = record {
   none-called : (r : Result Run Stop) → when_done r (λ n. no_calls) ≡ no_calls
   none-called (Ok n) = refl
   none-called (Err e) = refl
-way-ends c old now new all (Err why) few way point settled =
-    halts-as (play 1 (run_of old) all) (each c (run_of now) (Point ∷ [])) why (sym way.run ∙ sym (one-point (act c (run_of now) Point))) point
-  where
-    one-point : (r : Result Run Stop) → r >>= (λ n. each c n []) ≡ r
-    one-point (Ok n) = refl
-    one-point (Err e) = refl
+way-ends c old now new all (Err why) few way point settled = record {
+  halts = halts-as (play 1 (run_of old) all) (each c (run_of now) (Point ∷ [])) why (sym way.run ∙ sym (one-point (act c (run_of now) Point))) point.halts;
+  calls = λ p low.
+      let part = way.calls p low in
+      let here = calls_of_acts c (run_of now) p (Point ∷ []) in
+      part-behind (calls_at old.nodes p) (calls_at now.nodes p) (calls_at new.nodes p) part.first here (calls 1 (run_of old) p all) part.is
+      (sym part.part ∙ ap (λ (h : List Entry). part.first ++ h) (sym (none-called (act c (run_of now) Point)))) (point.calls p (omega (arith, low, way.size)));
+} where
+  one-point : (r : Result Run Stop) → r >>= (λ n. each c n []) ≡ r
+  one-point (Ok n) = refl
+  one-point (Err e) = refl
+
+  none-called : (r : Result Run Stop) → when_done r (λ n. no_calls) ≡ no_calls
+  none-called (Ok n) = refl
+  none-called (Err e) = refl
 
 -- a command that is done leaves its graph
 pub graph-next : (c many : ℕ) (now next : DriverView) (k : Command) → length now.nodes ≡ many → Acted c (c + 1) now (acts (run_of now) k) next → next.graph ≡ grown_by now.graph k
@@ -248,6 +291,29 @@ graph-next c many now next k size done =
 
 pub stage-next : (c many : ℕ) (now next : DriverView) (k : Command) → length now.nodes ≡ many → Acted c (c + 1) now (acts (run_of now) k) next → stage_of next ≡ stage_after many (stage_of now) k
 stage-next c many now next k size done = done.stage ∙ command-stage many (stage_of now) (run_of now) k (length-map now.nodes (λ (n : NodeView). n.peer) ∙ size)
+
+-- what is left once the next command was done may be done
+pub may-next : (lib : Library) (c : ℕ) (now next : DriverView) (k : Command) (left : List Command) → MayGoOn lib c now (k ∷ left) → Acted c (c + 1) now (acts (run_of now) k) next → MayGoOn lib (c + 1) next left
+may-next lib c now next k left may done =
+    let graph = graph-next c (length now.nodes) now next k refl done in
+    record {
+      ready = done.ready;
+      lawful = subst (λ (many : ℕ). AreLawful many (stage_of next) left) (sym done.size)
+          (subst (λ (s : Stage). AreLawful (length now.nodes) s left) (sym (stage-next c (length now.nodes) now next k refl done)) may.lawful.1);
+      few = omega (arith, may.few);
+      graph = subst (λ (h : List Decl). IsGraph (grown h left)) (sym graph) may.graph;
+      fits = subst (λ (h : List Decl). FitsAll lib (grown h left)) (sym graph) may.fits;
+    }
+
+-- the first stretch of a script
+pub may-begin : (lib : Library) (d : DriverView) (all : List Command) → MayPlay lib d all → MayGoOn lib 1 d all
+may-begin lib d all may = record {
+  ready = may.ready;
+  lawful = subst (λ (s : Stage). AreLawful (length d.nodes) s all) (sym may.stage) may.lawful;
+  few = omega (arith, may.few);
+  graph = may.graph;
+  fits = may.fits;
+}
 
 -- ---- a whole script
 

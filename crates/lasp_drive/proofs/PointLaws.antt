@@ -1,6 +1,6 @@
 -- Laws of points and declarations: what the nodes of a run do and show.
 use Rattle.std.proofs.Common.{zero, suc, refl, sym, ap, subst, ◌∙◌, arith, get_or, drop, take}
-use Rattle.std.specs.Prelude.{◌≡◌, ℕ, ◌+◌, ◌<◌, ◌≤◌, List, [], ◌∷◌, ◌++◌, map, length, Option, Some, None, slice_get, slice_set, replicate, Ok, Err}
+use Rattle.std.specs.Prelude.{◌≡◌, ℕ, ◌+◌, ◌<◌, ◌≤◌, List, [], ◌∷◌, ◌++◌, map, length, Option, Some, None, slice_get, slice_set, replicate, Result, Ok, Err, OnErr}
 use Rattle.std.proofs.lemmas.List.{map-append, map-set, length-map, length-set, drop_more}
 use Rattle.std.proofs.lemmas.Option.{slice_get_within, get_or_from_slice_get}
 use Rattle.model_functions.specs.Library.{Library}
@@ -14,11 +14,13 @@ use Rattle.model_runs.specs.Calls.{fed}
 use Rattle.model_runs.specs.Held.{IsHeld}
 use Rattle.lasp_drive.specs.Node.{NodeView, Settles, IsNode, IsSettled, AreNodes, AreSettled, IsFresh, AreFresh, Grew, HoldsLittle, OnlyGrew, Extends, ShowsNoMore}
 use Rattle.lasp_drive.specs.Nodes.{peers_of, calls_of, KeepReads, MaySettle, AllSettled, AllExtend}
+use Rattle.lasp_drive.specs.Calls.{GoesOnWithin}
 use Rattle.lasp_drive.specs.Reads.{Reads, no_reads, releases}
 use Rattle.lasp_drive.specs.declared.node.NodeStop.{NodeStop}
 use Rattle.lasp_drive.specs.declared.node.NodeStop.TheVariants as node
 use Rattle.lasp_drive.proofs.NodeLaws.{at-set, mapped-at, same-set, nodes-set, node-stays, held-here}
 use Rattle.lasp_drive.proofs.WaitLaws.{all-called}
+use Rattle.lasp_drive.proofs.CallLaws.{within-each}
 
 -- the nodes below a number are settled
 abbrev pub AreSettledBelow : ℕ → List NodeView → Type 0
@@ -192,6 +194,10 @@ settling-next c p g old now n new so_far at grew settled few =
 pub settling-stops : (c p : ℕ) (g : List Decl) (old now : List NodeView) (n : NodeView) (x : ℕ) → IsSettling c p g old now → slice_get now p ≡ Some n → first_large 0 (shown_at n.decls n.peer) ≡ Some x → (run : Run) → run.graph ≡ g → point_from c 0 (peers_of old) run ≡ Err (TooLarge c p x)
 settling-stops c p g old now n x so_far at large run graph = sym (so_far.rest run graph) ∙ point-stops run c p now n x at ((so_far.nodes_are p n at).graph ∙ sym graph) large
 
+-- a node that stopped took in nothing
+pub settling-called : (c p : ℕ) (g : List Decl) (old now : List NodeView) (n new : NodeView) → IsSettling c p g old now → slice_get now p ≡ Some n → OnlyGrew n new → calls_of (slice_set now p new) ≡ calls_of old
+settling-called c p g old now n new so_far at grew = same-set (λ (n : NodeView). n.calls) now p n new at grew.calls ∙ so_far.calls
+
 pub settling-ends : (c p : ℕ) (g : List Decl) (old now : List NodeView) → length now ≤ p → IsSettling c p g old now → AllSettled g old now × ((run : Run) → run.graph ≡ g → point_from c 0 (peers_of old) run ≡ Ok run)
 settling-ends c p g old now past so_far = (
   record {
@@ -251,3 +257,13 @@ extending-ends p before g d old now past so_far = record {
   all-of f [] (suc p) past = refl
   all-of f (x ∷ xs) zero past = absurd (omega (arith, past))
   all-of {X} f (x ∷ xs) (suc p) past = ap (λ (ys : List X). f x ∷ ys) (all-of f xs p (omega (arith, past)))
+
+-- what holds anyway holds of an error
+pub on-stop : {A E P : Type 0} (r : Result A E) → P → OnErr r P
+on-stop (Ok a) p = tt
+on-stop (Err e) p = p
+
+-- memory was wanting at a node: those below it have gone on
+pub extending-stops : (p : ℕ) (before g : List Decl) (d : Decl) (old now : List NodeView) (n new : NodeView) → IsExtending p before g d old now → slice_get now p ≡ Some n → new ≡ n → GoesOnWithin old (slice_set now p new) (λ q. fed (model.Extend d) ∷ [])
+extending-stops p before g d old now n new so_far at same =
+    within-each old (slice_set now p new) p (fed (model.Extend d)) (same-set (λ (n : NodeView). n.calls) now p n new at (ap (λ (n : NodeView). n.calls) same) ∙ so_far.calls)

@@ -48,7 +48,7 @@ use Rattle.lasp_drive.specs.declared.driver.OpenRead.{OpenRead}
 use Rattle.lasp_drive.proofs.NodeLaws.{mapped-or, same-set, nodes-set, node-stays, peer-here, held-here, update-here, suits-here, room-here, var-here, suited-here, update-done, deliver-done, sent-here, with_peers}
 use Rattle.lasp_drive.proofs.WaitLaws.{all-later, all-called, all-looked, all-opened, all-fresh}
 use Rattle.lasp_drive.proofs.CallLaws.{calls-stay, calls-set, updated-there, updated-elsewhere, taken-there, taken-elsewhere, calls-each, counts-stay, one-opened}
-use Rattle.lasp_drive.proofs.ActLaws.{acted-one, halts-one}
+use Rattle.lasp_drive.proofs.ActLaws.{acted-one, stops-still}
 
 -- the driver with these nodes
 abbrev pub with_nodes : DriverView → List NodeView → DriverView
@@ -324,7 +324,7 @@ may-settle c lib d ready fits = record { few = ready.few; nodes_are = ready.node
 
 pub acts-point : {A : Type 0} (c : ℕ) (d : DriverView) (nodes : List NodeView) (result : Result A Halt) → Stands c d → SettlesAll c d.graph d.nodes result nodes → ActsSeen c c d (Point ∷ []) result (with_nodes d nodes)
 acts-point c d nodes (Ok done) ready all = acted-point c d nodes ready all.0 (all.1 (run_of d) refl)
-acts-point c d nodes (Err why) ready all = halts-one c (run_of d) Point why (all (run_of d) refl)
+acts-point c d nodes (Err why) ready all = stops-still c d Point why nodes all.1 (all.0 (run_of d) refl)
 
 pub settled-point : {A : Type 0} (c : ℕ) (g : List Decl) (old new : List NodeView) (result : Result A Halt) → SettlesAll c g old result new → OnOk result (AreSettled new)
 settled-point c g old new (Ok done) all = all.0.settled

@@ -15,7 +15,7 @@ use Rattle.model_runs.specs.Held.{IsUpdate}
 use Rattle.lasp_drive.specs.Node.{NodeView, AreSettled}
 use Rattle.lasp_drive.specs.Reads.{next_read}
 use Rattle.lasp_drive.specs.Waiting.{reads_at, GoOnByReads}
-use Rattle.lasp_drive.specs.Calls.{GoOnByCalls}
+use Rattle.lasp_drive.specs.Calls.{GoOnByCalls, GoesOnWithin}
 use Rattle.lasp_drive.specs.Driver.{DriverView, seen, run_of, stage_of, Stands}
 use Rattle.lasp_drive.specs.declared.halt.Halt.{Halt}
 use Rattle.lasp_drive.specs.declared.halt.Halt.TheVariants as halt
@@ -65,22 +65,30 @@ pub record Acted (c next : ℕ) (old : DriverView) (done : List Act) (new : Driv
   pub calls : GoOnByCalls old.nodes new.nodes (λ p. calls_of_acts c (run_of old) p done)
   pub opened : GoOnByReads old.nodes new.nodes (λ p. all_asks p done)
 
--- these acts were done, or the run stopped where the world stops, or memory was wanting
+-- the run stopped within acts of command number c where the world stops, or memory was wanting; each node has got the first of the calls that they make at it
+pub record StopsWithin (c : ℕ) (old : DriverView) (all : List Act) (why : Halt) (new : List NodeView) : Type 0 where
+  pub halts : Halts (each c (run_of old) all) why
+  pub calls : GoesOnWithin old.nodes new (λ p. calls_of_acts c (run_of old) p all)
+
+-- these acts were done, or the run stopped within them
 abbrev pub ActsSeen : {A : Type 0} → ℕ → ℕ → DriverView → List Act → Result A Halt → DriverView → Type 0
 ActsSeen c next old all (Ok done) new = Acted c next old all new
-ActsSeen c next old all (Err why) new = Halts (each c (run_of old) all) why
+ActsSeen c next old all (Err why) new = StopsWithin c old all why new.nodes
 
-abbrev pub Acts : {N R A : Type 0} → (N → NodeView) → (R → Read) → ℕ → ℕ → Driver N R → List Act → Result A Halt → Driver N R → Type 0
-Acts view read c next old all result new = ActsSeen c next (seen view read old) all result (seen view read new)
+-- the same, and each node is where it was
+pub record Acts {N R P A : Type 0} (view : N → NodeView) (read : R → Read) (place : N → P) (c next : ℕ) (old : Driver N R) (all : List Act) (result : Result A Halt) (new : Driver N R) : Type 0 where
+  pub acts : ActsSeen c next (seen view read old) all result (seen view read new)
+  pub in_place : map place new.nodes.items ≡ map place old.nodes.items
 
 -- the same of acts behind which the driver still stands before command number c, with the reads that it had
-pub record Passes {N R A : Type 0} (view : N → NodeView) (read : R → Read) (c : ℕ) (old : Driver N R) (all : List Act) (result : Result A Halt) (new : Driver N R) : Type 0 where
-  pub acts : Acts view read c c old all result new
+pub record Passes {N R P A : Type 0} (view : N → NodeView) (read : R → Read) (place : N → P) (c : ℕ) (old : Driver N R) (all : List Act) (result : Result A Halt) (new : Driver N R) : Type 0 where
+  pub acts : ActsSeen c c (seen view read old) all result (seen view read new)
   pub reads : OnOk result (new.reads ≡ old.reads)
+  pub in_place : map place new.nodes.items ≡ map place old.nodes.items
 
 -- the same of the acts of a command
-abbrev pub Steps : {N R A : Type 0} → (N → NodeView) → (R → Read) → ℕ → Driver N R → plain.Command → Result A Halt → Driver N R → Type 0
-Steps view read c old k result new = Acts view read c (c + 1) old (acts (run_of (seen view read old)) k) result new
+abbrev pub Steps : {N R P A : Type 0} → (N → NodeView) → (R → Read) → (N → P) → ℕ → Driver N R → plain.Command → Result A Halt → Driver N R → Type 0
+Steps view read place c old k result new = Acts view read place c (c + 1) old (acts (run_of (seen view read old)) k) result new
 
 -- ---- where acts may be done
 

@@ -7,6 +7,7 @@ pub mod Waiting
 pub mod Acts
 pub mod Nodes
 pub mod Play
+pub mod Stretch
 pub mod Run
 pub mod Prelude
 pub mod Report

@@ -42,10 +42,10 @@ pub record AllSettled (g : List Decl) (old new : List NodeView) : Type 0 where
   pub calls : calls_of new ≡ calls_of old
   pub reads : KeepReads old new
 
--- command number c settled every node, or the run stopped where the world's point stops, or memory was wanting
+-- command number c settled every node, or the run stopped where the world's point stops, or memory was wanting, and no node was called
 abbrev pub SettlesAll : {A : Type 0} → ℕ → List Decl → List NodeView → Result A Halt → List NodeView → Type 0
 SettlesAll c g old (Ok done) new = AllSettled g old new × ((run : Run) → run.graph ≡ g → point_from c 0 (peers_of old) run ≡ Ok run)
-SettlesAll c g old (Err why) new = (run : Run) → run.graph ≡ g → Halts (point_from c 0 (peers_of old) run) why
+SettlesAll c g old (Err why) new = ((run : Run) → run.graph ≡ g → Halts (point_from c 0 (peers_of old) run) why) × (calls_of new ≡ calls_of old)
 
 -- every node went on with one declaration more
 pub record AllExtend (g : List Decl) (d : Decl) (old new : List NodeView) : Type 0 where

@@ -10,7 +10,7 @@ use Rattle.model_core.specs.Core.{Read}
 use Rattle.model_runs.specs.Calls.{calls}
 use Rattle.lasp_drive.specs.Node.{NodeView, AreSettled}
 use Rattle.lasp_drive.specs.Waiting.{GoOnByReads}
-use Rattle.lasp_drive.specs.Calls.{GoOnByCalls}
+use Rattle.lasp_drive.specs.Calls.{GoOnByCalls, GoesOnWithin}
 use Rattle.lasp_drive.specs.Driver.{DriverView, seen, run_of, stage_of, Stands}
 use Rattle.lasp_drive.specs.Acts.{Halts}
 use Rattle.lasp_drive.specs.declared.halt.Halt.{Halt}
@@ -63,10 +63,17 @@ pub record Played (old : DriverView) (commands : List plain.Command) (new : Driv
   pub calls : GoOnByCalls old.nodes new.nodes (λ p. calls 1 (run_of old) p commands)
   pub opened : GoOnByReads old.nodes new.nodes (λ p. all_asked p commands)
 
--- the commands were done, or the run stopped where the world stops, or memory was wanting
+-- the run stopped among commands, the first of which has number b, where the world stops, or memory was wanting; each node has got the first of the calls that they make at it
+pub record StopsAmong (b : ℕ) (old : DriverView) (commands : List plain.Command) (why : Halt) (new : List NodeView) : Type 0 where
+  pub halts : Halts (play b (run_of old) commands) why
+  pub calls : GoesOnWithin old.nodes new (λ p. calls b (run_of old) p commands)
+
+-- the commands were done, or the run stopped among them
 abbrev pub PlaysSeen : {A : Type 0} → DriverView → List plain.Command → Result A Halt → DriverView → Type 0
 PlaysSeen old commands (Ok done) new = Played old commands new
-PlaysSeen old commands (Err why) new = Halts (play 1 (run_of old) commands) why
+PlaysSeen old commands (Err why) new = StopsAmong 1 old commands why new.nodes
 
-abbrev pub Plays : {N R A : Type 0} → (N → NodeView) → (R → Read) → Driver N R → List plain.Command → Result A Halt → Driver N R → Type 0
-Plays view read old commands result new = PlaysSeen (seen view read old) commands result (seen view read new)
+-- the same, and each node is where it was
+pub record Plays {N R P A : Type 0} (view : N → NodeView) (read : R → Read) (place : N → P) (old : Driver N R) (commands : List plain.Command) (result : Result A Halt) (new : Driver N R) : Type 0 where
+  pub played : PlaysSeen (seen view read old) commands result (seen view read new)
+  pub in_place : map place new.nodes.items ≡ map place old.nodes.items

@@ -9,6 +9,7 @@ pub use Rattle.model_readings.specs.Lawful.{IsGraph, IsNext, FitsAll}
 pub use Rattle.model_scripts.specs.Progress.{grown}
 pub use Rattle.model_world.specs.World.{Update, Keep, Post, Take, Point, Show, Open, Reach, Extend, takes, sync_acts, ended, shown_content_at}
 pub use Rattle.model_world.specs.Report.{known_lines, read_lines, report_of}
+pub use Rattle.model_runs.specs.Calls.{fed}
 pub use Rattle.lasp_value.specs.Value.{val_of}
 pub use Rattle.lasp_state.specs.State.{op_of, IsOpOf}
 pub use Rattle.lasp_graph.specs.Decl.{decl_of}
@@ -18,8 +19,10 @@ pub use Rattle.lasp_drive.specs.Node.{NodeView, with_reads, IsSettled, AreSettle
 pub use Rattle.lasp_drive.specs.Nodes.{peers_of, MaySettle, SettlesAll, AllExtend}
 pub use Rattle.lasp_drive.specs.Reads.{looks}
 pub use Rattle.lasp_drive.specs.Waiting.{OpensAt, LooksAt}
+pub use Rattle.lasp_drive.specs.Calls.{GoesOnWithin}
 pub use Rattle.lasp_drive.specs.Driver.{read_seen, seen, marked_of, opened_of, run_of, IsReady}
 pub use Rattle.lasp_drive.specs.Acts.{Acts, Passes, Steps, MayAct, MayStep, HasOpened, Reaches, UnlessMemory}
 pub use Rattle.lasp_drive.specs.Play.{IsUntilWithin, MayPlay, Plays}
+pub use Rattle.lasp_drive.specs.Stretch.{is_point, MayGoOn, Advances}
 pub use Rattle.lasp_drive.specs.Report.{MayPoll, AreOpened, OfTheirRun, exported}
 pub use Rattle.lasp_drive.specs.Run.{IsRunnable, RunsTo, Reports}

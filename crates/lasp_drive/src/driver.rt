@@ -1,11 +1,11 @@
 //! The driver: the nodes of a run, what they sent, marked and are to read, and the lines that were printed.
 
-ghost use Rattle.std.specs.Prelude.{◌≤◌, IfOk, map};
+ghost use Rattle.std.specs.Prelude.{◌≡◌, ◌≤◌, IfOk, length, map};
 ghost use Rattle.std.specs.Arc.{arc_value};
 ghost use Rattle.lasp_drive.specs.Node.{AreFresh};
 ghost use Rattle.lasp_drive.specs.Driver.{seen, Starts};
 
-use super::node::Node;
+use super::node::{FreshNode, Node};
 use lasp_gossip::Network;
 use lasp_graph::Graph;
 use lasp_state::State;
@@ -51,7 +51,11 @@ pub struct Driver<N: Node> {
 }
 
 /// So many nodes to which nothing has happened.
-fn fresh_nodes<N: Node>(alloc: Global, graph: &Arc<Graph>, nodes: u8) -> Result<Vec<N>, AllocError>
+fn fresh_nodes<N: FreshNode>(
+    alloc: Global,
+    graph: &Arc<Graph>,
+    nodes: u8,
+) -> Result<Vec<N>, AllocError>
     requires { nodes ≤ 8 }
     ensures { IfOk result (λ all. AreFresh (arc_value graph.now) nodes nodes (map N.view all.items)) }
 {
@@ -63,19 +67,41 @@ fn fresh_nodes<N: Node>(alloc: Global, graph: &Arc<Graph>, nodes: u8) -> Result<
 }
 
 impl<N: Node> Driver<N> {
+    /// A run of these nodes, 1 to 8, before its first command. It takes no memory.
+    pub fn of(alloc: Global, graph: Arc<Graph>, nodes: Vec<N>) -> Driver<N>
+        requires some { 1 ≤ length nodes.items }
+        requires few { length nodes.items ≤ 8 }
+        requires fresh { AreFresh (arc_value graph) (length nodes.items) (length nodes.items) (map N.view nodes.items) }
+        ensures starts { Starts (arc_value graph) (length nodes.items) (seen N.view N.read result) }
+        ensures same { result.nodes ≡ nodes }
+    {
+        Driver {
+            graph,
+            nodes,
+            network: Network::new(alloc, NETWORK_LIMIT),
+            marks: Vec::new(alloc),
+            reads: Vec::new(alloc),
+            text: String::new(alloc),
+        }
+    }
+
+    /// The nodes of a run, by their numbers. It takes no memory.
+    pub fn into_nodes(self) -> Vec<N>
+        ensures { result ≡ self.nodes }
+    {
+        let Driver { nodes, .. } = self;
+        nodes
+    }
+}
+
+impl<N: FreshNode> Driver<N> {
     /// A run of so many nodes, 1 to 8, before its first command.
     pub fn new(alloc: Global, graph: &Arc<Graph>, nodes: u8) -> Result<Driver<N>, AllocError>
         requires some { 1 ≤ nodes }
         requires few { nodes ≤ 8 }
         ensures { IfOk result (λ d. Starts (arc_value graph.now) nodes (seen N.view N.read d)) }
     {
-        Ok(Driver {
-            graph: Arc::try_clone(graph)?,
-            nodes: fresh_nodes(alloc, graph, nodes)?,
-            network: Network::new(alloc, NETWORK_LIMIT),
-            marks: Vec::new(alloc),
-            reads: Vec::new(alloc),
-            text: String::new(alloc),
-        })
+        let share = Arc::try_clone(graph)?;
+        Ok(Driver::of(alloc, share, fresh_nodes(alloc, graph, nodes)?))
     }
 }

@@ -42,14 +42,13 @@ pub trait Node: Drop + Sized {
     // what contracts see of a node
     ghost view: { Self → NodeView };
 
+    // where it is kept, which no call changes
+    ghost Place: { Type 0 };
+
+    ghost place: { Self → Place };
+
     // and of a read: its number, its variable, and the threshold that it waits for
     ghost read: { Self.Read → Read };
-
-    /// A node to which nothing has happened, of 8 at most.
-    fn new(alloc: Global, graph: &Arc<Graph>, replica: u8, nodes: u8) -> Result<Self, AllocError>
-        requires member { replica < nodes }
-        requires few { nodes ≤ 8 }
-        ensures { IfOk result (λ n. IsFresh (arc_value graph.now) nodes replica (view n)) };
 
     /// Recalls, at no cost, what always holds of a node.
     fn recall(&self)
@@ -59,7 +58,8 @@ pub trait Node: Drop + Sized {
     fn update(&mut self, alloc: Global, x: u8, op: &Op) -> Result<(), NodeStop>
         requires { MayUpdate (view self.old) x op.now }
         ensures done { Updates (updated (view self.old).number x (op_of op.now) (view self.old).peer) x result (view self.new).peer }
-        ensures takes { TakesIn (model.Update x (op_of op.now)) (view self.old) result (view self.new) };
+        ensures takes { TakesIn (model.Update x (op_of op.now)) (view self.old) result (view self.new) }
+        ensures place { place self.new ≡ place self.old };
 
     /// What a source holds, shared.
     fn source(&self, x: u8) -> &Arc<State>
@@ -78,13 +78,15 @@ pub trait Node: Drop + Sized {
         requires held { HoldsLittle (view self.old) }
         requires sent { IsSentTo (view self.old).among (view self.old).decls (arc_value m.now) }
         ensures done { Delivers (delivered (view self.old).decls (arc_value m.now) (view self.old).peer) result (view self.new).peer }
-        ensures takes { TakesIn (model.Deliver i (arc_value m.now)) (view self.old) result (view self.new) };
+        ensures takes { TakesIn (model.Deliver i (arc_value m.now)) (view self.old) result (view self.new) }
+        ensures place { place self.new ≡ place self.old };
 
     /// Goes on with a graph that has one declaration more, of which nothing has happened.
     fn extend(&mut self, alloc: Global, graph: &Arc<Graph>) -> Result<(), AllocError>
         requires { (d : Decl) × (arc_value graph.now ≡ (view self.old).decls ++ d ∷ []) }
         ensures ok { (d : Decl) → arc_value graph.now ≡ (view self.old).decls ++ d ∷ [] → OnOk result (Extends d (view self.old) (view self.new)) }
-        ensures err { OnErr result (view self.new ≡ view self.old) };
+        ensures err { OnErr result (view self.new ≡ view self.old) }
+        ensures place { place self.new ≡ place self.old };
 
     /// Brings every derived variable to what its process gives on the present sources.
     fn settle(&mut self, alloc: Global, lib: &Library) -> Result<(), NodeStop>
@@ -92,7 +94,8 @@ pub trait Node: Drop + Sized {
         requires fits { FitsAll (library_of lib.now) (view self.old).decls }
         ensures done { Settles (first_large 0 (shown_at (view self.old).decls (view self.old).peer)) result }
         ensures settled { OnOk result (IsSettled (view self.new)) }
-        ensures grew { OnlyGrew (view self.old) (view self.new) };
+        ensures grew { OnlyGrew (view self.old) (view self.new) }
+        ensures place { place self.new ≡ place self.old };
 
     /// The state of a variable of a settled node: what is shown of it.
     fn state(&self, x: u8) -> &State
@@ -110,7 +113,8 @@ pub trait Node: Drop + Sized {
         requires { MayRead (view self.old) x (threshold_of threshold) }
         ensures read { IfOk result (λ r. read r ≡ next_read (view self.old).reads x (threshold_of threshold)) }
         ensures ok { OnOk result (view self.new ≡ with_reads (view self.old) (opens_next (view self.old) x (threshold_of threshold))) }
-        ensures err { OnErr result (view self.new ≡ view self.old) };
+        ensures err { OnErr result (view self.new ≡ view self.old) }
+        ensures place { place self.new ≡ place self.old };
 
     /// The state of a read's variable, shared, where it is at the threshold.
     fn poll_read(&self, r: &Self::Read) -> Result<Option<Arc<State>>, AllocError>
@@ -120,9 +124,19 @@ pub trait Node: Drop + Sized {
 
     /// Closes a read: it waits no more.
     fn close_read(&mut self, r: &Self::Read)
-        ensures { view self.new ≡ with_reads (view self.old) (closes (read r.now).number (view self.old).reads) };
+        ensures closed { view self.new ≡ with_reads (view self.old) (closes (read r.now).number (view self.old).reads) }
+        ensures place { place self.new ≡ place self.old };
 
     /// How many updates of each replica it knows.
     fn counts(&self) -> &[u64]
         ensures { result.now ≡ (view self.now).peer.counts };
+}
+
+/// A node that needs nothing but its graph to begin with.
+pub trait FreshNode: Node {
+    /// A node to which nothing has happened, of 8 at most.
+    fn new(alloc: Global, graph: &Arc<Graph>, replica: u8, nodes: u8) -> Result<Self, AllocError>
+        requires member { replica < nodes }
+        requires few { nodes ≤ 8 }
+        ensures { IfOk result (λ n. IsFresh (arc_value graph.now) nodes replica (Self.view n)) };
 }

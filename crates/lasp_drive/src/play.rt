@@ -4,17 +4,19 @@ ghost use Rattle.std.specs.Prelude.{◌<◌, ◌∷◌, []};
 ghost use Rattle.lasp_drive.specs.Prelude.{arc_value, IsGraph, FitsAll, report_of, ended, grown, library_of, command_of, seen, MayStep, Steps, MayPlay, Plays, exported, IsRunnable, RunsTo, Reports};
 
 mod point;
+mod stretch;
 mod update;
 
 use crate::driver::Driver;
 use crate::halt::Halt;
-use crate::node::Node;
+use crate::node::{FreshNode, Node};
 use lasp_fns::Library;
 use lasp_graph::Graph;
 use lasp_script::{Command, Script};
 use lasp_state::Op;
 use std::alloc::Global;
 use std::sync::Arc;
+pub use stretch::{advance, is_point};
 
 impl<N: Node> Driver<N> {
     /// Does command number c.
@@ -22,7 +24,7 @@ impl<N: Node> Driver<N> {
         requires may { MayStep N.view N.read c self.old (command_of command.now) }
         requires graph { IsGraph (grown (arc_value self.old.graph) (command_of command.now ∷ [])) }
         requires fits { FitsAll (library_of lib.now) (arc_value self.old.graph) }
-        ensures { Steps N.view N.read c self.old (command_of command.now) result self.new }
+        ensures { Steps N.view N.read N.place c self.old (command_of command.now) result self.new }
     {
         match command {
             Command::Add(p, x, v) => self.add(alloc, c, *p, *x, v),
@@ -43,10 +45,10 @@ impl<N: Node> Driver<N> {
         }
     }
 
-    /// Does the commands of a script in order, and settles every node at the end.
-    fn play(&mut self, alloc: Global, lib: &Library, script: &Script) -> Result<(), Halt>
+    /// Does the commands of a script in order, and settles every node at the end. At that end each node has got exactly the calls that the script makes at it, behind those that it had.
+    pub fn run_through(&mut self, alloc: Global, lib: &Library, script: &Script) -> Result<(), Halt>
         requires { MayPlay (library_of lib.now) (seen N.view N.read self.old) script.now.commands }
-        ensures { Plays N.view N.read self.old script.now.commands result self.new }
+        ensures { Plays N.view N.read N.place self.old script.now.commands result self.new }
     {
         let mut c: u32 = 1;
         for i in 0..script.len() {
@@ -60,7 +62,7 @@ impl<N: Node> Driver<N> {
 }
 
 /// Runs a script against its graph on nodes of one engine. The driver stands at the end of the script, every node is settled, and each has got exactly the calls that the script makes at it, in their order.
-pub fn run_on<N: Node>(
+pub fn run_on<N: FreshNode>(
     alloc: Global,
     graph: &Arc<Graph>,
     lib: &Library,
@@ -70,14 +72,14 @@ pub fn run_on<N: Node>(
     ensures { RunsTo N.view N.read (arc_value graph.now) script.now result }
 {
     let mut driver: Driver<N> = Driver::new(alloc, graph, script.nodes())?;
-    match driver.play(alloc, lib, script) {
+    match driver.run_through(alloc, lib, script) {
         Ok(()) => Ok(driver),
         Err(halt) => Err(halt),
     }
 }
 
 /// Runs a script against its graph on nodes of one engine, and writes its report.
-pub fn drive_on<N: Node>(
+pub fn drive_on<N: FreshNode>(
     alloc: Global,
     graph: &Arc<Graph>,
     lib: &Library,
@@ -93,7 +95,7 @@ pub fn drive_on<N: Node>(
 }
 
 /// Runs a script against its graph on nodes of one engine, and gives the bytes of what a node would send at the end.
-pub fn export_on<N: Node>(
+pub fn export_on<N: FreshNode>(
     alloc: Global,
     graph: &Arc<Graph>,
     lib: &Library,

@@ -44,19 +44,14 @@ fn push_reads<N: Node>(
 
 impl<N: Node> Driver<N> {
     /// The report: the lines that were printed, what each node knows, and which reads came to their thresholds.
-    pub fn report(self) -> Result<Vec<u8>, AllocError>
-        requires ready { (c : ℕ) × IsReady N.view N.read c self }
-        requires settled { AreSettled (map N.view self.nodes.items) }
-        ensures { IfOk result (λ text. text.items ≡ report_of (run_of (seen N.view N.read self))) }
+    pub fn report(&self) -> Result<Vec<u8>, AllocError>
+        requires ready { (c : ℕ) × IsReady N.view N.read c self.now }
+        requires settled { AreSettled (map N.view self.now.nodes.items) }
+        ensures { IfOk result (λ text. text.items ≡ report_of (run_of (seen N.view N.read self.now))) }
     {
-        let Driver {
-            nodes,
-            reads,
-            mut text,
-            ..
-        } = self;
-        push_nodes(&mut text, &nodes)?;
-        push_reads(&mut text, &nodes, &reads)?;
+        let mut text = self.text.clone()?;
+        push_nodes(&mut text, &self.nodes)?;
+        push_reads(&mut text, &self.nodes, &self.reads)?;
         Ok(text.into_bytes())
     }
 

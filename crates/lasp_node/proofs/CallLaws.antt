@@ -1,6 +1,6 @@
 -- The calls and the reads that a node's core has after a call.
 use Rattle.std.proofs.Common.{ℕ, ◌≡◌, ◌+◌, Bool, true, false, cond, not, if◌then◌else◌, refl, sym, ap, subst, ◌∙◌}
-use Rattle.std.specs.Prelude.{List, [], ◌∷◌, ◌++◌, length, Result, Ok, Err, OnErr}
+use Rattle.std.specs.Prelude.{List, [], ◌∷◌, ◌++◌, length, Result, Ok, Err, OnOk, OnErr}
 use Rattle.std.specs.List.{AllByRecursion}
 use Rattle.model_graph.specs.Graph.{Decl}
 use Rattle.model_journal.specs.Entry.{Act, Entry, Extend, Frame, entry}
@@ -87,6 +87,13 @@ pub parked-unmet : (X : Frame) (h : List Entry) (rs : List Read) → AllByRecurs
 parked-unmet X h [] all = refl
 parked-unmet X h (r ∷ rs) all =
     ap (λ (more : List Read). r ∷ more) (parked-unmet X h rs all.1) ∙ sym (ap (λ (b : Bool). if not b then r ∷ unmet (vals X h) rs else unmet (vals X h) rs) all.0.unmet)
+
+-- ---- where it is
+
+-- an entry more, or none, leaves the frame
+pub frame-stays : {A E : Type 0} (r : Result A E) (old new next : Core) → next.frame ≡ old.frame → OnOk r (new ≡ next) → OnErr r (new ≡ old) → new.frame ≡ old.frame
+frame-stays (Ok a) old new next same is none = ap (λ (c : Core). c.frame) is ∙ same
+frame-stays (Err e) old new next same none is = ap (λ (c : Core). c.frame) is
 
 -- ---- a node after a call
 

@@ -2,6 +2,7 @@
 
 ghost use Rattle.std.specs.Prelude.{◌≡◌};
 ghost use Rattle.std.specs.Coded.{Coded-set, Π_prop, coded_ℕ};
+ghost use Rattle.model_journal.specs.Entry.{Frame};
 ghost use Rattle.lasp_core.specs.Reads.{read_of};
 ghost use Rattle.lasp_node.specs.Settling.{IsIdle};
 ghost use Rattle.lasp_node.specs.View.{node_of};
@@ -9,7 +10,7 @@ ghost use Rattle.lasp_node.specs.View.{node_of};
 use super::message::message_of;
 use super::settling::settle;
 use lasp_core::{Core, DeliverRefused, ReadNo, UpdateRefused};
-use lasp_drive::{Node, NodeStop};
+use lasp_drive::{FreshNode, Node, NodeStop};
 use lasp_fns::{Library, StepLib};
 use lasp_graph::Graph;
 use lasp_state::{Op, State, Threshold};
@@ -29,19 +30,11 @@ impl Node for CoreNode {
 
     ghost view = { λ n. node_of n.core };
 
-    ghost read = { read_of };
+    ghost Place = { Frame };
 
-    fn new(
-        alloc: Global,
-        graph: &Arc<Graph>,
-        replica: u8,
-        nodes: u8,
-    ) -> Result<CoreNode, AllocError> {
-        let share = Arc::try_clone(graph)?;
-        Ok(CoreNode {
-            core: Core::new(alloc, share, replica, nodes)?,
-        })
-    }
+    ghost place = { λ n. n.core.frame };
+
+    ghost read = { read_of };
 
     fn recall(&self) {
         self.core.recall();
@@ -121,5 +114,19 @@ impl Node for CoreNode {
 
     fn counts(&self) -> &[u64] {
         self.core.counts().as_slice()
+    }
+}
+
+impl FreshNode for CoreNode {
+    fn new(
+        alloc: Global,
+        graph: &Arc<Graph>,
+        replica: u8,
+        nodes: u8,
+    ) -> Result<CoreNode, AllocError> {
+        let share = Arc::try_clone(graph)?;
+        Ok(CoreNode {
+            core: Core::new(alloc, share, replica, nodes)?,
+        })
     }
 }

@@ -18,7 +18,7 @@ mod text;
 use crate::merge::join::{join_first, join_next};
 use crate::merge::text::merged_text;
 use crate::open::{open_shared, read_file};
-use lasp_drive::Node;
+use lasp_drive::{FreshNode, Node};
 use lasp_edge::Files;
 use lasp_fns::Library;
 use lasp_graph::Graph;
@@ -27,7 +27,7 @@ use std::alloc::Global;
 use std::sync::Arc;
 
 /// A node with the message of the first file.
-fn merge_first<N: Node, F: Files>(
+fn merge_first<N: FreshNode, F: Files>(
     alloc: Global,
     words: &[String],
     graph: &Arc<Graph>,
@@ -117,7 +117,7 @@ fn merge_more<N: Node, F: Files>(
 }
 
 /// The same, once the graph is read.
-fn merge_files<N: Node, F: Files>(
+fn merge_files<N: FreshNode, F: Files>(
     alloc: Global,
     words: &[String],
     graph: &Arc<Graph>,
@@ -138,7 +138,7 @@ fn merge_files<N: Node, F: Files>(
 }
 
 /// `merge`: reads the graph, joins the messages of the files, and tells what the variables show of all of them.
-pub fn run_merge<N: Node, F: Files>(
+pub fn run_merge<N: FreshNode, F: Files>(
     alloc: Global,
     words: &[String],
     files: &mut F,

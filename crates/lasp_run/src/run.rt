@@ -16,7 +16,7 @@ ghost use Rattle.lasp_run.specs.Words.{words_of, answered};
 
 use crate::name::declared_name;
 use crate::open::open_run;
-use lasp_drive::{Halt, Node, drive_on, export_on};
+use lasp_drive::{FreshNode, Halt, drive_on, export_on};
 use lasp_edge::Files;
 use lasp_fns::Library;
 use lasp_graph::Graph;
@@ -48,7 +48,7 @@ fn failure_of(graph: &Graph, script: &Script, halt: Halt) -> Failure
 
 #[tactic(auto, using(crate::proofs::PartLaws::runs))]
 /// Runs a script over its graph, and gives the report.
-fn report<N: Node>(
+fn report<N: FreshNode>(
     alloc: Global,
     graph: &Arc<Graph>,
     lib: &Library,
@@ -65,7 +65,7 @@ fn report<N: Node>(
 
 #[tactic(auto, using(crate::proofs::PartLaws::runs))]
 /// Runs a script over its graph, and gives the message of one of its nodes.
-fn message<N: Node>(
+fn message<N: FreshNode>(
     alloc: Global,
     graph: &Arc<Graph>,
     lib: &Library,
@@ -86,7 +86,7 @@ fn message<N: Node>(
 }
 
 /// `plain`: reads the graph and the script, and runs them.
-pub fn run_plain<N: Node, F: Files>(
+pub fn run_plain<N: FreshNode, F: Files>(
     alloc: Global,
     words: &[String],
     files: &mut F,
@@ -104,7 +104,7 @@ pub fn run_plain<N: Node, F: Files>(
 }
 
 /// `export`: reads the graph and the script, runs them, and gives the message of the node.
-pub fn run_export<N: Node, F: Files>(
+pub fn run_export<N: FreshNode, F: Files>(
     alloc: Global,
     words: &[String],
     node: u8,

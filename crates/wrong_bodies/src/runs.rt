@@ -4,7 +4,7 @@ ghost use Rattle.std.specs.Arc.{arc_value};
 ghost use Rattle.lasp_graph.specs.Library.{library_of};
 ghost use Rattle.lasp_drive.specs.Run.{IsRunnable, RunsTo};
 
-use lasp_drive::{Driver, Halt, Node};
+use lasp_drive::{Driver, FreshNode, Halt};
 use lasp_fns::Library;
 use lasp_graph::Graph;
 use lasp_script::Script;
@@ -12,7 +12,7 @@ use std::alloc::Global;
 use std::sync::Arc;
 
 /// `lasp_drive::run_on`.
-pub fn run_on<N: Node>(
+pub fn run_on<N: FreshNode>(
     alloc: Global,
     graph: &Arc<Graph>,
     lib: &Library,

@@ -1,7 +1,8 @@
 //! A declaration: every node goes on with a larger graph.
 
-ghost use Rattle.std.specs.Prelude.{◌≡◌, ◌++◌, ◌∷◌, [], length, map, OnOk};
-ghost use Rattle.lasp_drive.specs.Prelude.{arc_value, Extend, decl_of, AreNodes, MayAct, Passes, AllExtend};
+ghost use Rattle.std.specs.Prelude.{◌≡◌, ◌++◌, ◌∷◌, [], length, map, OnOk, OnErr};
+ghost use Rattle.lasp_drive.specs.Prelude.{arc_value, fed, GoesOnWithin, Extend, decl_of, AreNodes, MayAct, Passes, AllExtend};
+ghost use Rattle.model_journal.specs.Entry as model;
 
 use crate::driver::Driver;
 use crate::halt::Halt;
@@ -20,7 +21,9 @@ fn extend_all<N: Node>(
 ) -> Result<(), AllocError>
     requires nodes { AreNodes before.now (length (map N.view nodes.old.items)) (map N.view nodes.old.items) }
     requires next { arc_value graph.now ≡ before.now ++ decl_of decl.now ∷ [] }
-    ensures { OnOk result (AllExtend (arc_value graph.now) (decl_of decl.now) (map N.view nodes.old.items) (map N.view nodes.new.items)) }
+    ensures all { OnOk result (AllExtend (arc_value graph.now) (decl_of decl.now) (map N.view nodes.old.items) (map N.view nodes.new.items)) }
+    ensures calls { OnErr result (GoesOnWithin (map N.view nodes.old.items) (map N.view nodes.new.items) (λ p. fed (model.Extend (decl_of decl.now)) ∷ [])) }
+    ensures place { map N.place nodes.new.items ≡ map N.place nodes.old.items }
 {
     for p in 0..nodes.len() {
         let node = &mut nodes[p];
@@ -34,7 +37,7 @@ impl<N: Node> Driver<N> {
     /// Declares a variable at every node.
     pub fn extend(&mut self, alloc: Global, c: u32, decl: &Decl) -> Result<(), Halt>
         requires { MayAct N.view N.read c self.old (Extend (decl_of decl.now)) }
-        ensures { Passes N.view N.read c self.old (Extend (decl_of decl.now) ∷ []) result self.new }
+        ensures { Passes N.view N.read N.place c self.old (Extend (decl_of decl.now) ∷ []) result self.new }
     {
         let grown = Arc::new(alloc, self.graph.with(alloc, decl)?)?;
         extend_all(&mut self.nodes, alloc, &self.graph, &grown, decl)?;

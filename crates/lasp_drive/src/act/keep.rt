@@ -16,7 +16,7 @@ impl<N: Node> Driver<N> {
     /// Marks what source x of node p holds; it is shared.
     pub fn keep(&mut self, c: u32, p: u8, x: u8) -> Result<(), Halt>
         requires { MayAct N.view N.read c self.old (Keep p x) }
-        ensures { Passes N.view N.read c self.old (Keep p x ∷ []) result self.new }
+        ensures { Passes N.view N.read N.place c self.old (Keep p x ∷ []) result self.new }
     {
         let state = Arc::try_clone(self.nodes[p as usize].source(x))?;
         self.marks.push(Mark { var: x, state })?;
@@ -26,7 +26,7 @@ impl<N: Node> Driver<N> {
     /// Opens a read of variable x at node p.
     pub fn open(&mut self, alloc: Global, c: u32, p: u8, x: u8, until: &Until) -> Result<(), Halt>
         requires { MayAct N.view N.read c self.old (Open p x (until_of until.now)) }
-        ensures acts { Acts N.view N.read c (c + 1) self.old (Open p x (until_of until.now) ∷ []) result self.new }
+        ensures acts { Acts N.view N.read N.place c (c + 1) self.old (Open p x (until_of until.now) ∷ []) result self.new }
         ensures reads { OnOk result (OpensAt (map N.view self.old.nodes.items) p x (world.threshold_of (map marked_of self.old.marks.items) (until_of until.now)) (map N.view self.new.nodes.items)) }
         ensures opened { OnOk result (HasOpened N.view N.read p x (world.threshold_of (map marked_of self.old.marks.items) (until_of until.now)) self.old self.new) }
     {

@@ -1,6 +1,6 @@
 //! Points: every node is settled.
 
-ghost use Rattle.std.specs.Prelude.{◌∷◌, [], map, OnOk};
+ghost use Rattle.std.specs.Prelude.{◌≡◌, ◌∷◌, [], map, OnOk};
 ghost use Rattle.lasp_drive.specs.Prelude.{arc_value, FitsAll, Point, library_of, AreSettled, IsReady, Passes, MaySettle, SettlesAll};
 
 use crate::driver::Driver;
@@ -19,7 +19,8 @@ fn settle_all<N: Node>(
     c: u32,
 ) -> Result<(), Halt>
     requires { MaySettle (library_of lib.now) graph.now (map N.view nodes.old.items) }
-    ensures { SettlesAll c graph.now (map N.view nodes.old.items) result (map N.view nodes.new.items) }
+    ensures settles { SettlesAll c graph.now (map N.view nodes.old.items) result (map N.view nodes.new.items) }
+    ensures place { map N.place nodes.new.items ≡ map N.place nodes.old.items }
 {
     for p in 0..nodes.len() {
         match nodes[p].settle(alloc, lib) {
@@ -36,7 +37,7 @@ impl<N: Node> Driver<N> {
     pub fn point(&mut self, alloc: Global, lib: &Library, c: u32) -> Result<(), Halt>
         requires ready { IsReady N.view N.read c self.old }
         requires fits { FitsAll (library_of lib.now) (arc_value self.old.graph) }
-        ensures passes { Passes N.view N.read c self.old (Point ∷ []) result self.new }
+        ensures passes { Passes N.view N.read N.place c self.old (Point ∷ []) result self.new }
         ensures settled { OnOk result (AreSettled (map N.view self.new.nodes.items)) }
     {
         settle_all(&mut self.nodes, alloc, &self.graph, lib, c)

@@ -25,6 +25,8 @@ fn has_reached<N: Node>(
     requires may { MayRead (N.view node.old) x (threshold_of threshold) }
     ensures looked { OnOk result (N.view node.new ≡ with_reads (N.view node.old) (looks (N.view node.old).reads)) }
     ensures reached { IfOk result (λ reached. reached ≡ meets (threshold_of threshold) (content_at (N.view node.old).shown x)) }
+    ensures calls { (N.view node.new).calls ≡ (N.view node.old).calls }
+    ensures place { N.place node.new ≡ N.place node.old }
 {
     let read = node.open_read(alloc, x, threshold)?;
     let polled = node.poll_read(&read);
@@ -36,7 +38,7 @@ impl<N: Node> Driver<N> {
     /// Prints variable x of node p.
     pub fn show(&mut self, c: u32, p: u8, x: u8) -> Result<(), Halt>
         requires { MayAct N.view N.read c self.old (Show p x) }
-        ensures { Passes N.view N.read c self.old (Show p x ∷ []) result self.new }
+        ensures { Passes N.view N.read N.place c self.old (Show p x ∷ []) result self.new }
     {
         let state = self.nodes[p as usize].state(x);
         print_line(
@@ -51,7 +53,7 @@ impl<N: Node> Driver<N> {
     /// Goes on where variable x of node p is at the threshold. The read by which this is asked waits no more then.
     pub fn reach(&mut self, alloc: Global, c: u32, p: u8, x: u8, until: &Until) -> Result<(), Halt>
         requires { MayAct N.view N.read c self.old (Reach p x (until_of until.now)) }
-        ensures acts { Acts N.view N.read c (c + 1) self.old (Reach p x (until_of until.now) ∷ []) result self.new }
+        ensures acts { Acts N.view N.read N.place c (c + 1) self.old (Reach p x (until_of until.now) ∷ []) result self.new }
         ensures reached { (n : NodeView) → slice_get (map N.view self.old.nodes.items) p ≡ Some n → Reaches c (meets (world.threshold_of (map marked_of self.old.marks.items) (until_of until.now)) (content_at n.shown x)) result }
         ensures reads { UnlessMemory result (LooksAt (map N.view self.old.nodes.items) p (map N.view self.new.nodes.items)) }
         ensures same { OnOk result (self.new.reads ≡ self.old.reads) }

@@ -13,7 +13,7 @@ impl<N: Node> Driver<N> {
     fn post_all(&mut self, alloc: Global, c: u32) -> Result<(), Halt>
         requires ready { IsReady N.view N.read c self.old }
         requires number { c ≤ 100000 }
-        ensures { Passes N.view N.read c self.old (map Post (range_with_len 0 (length self.old.nodes.items))) result self.new }
+        ensures { Passes N.view N.read N.place c self.old (map Post (range_with_len 0 (length self.old.nodes.items))) result self.new }
     {
         for p in 0..self.nodes.len() {
             match self.post(alloc, c, p as u8) {
@@ -29,7 +29,7 @@ impl<N: Node> Driver<N> {
         requires ready { IsReady N.view N.read c self.old }
         requires node { p < length self.old.nodes.items }
         requires messages { i + length self.old.nodes.items ≤ length self.old.network.sent }
-        ensures { Passes N.view N.read c self.old (takes (length self.old.nodes.items) i p) result self.new }
+        ensures { Passes N.view N.read N.place c self.old (takes (length self.old.nodes.items) i p) result self.new }
     {
         self.network.len();
         for q in 0..self.nodes.len() {
@@ -47,7 +47,7 @@ impl<N: Node> Driver<N> {
     fn take_all(&mut self, alloc: Global, c: u32, i: u32) -> Result<(), Halt>
         requires ready { IsReady N.view N.read c self.old }
         requires messages { i + length self.old.nodes.items ≤ length self.old.network.sent }
-        ensures { Passes N.view N.read c self.old (flat_map (takes (length self.old.nodes.items) i) (range_with_len 0 (length self.old.nodes.items))) result self.new }
+        ensures { Passes N.view N.read N.place c self.old (flat_map (takes (length self.old.nodes.items) i) (range_with_len 0 (length self.old.nodes.items))) result self.new }
     {
         for p in 0..self.nodes.len() {
             match self.take_others(alloc, c, p as u8, i) {
@@ -62,7 +62,7 @@ impl<N: Node> Driver<N> {
     pub fn sync(&mut self, alloc: Global, c: u32) -> Result<(), Halt>
         requires ready { IsReady N.view N.read c self.old }
         requires number { c ≤ 100000 }
-        ensures { Passes N.view N.read c self.old (sync_acts (length self.old.nodes.items) (length self.old.network.sent)) result self.new }
+        ensures { Passes N.view N.read N.place c self.old (sync_acts (length self.old.nodes.items) (length self.old.network.sent)) result self.new }
     {
         let first = self.network.len() as u32;
         match self.post_all(alloc, c) {

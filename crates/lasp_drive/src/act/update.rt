@@ -14,7 +14,7 @@ impl<N: Node> Driver<N> {
     pub fn update(&mut self, alloc: Global, c: u32, p: u8, x: u8, op: &Op) -> Result<(), Halt>
         requires may { MayAct N.view N.read c self.old (Update p x (op_of op.now)) }
         requires suits { IsOpOf op.now p (shape_of (length (map N.view self.old.nodes.items)) (kind_at (arc_value self.old.graph) x)) }
-        ensures acts { Acts N.view N.read c (c + 1) self.old (Update p x (op_of op.now) ∷ []) result self.new }
+        ensures acts { Acts N.view N.read N.place c (c + 1) self.old (Update p x (op_of op.now) ∷ []) result self.new }
         ensures reads { OnOk result (self.new.reads ≡ self.old.reads) }
     {
         match self.nodes[p as usize].update(alloc, x, op) {

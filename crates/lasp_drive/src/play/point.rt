@@ -24,7 +24,7 @@ impl<N: Node> Driver<N> {
     ) -> Result<(), Halt>
         requires may { MayStep N.view N.read c self.old (plain.Print p x) }
         requires fits { FitsAll (library_of lib.now) (arc_value self.old.graph) }
-        ensures { Steps N.view N.read c self.old (plain.Print p x) result self.new }
+        ensures { Steps N.view N.read N.place c self.old (plain.Print p x) result self.new }
     {
         match self.point(alloc, lib, c) {
             Ok(()) => self.show(c, p, x),
@@ -44,7 +44,7 @@ impl<N: Node> Driver<N> {
     ) -> Result<(), Halt>
         requires may { MayStep N.view N.read c self.old (plain.Await p x (until_of until.now)) }
         requires fits { FitsAll (library_of lib.now) (arc_value self.old.graph) }
-        ensures { Steps N.view N.read c self.old (plain.Await p x (until_of until.now)) result self.new }
+        ensures { Steps N.view N.read N.place c self.old (plain.Await p x (until_of until.now)) result self.new }
     {
         match self.point(alloc, lib, c) {
             Ok(()) => self.reach(alloc, c, p, x, until),
@@ -64,7 +64,7 @@ impl<N: Node> Driver<N> {
         requires fits { FitsAll (library_of lib.now) (arc_value self.old.graph) }
         requires room { length (arc_value self.old.graph) < variable_limit }
         requires next { IsNext (arc_value self.old.graph) (decl_of decl.now) }
-        ensures { Steps N.view N.read c self.old (plain.Declare (decl_of decl.now)) result self.new }
+        ensures { Steps N.view N.read N.place c self.old (plain.Declare (decl_of decl.now)) result self.new }
     {
         match self.point(alloc, lib, c) {
             Ok(()) => self.extend(alloc, c, decl),

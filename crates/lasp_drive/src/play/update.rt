@@ -23,7 +23,7 @@ impl<N: Node> Driver<N> {
         value: &Value,
     ) -> Result<(), Halt>
         requires { MayStep N.view N.read c self.old (plain.Add p x (val_of value.now)) }
-        ensures { Steps N.view N.read c self.old (plain.Add p x (val_of value.now)) result self.new }
+        ensures { Steps N.view N.read N.place c self.old (plain.Add p x (val_of value.now)) result self.new }
     {
         recall_value(value);
         let op = Op::Add(value.try_clone(alloc)?);
@@ -40,7 +40,7 @@ impl<N: Node> Driver<N> {
         value: &Value,
     ) -> Result<(), Halt>
         requires { MayStep N.view N.read c self.old (plain.Remove p x (val_of value.now)) }
-        ensures { Steps N.view N.read c self.old (plain.Remove p x (val_of value.now)) result self.new }
+        ensures { Steps N.view N.read N.place c self.old (plain.Remove p x (val_of value.now)) result self.new }
     {
         recall_value(value);
         let op = Op::Remove(value.try_clone(alloc)?);
@@ -57,7 +57,7 @@ impl<N: Node> Driver<N> {
         value: &Value,
     ) -> Result<(), Halt>
         requires { MayStep N.view N.read c self.old (plain.Insert p x (val_of value.now)) }
-        ensures { Steps N.view N.read c self.old (plain.Insert p x (val_of value.now)) result self.new }
+        ensures { Steps N.view N.read N.place c self.old (plain.Insert p x (val_of value.now)) result self.new }
     {
         recall_value(value);
         let op = Op::Insert(value.try_clone(alloc)?);
@@ -74,7 +74,7 @@ impl<N: Node> Driver<N> {
         mark: u32,
     ) -> Result<(), Halt>
         requires { MayStep N.view N.read c self.old (plain.Bind p x mark) }
-        ensures { Steps N.view N.read c self.old (plain.Bind p x mark) result self.new }
+        ensures { Steps N.view N.read N.place c self.old (plain.Bind p x mark) result self.new }
     {
         let state = Arc::try_clone(&self.marks[mark as usize].state)?;
         self.update(alloc, c, p, x, &Op::Join(state))

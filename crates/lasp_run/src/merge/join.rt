@@ -12,7 +12,7 @@ ghost use Rattle.model_program.specs.declared.refusal.Refusal.TheVariants as ref
 ghost use Rattle.lasp_run.specs.Merge.{peer_by, IsReplica, IsRefusal};
 
 use lasp_core::begins;
-use lasp_drive::{Node, NodeStop};
+use lasp_drive::{FreshNode, Node, NodeStop};
 use lasp_graph::Graph;
 use lasp_wire::{Message, WireRefused, decode};
 use model_program::{Failure, Refusal, StateWhy};
@@ -89,7 +89,11 @@ fn join<N: Node>(
 
 #[tactic(auto, using(crate::proofs::JoinLaws::replicas))]
 /// The node after the first file.
-pub fn join_first<N: Node>(alloc: Global, graph: &Arc<Graph>, bytes: &[u8]) -> Result<N, Failure>
+pub fn join_first<N: FreshNode>(
+    alloc: Global,
+    graph: &Arc<Graph>,
+    bytes: &[u8],
+) -> Result<N, Failure>
     ensures exact { Gives (peer_by N.view) (file_joined (arc_value graph.now) 0 None bytes.now) result }
     ensures node { IfOk result (λ node. IsReplica (arc_value graph.now) (N.view node)) }
 {

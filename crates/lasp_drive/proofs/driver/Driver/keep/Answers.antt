@@ -9,6 +9,8 @@ use Rattle.lasp_drive.specs.Acts.{Acted}
 use Rattle.lasp_drive.specs.declared.driver.Mark.{Mark}
 use Rattle.lasp_drive.proofs.NodeLaws.{seen-at, seen-low, var-here}
 use Rattle.lasp_drive.proofs.StepLaws.{with_marks, acted-keep}
+use Rattle.std.proofs.lemmas.Result.{err_from_is_err_and}
+use Rattle.lasp_drive.proofs.ActLaws.{stops-early}
 use Rattle.lasp_drive.proofs.driver.Driver.keep.Goals as goal
 
 pub source-requires-clause-var : goal.source-requires-clause-var
@@ -34,4 +36,15 @@ returns g c =
       acts = subst (λ (marks : List Mark). Acted c.args.c c.args.c d (Keep c.args.p c.args.x ∷ []) (with_marks d marks)) (sym c.in_ok-push.ensures.items)
           (acted-keep c.args.c c.args.p c.args.x d n _ c.requires.ready c.requires.lawful at refl (ap shape_of same ∙ c.source.ensures.shape) (ap content_of same ∙ c.source.ensures.content));
       reads = refl;
+      in_place = refl;
     }
+
+pub returns-in_err-state : goal.returns-in_err-state
+returns-in_err-state g c =
+    let p = err_from_is_err_and c.from_residual.result c.from_residual.ensures.1 in
+    rw (p.1, p.2) (record { acts = stops-early c.args.c (seen g.N.Node.view g.N.Node.read c.args.self.now) (Keep c.args.p c.args.x ∷ []); reads = tt; in_place = refl })
+
+pub returns-in_err-push : goal.returns-in_err-push
+returns-in_err-push g c =
+    let p = err_from_is_err_and c.from_residual-in_err-push.result c.from_residual-in_err-push.ensures.1 in
+    rw (p.1, p.2) (record { acts = stops-early c.args.c (seen g.N.Node.view g.N.Node.read c.args.self.now) (Keep c.args.p c.args.x ∷ []); reads = tt; in_place = refl })

@@ -1,14 +1,30 @@
-use Rattle.std.proofs.Common.{rules, ◌≡◌, map, ap}
+use Rattle.std.proofs.Common.{rules, ◌≡◌, map, ap, sym, ◌∙◌, subst, length, arith}
+use Rattle.std.specs.Prelude.{ℕ, List}
 use Rattle.std.specs.Arc.{arc_value}
-use Rattle.lasp_gossip.specs.Network.{Network}
-use Rattle.lasp_drive.specs.Driver.{read_seen, seen}
-use Rattle.lasp_drive.specs.declared.driver.Driver.{Driver}
-use Rattle.lasp_drive.proofs.StepLaws.{starts-fresh}
+use Rattle.std.proofs.lemmas.List.{length-map}
+use Rattle.model_graph.specs.Graph.{Decl}
+use Rattle.lasp_drive.specs.Node.{AreFresh}
+use Rattle.lasp_drive.specs.Driver.{seen, Starts}
 use Rattle.lasp_drive.proofs.driver.Driver.new.Goals as goal
+
+pub of-requires-clause-some : goal.of-requires-clause-some
+of-requires-clause-some g c = omega (arith, c.requires.some, c.in_ok-fresh_nodes.ensures.size, length-map c.in_ok-fresh_nodes.field-0.items g.N.Node.view)
+
+pub of-requires-clause-few : goal.of-requires-clause-few
+of-requires-clause-few g c = omega (arith, c.requires.few, c.in_ok-fresh_nodes.ensures.size, length-map c.in_ok-fresh_nodes.field-0.items g.N.Node.view)
+
+pub of-requires-clause-fresh : goal.of-requires-clause-fresh
+of-requires-clause-fresh g c =
+    let nodes = c.in_ok-fresh_nodes.field-0 in
+    let size : c.args.nodes ≡ length nodes.items = sym c.in_ok-fresh_nodes.ensures.size ∙ length-map nodes.items g.N.Node.view in
+    let graph : arc_value c.in_ok-share.share ≡ arc_value c.args.graph.now = search rules in
+    subst (λ (h : List Decl). AreFresh h (length nodes.items) (length nodes.items) (map g.N.Node.view nodes.items)) (sym graph)
+    (subst (λ (k : ℕ). AreFresh (arc_value c.args.graph.now) k k (map g.N.Node.view nodes.items)) size c.in_ok-fresh_nodes.ensures)
 
 pub returns : goal.returns
 returns g c =
-    let d : Driver g.row.N.Denot g.row.N-Read.Denot = record { graph = c.in_ok-try_clone.field-0; nodes = c.in_ok-fresh_nodes.field-0; network = c.new.result; marks = c.new-2.result; reads = c.new-3.result; text = c.new-4.result } in
-    let graph : arc_value d.graph ≡ arc_value c.args.graph.now = search rules in
-    starts-fresh (arc_value c.args.graph.now) c.args.nodes (seen g.N.Node.view g.N.Node.read d) c.requires.some c.requires.few c.in_ok-fresh_nodes.ensures graph
-    (ap (λ (n : Network). n.sent) c.new.ensures) (ap (λ (n : Network). n.limit) c.new.ensures) c.new-2.ensures.items (ap (map (read_seen g.N.Node.read)) c.new-3.ensures.items) (search rules)
+    let nodes = c.in_ok-fresh_nodes.field-0 in
+    let size : c.args.nodes ≡ length nodes.items = sym c.in_ok-fresh_nodes.ensures.size ∙ length-map nodes.items g.N.Node.view in
+    let graph : arc_value c.in_ok-share.share ≡ arc_value c.args.graph.now = search rules in
+    subst (λ (h : List Decl). Starts h c.args.nodes (seen g.N.Node.view g.N.Node.read c.of.result)) graph
+    (subst (λ (k : ℕ). Starts (arc_value c.in_ok-share.share) k (seen g.N.Node.view g.N.Node.read c.of.result)) (sym size) c.of.ensures.starts)

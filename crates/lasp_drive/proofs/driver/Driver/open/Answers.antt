@@ -1,4 +1,4 @@
-use Rattle.std.proofs.Common.{rules, arith, ◌≡◌, ◌+◌, ◌++◌, ◌∷◌, [], map, length, sym, subst, ap, ◌∙◌}
+use Rattle.std.proofs.Common.{rules, arith, ◌≡◌, ◌+◌, ◌++◌, ◌∷◌, [], map, length, sym, subst, ap, ◌∙◌, refl}
 use Rattle.std.specs.Prelude.{List, slice_set}
 use Rattle.std.proofs.lemmas.List.{map-append, map-set}
 use Rattle.model_core.specs.Core.{Read}
@@ -10,12 +10,15 @@ use Rattle.lasp_script.specs.Command.{until_of}
 use Rattle.lasp_drive.specs.Node.{NodeView, with_reads, opens_next}
 use Rattle.lasp_drive.specs.Reads.{Reads, no_reads, next_read}
 use Rattle.lasp_drive.specs.Driver.{read_seen, seen, marked_of}
-use Rattle.lasp_drive.specs.Acts.{Acted}
+use Rattle.lasp_drive.specs.Acts.{Acted, StopsWithin}
 use Rattle.lasp_drive.specs.Play.{IsUntilWithin}
 use Rattle.lasp_drive.specs.declared.driver.Mark.{Mark}
 use Rattle.lasp_drive.specs.declared.driver.OpenRead.{OpenRead}
-use Rattle.lasp_drive.proofs.NodeLaws.{seen-at, seen-low, seen-set, mapped-or}
+use Rattle.lasp_drive.specs.declared.halt.Halt.TheVariants as halt
+use Rattle.lasp_drive.proofs.NodeLaws.{seen-at, seen-low, seen-set, mapped-or, same-place}
 use Rattle.lasp_drive.proofs.StepLaws.{with_both, open_read, may-read, until-within, acted-open, same-node}
+use Rattle.std.proofs.lemmas.Result.{err_from_is_err_and}
+use Rattle.lasp_drive.proofs.ActLaws.{stops-early, stops-at}
 use Rattle.lasp_drive.proofs.driver.Driver.open.Goals as goal
 
 pub threshold_of-requires : goal.threshold_of-requires
@@ -43,11 +46,14 @@ returns-clause-acts g c =
     let at = seen-at g.N.Node.view nodes c.args.p c.index_mut.result.now (seen-low g.N.Node.view nodes c.args.p c.requires.lawful.0.0) c.index_mut.ensures.value in
     let reads : map (read_seen g.N.Node.read) c.push.new.self.items ≡ d.reads ++ open_read c.args.p (g.N.Node.read c.in_ok-read.read) ∷ [] =
     ap (map (read_seen g.N.Node.read)) c.in_ok-push.ensures.items ∙ map-append (read_seen g.N.Node.read) c.args.self.now.reads.items _ in
-    subst (λ (rs : List (OpenRead Read)). Acted c.args.c (c.args.c + 1) d (Open c.args.p c.args.x until ∷ []) (with_both d (map g.N.Node.view (slice_set nodes c.args.p c.open_read.new.self)) rs)) (sym reads)
-    (seen-set g.N.Node.view nodes c.args.p c.open_read.new.self (λ ns. Acted c.args.c (c.args.c + 1) d (Open c.args.p c.args.x until ∷ []) (with_both d ns (d.reads ++ open_read c.args.p (g.N.Node.read c.in_ok-read.read) ∷ [])))
-    (subst (λ (m : NodeView). Acted c.args.c (c.args.c + 1) d (Open c.args.p c.args.x until ∷ []) (with_both d (slice_set d.nodes c.args.p m) (d.reads ++ open_read c.args.p (g.N.Node.read c.in_ok-read.read) ∷ [])))
-    (sym (c.in_ok-read.ensures.ok ∙ ap (λ (u : Threshold). with_reads n (opens_next n c.args.x u)) same))
-    (acted-open c.args.c c.args.p c.args.x until d n (g.N.Node.read c.in_ok-read.read) c.requires.ready c.requires.lawful at (omega arith) (c.in_ok-read.ensures.read ∙ ap (next_read n.reads c.args.x) same))))
+    record {
+      acts = subst (λ (rs : List (OpenRead Read)). Acted c.args.c (c.args.c + 1) d (Open c.args.p c.args.x until ∷ []) (with_both d (map g.N.Node.view (slice_set nodes c.args.p c.open_read.new.self)) rs)) (sym reads)
+          (seen-set g.N.Node.view nodes c.args.p c.open_read.new.self (λ ns. Acted c.args.c (c.args.c + 1) d (Open c.args.p c.args.x until ∷ []) (with_both d ns (d.reads ++ open_read c.args.p (g.N.Node.read c.in_ok-read.read) ∷ [])))
+          (subst (λ (m : NodeView). Acted c.args.c (c.args.c + 1) d (Open c.args.p c.args.x until ∷ []) (with_both d (slice_set d.nodes c.args.p m) (d.reads ++ open_read c.args.p (g.N.Node.read c.in_ok-read.read) ∷ [])))
+          (sym (c.in_ok-read.ensures.ok ∙ ap (λ (u : Threshold). with_reads n (opens_next n c.args.x u)) same))
+          (acted-open c.args.c c.args.p c.args.x until d n (g.N.Node.read c.in_ok-read.read) c.requires.ready c.requires.lawful at (omega arith) (c.in_ok-read.ensures.read ∙ ap (next_read n.reads c.args.x) same))));
+      in_place = same-place g.N.Node.place nodes c.args.p c.index_mut.result.now c.open_read.new.self (seen-low g.N.Node.view nodes c.args.p c.requires.lawful.0.0) c.index_mut.ensures.value c.open_read.ensures.place;
+    }
 
 pub returns-clause-reads : goal.returns-clause-reads
 returns-clause-reads g c m there =
@@ -77,3 +83,36 @@ returns-clause-opened g c =
       reads_are = c.in_ok-push.ensures.items;
       is = c.in_ok-read.ensures.read ∙ ap (next_read n.reads c.args.x) same ∙ ap (λ (s : Reads). next_read s c.args.x t) (sym (mapped-or (λ (k : NodeView). k.reads) d.nodes c.args.p n no_reads at));
     }
+
+pub returns-in_err-threshold-clause-acts : goal.returns-in_err-threshold-clause-acts
+returns-in_err-threshold-clause-acts g c =
+    let p = err_from_is_err_and c.from_residual.result c.from_residual.ensures.1 in
+    rw (p.1, p.2) (record { acts = stops-early c.args.c (seen g.N.Node.view g.N.Node.read c.args.self.now) (Open c.args.p c.args.x (until_of c.args.until.now) ∷ []); in_place = refl })
+
+pub returns-in_err-read-clause-acts : goal.returns-in_err-read-clause-acts
+returns-in_err-read-clause-acts g c =
+    let d = seen g.N.Node.view g.N.Node.read c.args.self.now in
+    let nodes = c.args.self.now.nodes.items in
+    let low = seen-low g.N.Node.view nodes c.args.p c.requires.lawful.0.0 in
+    let at = seen-at g.N.Node.view nodes c.args.p c.index_mut.result.now low c.index_mut.ensures.value in
+    let a = Open c.args.p c.args.x (until_of c.args.until.now) in
+    let p = err_from_is_err_and c.from_residual-in_err-read.result c.from_residual-in_err-read.ensures.1 in
+    rw (p.1, p.2) (record {
+      acts = seen-set g.N.Node.view nodes c.args.p c.open_read.new.self (λ ns. StopsWithin c.args.c d (a ∷ []) halt.Memory ns)
+          (stops-at c.args.c c.args.p d a halt.Memory (g.N.Node.view c.index_mut.result.now) (g.N.Node.view c.open_read.new.self) at (ap (λ (m : NodeView). m.calls) c.in_err-read.ensures.err) tt);
+      in_place = same-place g.N.Node.place nodes c.args.p c.index_mut.result.now c.open_read.new.self low c.index_mut.ensures.value c.open_read.ensures.place;
+    })
+
+pub returns-in_err-push-clause-acts : goal.returns-in_err-push-clause-acts
+returns-in_err-push-clause-acts g c =
+    let d = seen g.N.Node.view g.N.Node.read c.args.self.now in
+    let nodes = c.args.self.now.nodes.items in
+    let low = seen-low g.N.Node.view nodes c.args.p c.requires.lawful.0.0 in
+    let at = seen-at g.N.Node.view nodes c.args.p c.index_mut.result.now low c.index_mut.ensures.value in
+    let a = Open c.args.p c.args.x (until_of c.args.until.now) in
+    let p = err_from_is_err_and c.from_residual-in_err-push.result c.from_residual-in_err-push.ensures.1 in
+    rw (p.1, p.2) (record {
+      acts = seen-set g.N.Node.view nodes c.args.p c.open_read.new.self (λ ns. StopsWithin c.args.c d (a ∷ []) halt.Memory ns)
+          (stops-at c.args.c c.args.p d a halt.Memory (g.N.Node.view c.index_mut.result.now) (g.N.Node.view c.open_read.new.self) at (ap (λ (m : NodeView). m.calls) c.in_ok-read.ensures.ok) tt);
+      in_place = same-place g.N.Node.place nodes c.args.p c.index_mut.result.now c.open_read.new.self low c.index_mut.ensures.value c.open_read.ensures.place;
+    })

@@ -17,9 +17,10 @@ returns-clause-passes g c =
     let d = seen g.N.Node.view g.N.Node.read c.args.self.now in
     record {
       acts = acts-point c.args.c d (map g.N.Node.view c.settle_all.new.nodes.items) c.settle_all.result c.requires.ready
-          (subst (λ (h : List Decl). SettlesAll c.args.c h d.nodes c.settle_all.result (map g.N.Node.view c.settle_all.new.nodes.items)) c.deref.ensures c.settle_all.ensures);
+          (subst (λ (h : List Decl). SettlesAll c.args.c h d.nodes c.settle_all.result (map g.N.Node.view c.settle_all.new.nodes.items)) c.deref.ensures c.settle_all.ensures.settles);
       reads = search rules;
+      in_place = c.settle_all.ensures.place;
     }
 
 pub returns-clause-settled : goal.returns-clause-settled
-returns-clause-settled g c = settled-point c.args.c c.deref.result.now (map g.N.Node.view c.args.self.now.nodes.items) (map g.N.Node.view c.settle_all.new.nodes.items) c.settle_all.result c.settle_all.ensures
+returns-clause-settled g c = settled-point c.args.c c.deref.result.now (map g.N.Node.view c.args.self.now.nodes.items) (map g.N.Node.view c.settle_all.new.nodes.items) c.settle_all.result c.settle_all.ensures.settles

@@ -10,8 +10,9 @@ use Rattle.lasp_drive.specs.Driver.{seen, run_of}
 use Rattle.lasp_drive.specs.Acts.{Acted}
 use Rattle.lasp_drive.specs.declared.halt.Halt.TheVariants as halt
 use Rattle.lasp_drive.proofs.NodeLaws.{seen-at, seen-low, message-here, below-limit, post-done, post-stops}
-use Rattle.lasp_drive.proofs.ActLaws.{halts-one}
+use Rattle.lasp_drive.proofs.ActLaws.{stops-still, stops-early}
 use Rattle.lasp_drive.proofs.StepLaws.{with_sent, acted-post}
+use Rattle.std.proofs.lemmas.Result.{err_from_is_err_and}
 use Rattle.lasp_drive.proofs.driver.Driver.post.Goals as goal
 
 pub message-requires : goal.message-requires
@@ -38,6 +39,7 @@ returns-in-Ok g c =
           (post-done (run_of d) c.args.c m (message_at d.graph (peer_at (peers_of d.nodes) c.args.p))
           (c.in_ok-message.ensures ∙ message-here d.graph d.nodes c.args.p n (c.requires.ready.nodes c.args.p n at).graph at) (omega (arith, c.in-Ok.ensures.room, c.requires.ready.limit))));
       reads = refl;
+      in_place = refl;
     }
 
 pub returns-in-Err-NetworkFull : goal.returns-in-Err-NetworkFull
@@ -46,9 +48,15 @@ returns-in-Err-NetworkFull g c =
     let n = g.N.Node.view c.index.result.now in
     let at = seen-at g.N.Node.view c.args.self.now.nodes.items c.args.p c.index.result.now (seen-low g.N.Node.view c.args.self.now.nodes.items c.args.p c.requires.lawful.0) c.index.ensures in
     record {
-      acts = halts-one c.args.c (run_of d) (Post c.args.p) (halt.NetworkFull c.args.c)
+      acts = stops-still c.args.c d (Post c.args.p) (halt.NetworkFull c.args.c) d.nodes refl
           (post-stops (run_of d) c.args.c c.in_ok-message.message (message_at d.graph (peer_at (peers_of d.nodes) c.args.p))
           (c.in_ok-message.ensures ∙ message-here d.graph d.nodes c.args.p n (c.requires.ready.nodes c.args.p n at).graph at)
           (omega (arith, c.in-Err-NetworkFull.ensures.full (search rules), c.requires.ready.limit)));
       reads = tt;
+      in_place = refl;
     }
+
+pub returns-in_err-message : goal.returns-in_err-message
+returns-in_err-message g c =
+    let p = err_from_is_err_and c.from_residual.result c.from_residual.ensures.1 in
+    rw (p.1, p.2) (record { acts = stops-early c.args.c (seen g.N.Node.view g.N.Node.read c.args.self.now) (Post c.args.p ∷ []); reads = tt; in_place = refl })

@@ -1,7 +1,7 @@
-use Rattle.std.proofs.Common.{◌+◌, ◌∷◌, []}
+use Rattle.std.proofs.Common.{◌+◌, ◌∷◌, [], map, ◌∙◌}
 use Rattle.model_world.specs.World.{Point, Show}
-use Rattle.lasp_drive.specs.Driver.{seen, run_of}
-use Rattle.lasp_drive.proofs.ActLaws.{acts-later, acts-then, halts-before}
+use Rattle.lasp_drive.specs.Driver.{seen}
+use Rattle.lasp_drive.proofs.ActLaws.{acts-later, acts-then, stops-before}
 use Rattle.lasp_drive.proofs.StepLaws.{place-stays}
 use Rattle.lasp_drive.proofs.driver.Driver.print.Goals as goal
 
@@ -16,8 +16,14 @@ returns-in-Ok g c =
     let old = seen g.N.Node.view g.N.Node.read c.args.self.now in
     let now = seen g.N.Node.view g.N.Node.read c.point.new.self in
     let new = seen g.N.Node.view g.N.Node.read c.show.new.self in
-    acts-then c.args.c c.args.c (c.args.c + 1) old now new (Point ∷ []) (Show c.args.p c.args.x ∷ []) c.show.result c.in-Ok.ensures.passes.acts
-    (acts-later c.args.c now new (Show c.args.p c.args.x ∷ []) c.show.result c.show.ensures.acts)
+    record {
+      acts = acts-then c.args.c c.args.c (c.args.c + 1) old now new (Point ∷ []) (Show c.args.p c.args.x ∷ []) c.show.result c.in-Ok.ensures.passes.acts
+          (acts-later c.args.c now new (Show c.args.p c.args.x ∷ []) c.show.result c.show.ensures.acts);
+      in_place = c.show.ensures.in_place ∙ c.in-Ok.ensures.passes.in_place;
+    }
 
 pub returns-in-Err : goal.returns-in-Err
-returns-in-Err g c = halts-before c.args.c (run_of (seen g.N.Node.view g.N.Node.read c.args.self.now)) (Point ∷ []) (Show c.args.p c.args.x ∷ []) c.in-Err.halt c.in-Err.ensures.passes.acts
+returns-in-Err g c = record {
+  acts = stops-before c.args.c (seen g.N.Node.view g.N.Node.read c.args.self.now) (Point ∷ []) (Show c.args.p c.args.x ∷ []) c.in-Err.halt (map g.N.Node.view c.point.new.self.nodes.items) c.in-Err.ensures.passes.acts;
+  in_place = c.in-Err.ensures.passes.in_place;
+}

@@ -10,13 +10,14 @@ use Rattle.lasp_script.specs.Command.{until_of}
 use Rattle.lasp_drive.specs.Node.{NodeView, with_reads}
 use Rattle.lasp_drive.specs.Reads.{looks}
 use Rattle.lasp_drive.specs.Driver.{seen, run_of, marked_of}
-use Rattle.lasp_drive.specs.Acts.{Acted}
+use Rattle.lasp_drive.specs.Acts.{Acted, StopsWithin}
 use Rattle.lasp_drive.specs.Play.{IsUntilWithin}
 use Rattle.lasp_drive.specs.declared.driver.Mark.{Mark}
 use Rattle.lasp_drive.specs.declared.halt.Halt.TheVariants as halt
-use Rattle.lasp_drive.proofs.NodeLaws.{seen-at, seen-low, seen-set}
-use Rattle.lasp_drive.proofs.ActLaws.{halts-one}
+use Rattle.lasp_drive.proofs.NodeLaws.{seen-at, seen-low, seen-set, same-place}
+use Rattle.lasp_drive.proofs.ActLaws.{stops-at, stops-early}
 use Rattle.lasp_drive.proofs.StepLaws.{with_nodes, may-read, until-within, reach-met, reach-unmet, acted-reach, same-node}
+use Rattle.std.proofs.lemmas.Result.{err_from_is_err_and}
 use Rattle.lasp_drive.proofs.driver.Driver.reach.Goals as goal
 
 pub threshold_of-requires : goal.threshold_of-requires
@@ -45,10 +46,13 @@ returns-then-branch-clause-acts g c =
     let marks : c.deref.result.now ≡ c.args.self.now.marks.items = search rules in
     let same : threshold_of c.in_ok-threshold.threshold ≡ world.threshold_of (map marked_of d.marks) until = c.in_ok-threshold.ensures ∙ ap (λ (ms : List Mark). world.threshold_of (map marked_of ms) until) marks in
     let at = seen-at g.N.Node.view nodes c.args.p c.index_mut.result.now (seen-low g.N.Node.view nodes c.args.p c.requires.lawful.0.0) c.index_mut.ensures.value in
-    seen-set g.N.Node.view nodes c.args.p c.has_reached.new.node (λ ns. Acted c.args.c (c.args.c + 1) d (Reach c.args.p c.args.x until ∷ []) (with_nodes d ns))
-    (subst (λ (m : NodeView). Acted c.args.c (c.args.c + 1) d (Reach c.args.p c.args.x until ∷ []) (with_nodes d (slice_set d.nodes c.args.p m))) (sym c.in_ok-has_reached.ensures.looked)
-    (acted-reach c.args.c c.args.p c.args.x until d n c.requires.ready at (omega arith)
-    (reach-met c.args.c c.args.p c.args.x until d n (threshold_of c.in_ok-threshold.threshold) c.in_ok-has_reached.field-0 c.requires.ready c.requires.lawful.2 at same c.in_ok-has_reached.ensures.reached c.if-branch.true)))
+    record {
+      acts = seen-set g.N.Node.view nodes c.args.p c.has_reached.new.node (λ ns. Acted c.args.c (c.args.c + 1) d (Reach c.args.p c.args.x until ∷ []) (with_nodes d ns))
+          (subst (λ (m : NodeView). Acted c.args.c (c.args.c + 1) d (Reach c.args.p c.args.x until ∷ []) (with_nodes d (slice_set d.nodes c.args.p m))) (sym c.in_ok-has_reached.ensures.looked)
+          (acted-reach c.args.c c.args.p c.args.x until d n c.requires.ready at (omega arith)
+          (reach-met c.args.c c.args.p c.args.x until d n (threshold_of c.in_ok-threshold.threshold) c.in_ok-has_reached.field-0 c.requires.ready c.requires.lawful.2 at same c.in_ok-has_reached.ensures.reached c.if-branch.true)));
+      in_place = same-place g.N.Node.place nodes c.args.p c.index_mut.result.now c.has_reached.new.node (seen-low g.N.Node.view nodes c.args.p c.requires.lawful.0.0) c.index_mut.ensures.value c.has_reached.ensures.place;
+    }
 
 pub returns-else-branch-clause-acts : goal.returns-else-branch-clause-acts
 returns-else-branch-clause-acts g c =
@@ -59,8 +63,12 @@ returns-else-branch-clause-acts g c =
     let marks : c.deref.result.now ≡ c.args.self.now.marks.items = search rules in
     let same : threshold_of c.in_ok-threshold.threshold ≡ world.threshold_of (map marked_of d.marks) until = c.in_ok-threshold.ensures ∙ ap (λ (ms : List Mark). world.threshold_of (map marked_of ms) until) marks in
     let at = seen-at g.N.Node.view nodes c.args.p c.index_mut.result.now (seen-low g.N.Node.view nodes c.args.p c.requires.lawful.0.0) c.index_mut.ensures.value in
-    halts-one c.args.c (run_of d) (Reach c.args.p c.args.x until) (halt.NotReached c.args.c)
-    (reach-unmet c.args.c c.args.p c.args.x until d n (threshold_of c.in_ok-threshold.threshold) c.in_ok-has_reached.field-0 c.requires.ready c.requires.lawful.2 at same c.in_ok-has_reached.ensures.reached c.if-branch.false)
+    record {
+      acts = seen-set g.N.Node.view nodes c.args.p c.has_reached.new.node (λ ns. StopsWithin c.args.c d (Reach c.args.p c.args.x until ∷ []) (halt.NotReached c.args.c) ns)
+          (stops-at c.args.c c.args.p d (Reach c.args.p c.args.x until) (halt.NotReached c.args.c) n (g.N.Node.view c.has_reached.new.node) at c.has_reached.ensures.calls
+          (reach-unmet c.args.c c.args.p c.args.x until d n (threshold_of c.in_ok-threshold.threshold) c.in_ok-has_reached.field-0 c.requires.ready c.requires.lawful.2 at same c.in_ok-has_reached.ensures.reached c.if-branch.false));
+      in_place = same-place g.N.Node.place nodes c.args.p c.index_mut.result.now c.has_reached.new.node (seen-low g.N.Node.view nodes c.args.p c.requires.lawful.0.0) c.index_mut.ensures.value c.has_reached.ensures.place;
+    }
 
 pub returns-then-branch-clause-reached : goal.returns-then-branch-clause-reached
 returns-then-branch-clause-reached g c m there =
@@ -103,3 +111,22 @@ returns-else-branch-clause-reads g c m there =
     let n = g.N.Node.view c.index_mut.result.now in
     let at = seen-at g.N.Node.view nodes c.args.p c.index_mut.result.now (seen-low g.N.Node.view nodes c.args.p c.requires.lawful.0.0) c.index_mut.ensures.value in
     map-set g.N.Node.view nodes c.args.p c.has_reached.new.node ∙ ap (slice_set d.nodes c.args.p) (c.in_ok-has_reached.ensures.looked ∙ ap (λ (k : NodeView). with_reads k (looks k.reads)) (same-node d.nodes c.args.p n m at there))
+
+pub returns-in_err-threshold-clause-acts : goal.returns-in_err-threshold-clause-acts
+returns-in_err-threshold-clause-acts g c =
+    let p = err_from_is_err_and c.from_residual.result c.from_residual.ensures.1 in
+    rw (p.1, p.2) (record { acts = stops-early c.args.c (seen g.N.Node.view g.N.Node.read c.args.self.now) (Reach c.args.p c.args.x (until_of c.args.until.now) ∷ []); in_place = refl })
+
+pub returns-in_err-has_reached-clause-acts : goal.returns-in_err-has_reached-clause-acts
+returns-in_err-has_reached-clause-acts g c =
+    let d = seen g.N.Node.view g.N.Node.read c.args.self.now in
+    let nodes = c.args.self.now.nodes.items in
+    let low = seen-low g.N.Node.view nodes c.args.p c.requires.lawful.0.0 in
+    let at = seen-at g.N.Node.view nodes c.args.p c.index_mut.result.now low c.index_mut.ensures.value in
+    let a = Reach c.args.p c.args.x (until_of c.args.until.now) in
+    let p = err_from_is_err_and c.from_residual-in_err-has_reached.result c.from_residual-in_err-has_reached.ensures.1 in
+    rw (p.1, p.2) (record {
+      acts = seen-set g.N.Node.view nodes c.args.p c.has_reached.new.node (λ ns. StopsWithin c.args.c d (a ∷ []) halt.Memory ns)
+          (stops-at c.args.c c.args.p d a halt.Memory (g.N.Node.view c.index_mut.result.now) (g.N.Node.view c.has_reached.new.node) at c.has_reached.ensures.calls tt);
+      in_place = same-place g.N.Node.place nodes c.args.p c.index_mut.result.now c.has_reached.new.node low c.index_mut.ensures.value c.has_reached.ensures.place;
+    })

@@ -1,9 +1,12 @@
-use Rattle.std.proofs.Common.{rules, ◌≡◌, ◌∙◌, refl}
+use Rattle.model_world.specs.World.{Show}
+use Rattle.std.proofs.Common.{rules, ◌≡◌, ◌∙◌, refl, ◌∷◌, []}
 use Rattle.std.specs.Prelude.{List, Some, slice_get, string_bytes}
 use Rattle.lasp_graph.specs.Decl.{decl_of}
 use Rattle.lasp_drive.specs.Driver.{seen}
 use Rattle.lasp_drive.proofs.NodeLaws.{seen-at, seen-low, var-here}
 use Rattle.lasp_drive.proofs.StepLaws.{show-done, acted-show}
+use Rattle.std.proofs.lemmas.Result.{err_from_is_err_and}
+use Rattle.lasp_drive.proofs.ActLaws.{stops-early}
 use Rattle.lasp_drive.proofs.driver.Driver.show.Goals as goal
 
 pub state-state-requires-clause-settled : goal.state-state-requires-clause-settled
@@ -28,4 +31,10 @@ returns g c =
       acts = acted-show c.args.c c.args.p c.args.x d _ c.requires.ready
           (show-done c.args.c c.args.p c.args.x d n (decl_of c.at.result.now) c.as_str.result.now _ _ c.requires.ready c.requires.lawful.1 at there named c.state-state.ensures.text c.in_ok-print_line.ensures);
       reads = refl;
+      in_place = refl;
     }
+
+pub returns-in_err-print_line : goal.returns-in_err-print_line
+returns-in_err-print_line g c =
+    let p = err_from_is_err_and c.from_residual.result c.from_residual.ensures.1 in
+    rw (p.1, p.2) (record { acts = stops-early c.args.c (seen g.N.Node.view g.N.Node.read c.args.self.now) (Show c.args.p c.args.x ∷ []); reads = tt; in_place = refl })

@@ -21,25 +21,25 @@ declare-requires-clause-next g c =
 
 pub returns-in-Mark : goal.returns-in-Mark
 returns-in-Mark g c =
-    subst (λ (k : Command). Steps g.N.Node.view g.N.Node.read c.args.c c.args.self.now (command_of k) c.keep.result c.keep.new.self) (sym c.in-Mark.is)
-    (acts-later c.args.c (seen g.N.Node.view g.N.Node.read c.args.self.now) (seen g.N.Node.view g.N.Node.read c.keep.new.self) (Keep c.in-Mark.p c.in-Mark.x ∷ []) c.keep.result c.keep.ensures.acts)
+    subst (λ (k : Command). Steps g.N.Node.view g.N.Node.read g.N.Node.place c.args.c c.args.self.now (command_of k) c.keep.result c.keep.new.self) (sym c.in-Mark.is)
+    (record { acts = acts-later c.args.c (seen g.N.Node.view g.N.Node.read c.args.self.now) (seen g.N.Node.view g.N.Node.read c.keep.new.self) (Keep c.in-Mark.p c.in-Mark.x ∷ []) c.keep.result c.keep.ensures.acts; in_place = c.keep.ensures.in_place })
 
 pub returns-in-Send : goal.returns-in-Send
 returns-in-Send g c =
-    subst (λ (k : Command). Steps g.N.Node.view g.N.Node.read c.args.c c.args.self.now (command_of k) c.post.result c.post.new.self) (sym c.in-Send.is)
-    (acts-later c.args.c (seen g.N.Node.view g.N.Node.read c.args.self.now) (seen g.N.Node.view g.N.Node.read c.post.new.self) (Post c.in-Send.p ∷ []) c.post.result c.post.ensures.acts)
+    subst (λ (k : Command). Steps g.N.Node.view g.N.Node.read g.N.Node.place c.args.c c.args.self.now (command_of k) c.post.result c.post.new.self) (sym c.in-Send.is)
+    (record { acts = acts-later c.args.c (seen g.N.Node.view g.N.Node.read c.args.self.now) (seen g.N.Node.view g.N.Node.read c.post.new.self) (Post c.in-Send.p ∷ []) c.post.result c.post.ensures.acts; in_place = c.post.ensures.in_place })
 
 pub returns-in-Deliver : goal.returns-in-Deliver
 returns-in-Deliver g c =
-    subst (λ (k : Command). Steps g.N.Node.view g.N.Node.read c.args.c c.args.self.now (command_of k) c.take.result c.take.new.self) (sym c.in-Deliver.is)
-    (acts-later c.args.c (seen g.N.Node.view g.N.Node.read c.args.self.now) (seen g.N.Node.view g.N.Node.read c.take.new.self) (Take c.in-Deliver.p c.in-Deliver.i ∷ []) c.take.result c.take.ensures.acts)
+    subst (λ (k : Command). Steps g.N.Node.view g.N.Node.read g.N.Node.place c.args.c c.args.self.now (command_of k) c.take.result c.take.new.self) (sym c.in-Deliver.is)
+    (record { acts = acts-later c.args.c (seen g.N.Node.view g.N.Node.read c.args.self.now) (seen g.N.Node.view g.N.Node.read c.take.new.self) (Take c.in-Deliver.p c.in-Deliver.i ∷ []) c.take.result c.take.ensures.acts; in_place = c.take.ensures.in_place })
 
 pub returns-in-Sync : goal.returns-in-Sync
 returns-in-Sync g c =
-    subst (λ (k : Command). Steps g.N.Node.view g.N.Node.read c.args.c c.args.self.now (command_of k) c.sync.result c.sync.new.self) (sym c.in-Sync.is)
-    (steps-sync c.args.c (length c.args.self.now.nodes.items) (seen g.N.Node.view g.N.Node.read c.args.self.now) (seen g.N.Node.view g.N.Node.read c.sync.new.self) c.sync.result (length-map c.args.self.now.nodes.items g.N.Node.view) c.sync.ensures.acts)
+    subst (λ (k : Command). Steps g.N.Node.view g.N.Node.read g.N.Node.place c.args.c c.args.self.now (command_of k) c.sync.result c.sync.new.self) (sym c.in-Sync.is)
+    (record { acts = steps-sync c.args.c (length c.args.self.now.nodes.items) (seen g.N.Node.view g.N.Node.read c.args.self.now) (seen g.N.Node.view g.N.Node.read c.sync.new.self) c.sync.result (length-map c.args.self.now.nodes.items g.N.Node.view) c.sync.ensures.acts; in_place = c.sync.ensures.in_place })
 
 pub returns-in-Settle : goal.returns-in-Settle
 returns-in-Settle g c =
-    subst (λ (k : Command). Steps g.N.Node.view g.N.Node.read c.args.c c.args.self.now (command_of k) c.point.result c.point.new.self) (sym c.in-Settle.is)
-    (acts-later c.args.c (seen g.N.Node.view g.N.Node.read c.args.self.now) (seen g.N.Node.view g.N.Node.read c.point.new.self) (Point ∷ []) c.point.result c.point.ensures.passes.acts)
+    subst (λ (k : Command). Steps g.N.Node.view g.N.Node.read g.N.Node.place c.args.c c.args.self.now (command_of k) c.point.result c.point.new.self) (sym c.in-Settle.is)
+    (record { acts = acts-later c.args.c (seen g.N.Node.view g.N.Node.read c.args.self.now) (seen g.N.Node.view g.N.Node.read c.point.new.self) (Point ∷ []) c.point.result c.point.ensures.passes.acts; in_place = c.point.ensures.passes.in_place })

@@ -5,8 +5,8 @@ use Rattle.std.proofs.lemmas.List.{length-map}
 use Rattle.std.proofs.lemmas.List.FromFn.{length-range_with_len}
 use Rattle.model_world.specs.Lawful.{Stage}
 use Rattle.model_world.specs.World.{takes, Post}
-use Rattle.lasp_drive.specs.Driver.{seen, run_of, stage_of}
-use Rattle.lasp_drive.proofs.ActLaws.{halts-before, acts-sync, posted-stage, ok-then}
+use Rattle.lasp_drive.specs.Driver.{seen, stage_of}
+use Rattle.lasp_drive.proofs.ActLaws.{stops-before, acts-sync, posted-stage, ok-then}
 use Rattle.lasp_drive.proofs.driver.Driver.sync.Goals as goal
 
 pub take_all-requires-clause-messages : goal.take_all-requires-clause-messages
@@ -30,12 +30,14 @@ returns-in-Ok g c =
       acts = acts-sync c.args.c (seen g.N.Node.view g.N.Node.read c.args.self.now) (seen g.N.Node.view g.N.Node.read c.post_all.new.self) (seen g.N.Node.view g.N.Node.read c.take_all.new.self) many (length c.post_all.new.self.nodes.items) (length c.args.self.now.network.sent) c.len-first.result c.take_all.result
           size c.len-first.ensures.exact c.in-Ok.ensures.acts c.take_all.ensures.acts;
       reads = ok-then c.take_all.result c.args.self.now.reads c.post_all.new.self.reads c.take_all.new.self.reads c.in-Ok.ensures.reads c.take_all.ensures.reads;
+      in_place = c.take_all.ensures.in_place ∙ c.in-Ok.ensures.in_place;
     }
 
 pub returns-in-Err : goal.returns-in-Err
 returns-in-Err g c =
     let many = length c.args.self.now.nodes.items in
     record {
-      acts = halts-before c.args.c (run_of (seen g.N.Node.view g.N.Node.read c.args.self.now)) (map Post (range_with_len 0 many)) (flat_map (takes many (length c.args.self.now.network.sent)) (range_with_len 0 many)) c.in-Err.halt c.in-Err.ensures.acts;
+      acts = stops-before c.args.c (seen g.N.Node.view g.N.Node.read c.args.self.now) (map Post (range_with_len 0 many)) (flat_map (takes many (length c.args.self.now.network.sent)) (range_with_len 0 many)) c.in-Err.halt (map g.N.Node.view c.post_all.new.self.nodes.items) c.in-Err.ensures.acts;
       reads = tt;
+      in_place = c.in-Err.ensures.in_place;
     }

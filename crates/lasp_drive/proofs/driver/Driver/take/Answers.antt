@@ -1,53 +1,11 @@
-use Rattle.std.proofs.Common.{◌∷◌, [], length, refl}
-use Rattle.std.specs.Arc.{arc_value}
-use Rattle.model_world.specs.World.{Take, delivered, sent_number}
-use Rattle.lasp_drive.specs.Driver.{seen, run_of}
-use Rattle.lasp_drive.specs.Acts.{Acted}
-use Rattle.lasp_drive.specs.declared.halt.Halt.TheVariants as halt
-use Rattle.lasp_drive.proofs.NodeLaws.{seen-at, seen-low, seen-set, held-here, sent-read, deliver-stops, stopped-delivery}
-use Rattle.lasp_drive.proofs.ActLaws.{halts-one}
-use Rattle.lasp_drive.proofs.StepLaws.{with_nodes, may-take, acted-take}
+use Rattle.std.proofs.Common.{◌∷◌, [], refl}
+use Rattle.std.proofs.lemmas.Result.{err_from_is_err_and}
+use Rattle.model_world.specs.World.{Take}
+use Rattle.lasp_drive.specs.Driver.{seen}
+use Rattle.lasp_drive.proofs.ActLaws.{stops-early}
 use Rattle.lasp_drive.proofs.driver.Driver.take.Goals as goal
 
-pub deliver-requires-clause-held : goal.deliver-requires-clause-held
-deliver-requires-clause-held g c =
-    let d = seen g.N.Node.view g.N.Node.read c.args.self.now in
-    let nodes = c.args.self.now.nodes.items in
-    let n = g.N.Node.view c.index_mut.result.now in
-    let at = seen-at g.N.Node.view nodes c.args.p c.index_mut.result.now (seen-low g.N.Node.view nodes c.args.p c.requires.lawful.0) c.index_mut.ensures.value in
-    held-here d.graph (length d.nodes) d.nodes c.args.p n (c.requires.ready.nodes c.args.p n at) at (c.requires.ready.sound.held c.args.p c.requires.lawful.0)
-
-pub deliver-requires-clause-sent : goal.deliver-requires-clause-sent
-deliver-requires-clause-sent g c =
-    let d = seen g.N.Node.view g.N.Node.read c.args.self.now in
-    let nodes = c.args.self.now.nodes.items in
-    let m = arc_value c.in_ok-message.message in
-    let at = seen-at g.N.Node.view nodes c.args.p c.index_mut.result.now (seen-low g.N.Node.view nodes c.args.p c.requires.lawful.0) c.index_mut.ensures.value in
-    may-take c.args.c c.args.p c.args.i d (g.N.Node.view c.index_mut.result.now) m c.requires.ready c.requires.lawful at (sent-read d.sent c.args.i m c.in_ok-message.ensures.message)
-
-pub returns-in-Ok : goal.returns-in-Ok
-returns-in-Ok g c =
-    let d = seen g.N.Node.view g.N.Node.read c.args.self.now in
-    let nodes = c.args.self.now.nodes.items in
-    let m = arc_value c.in_ok-message.message in
-    let at = seen-at g.N.Node.view nodes c.args.p c.index_mut.result.now (seen-low g.N.Node.view nodes c.args.p c.requires.lawful.0) c.index_mut.ensures.value in
-    record {
-      acts = seen-set g.N.Node.view nodes c.args.p c.deliver.new.self (λ ns. Acted c.args.c c.args.c d (Take c.args.p c.args.i ∷ []) (with_nodes d ns))
-          (acted-take c.args.c c.args.p c.args.i d (g.N.Node.view c.index_mut.result.now) (g.N.Node.view c.deliver.new.self) m c.requires.ready c.requires.lawful at (sent-read d.sent c.args.i m c.in_ok-message.ensures.message)
-          c.in-Ok.ensures.takes.still c.in-Ok.ensures.done.0 c.in-Ok.ensures.done.1 c.in-Ok.ensures.takes.calls c.in-Ok.ensures.takes.grew);
-      reads = refl;
-    }
-
-pub returns-in-Err-TooLarge : goal.returns-in-Err-TooLarge
-returns-in-Err-TooLarge g c =
-    let d = seen g.N.Node.view g.N.Node.read c.args.self.now in
-    let nodes = c.args.self.now.nodes.items in
-    let m = arc_value c.in_ok-message.message in
-    let n = g.N.Node.view c.index_mut.result.now in
-    let at = seen-at g.N.Node.view nodes c.args.p c.index_mut.result.now (seen-low g.N.Node.view nodes c.args.p c.requires.lawful.0) c.index_mut.ensures.value in
-    record {
-      acts = halts-one c.args.c (run_of d) (Take c.args.p c.args.i) (halt.TooLarge c.args.c c.args.p c.in-Err-TooLarge.x)
-          (deliver-stops (run_of d) m (sent_number d.sent c.args.i) d.nodes c.args.c c.args.p c.in-Err-TooLarge.x n (c.requires.ready.nodes c.args.p n at).graph (sent-read d.sent c.args.i m c.in_ok-message.ensures.message) at
-          (stopped-delivery (delivered n.decls m n.peer) (g.N.Node.view c.deliver.new.self).peer c.in-Err-TooLarge.field-0 c.in-Err-TooLarge.x c.in-Err-TooLarge.field-0-is c.in-Err-TooLarge.ensures.done));
-      reads = tt;
-    }
+pub returns-in_err-message : goal.returns-in_err-message
+returns-in_err-message g c =
+    let p = err_from_is_err_and c.from_residual.result c.from_residual.ensures.1 in
+    rw (p.1, p.2) (record { acts = stops-early c.args.c (seen g.N.Node.view g.N.Node.read c.args.self.now) (Take c.args.p c.args.i ∷ []); reads = tt; in_place = refl })

@@ -1,16 +1,16 @@
-use Rattle.std.proofs.Common.{refl, ◌≡◌, ◌++◌, ◌∷◌, [], ◌<◌, length, take, ◌∙◌, arith, subst, sym, ap}
+use Rattle.std.proofs.Common.{refl, ◌≡◌, ◌++◌, ◌∷◌, [], ◌<◌, length, take, ◌∙◌, arith, subst, sym, ap, map}
 use Rattle.std.specs.Prelude.{ℕ, List, flat_map}
 use Rattle.std.specs.List.{range_with_len}
 use Rattle.std.proofs.lemmas.List.{length-map}
 use Rattle.model_world.specs.Lawful.{Stage}
-use Rattle.model_world.specs.World.{Act, each, takes}
-use Rattle.lasp_drive.specs.Driver.{seen, run_of, stage_of}
-use Rattle.lasp_drive.specs.Acts.{Acted, Halts}
-use Rattle.lasp_drive.proofs.ActLaws.{acted-none, done-next, done-halts, done-all, all-parts, append-none, all-taken-stage}
+use Rattle.model_world.specs.World.{Act, takes}
+use Rattle.lasp_drive.specs.Driver.{seen, stage_of}
+use Rattle.lasp_drive.specs.Acts.{Acted, StopsWithin}
+use Rattle.lasp_drive.proofs.ActLaws.{acted-none, done-next, done-stops, done-all, all-parts, append-none, all-taken-stage}
 use Rattle.lasp_drive.proofs.driver.Driver.take_all.Goals as goal
 
 pub loop-p-init : goal.loop-p-init
-loop-p-init g c = record { within = omega arith; done = acted-none c.args.c (seen g.N.Node.view g.N.Node.read c.args.self.now) c.requires.ready; reads = refl }
+loop-p-init g c = record { within = omega arith; done = acted-none c.args.c (seen g.N.Node.view g.N.Node.read c.args.self.now) c.requires.ready; reads = refl; in_place = refl }
 
 pub take_others-requires-clause-node : goal.take_others-requires-clause-node
 take_others-requires-clause-node g c =
@@ -41,6 +41,7 @@ loop-p-preserved g c =
           (subst (λ (all : List Act). Acted c.args.c c.args.c now all next) (sym (append-none (takes many c.args.i c.loop-p.p)))
           (subst (λ (k : ℕ). Acted c.args.c c.args.c now (takes k c.args.i c.loop-p.p) next) size c.in-Ok.ensures.acts));
       reads = c.in-Ok.ensures.reads ∙ c.loop-p.invariant.reads;
+      in_place = c.in-Ok.ensures.in_place ∙ c.loop-p.invariant.in_place;
     }
 
 pub returns-in-Err : goal.returns-in-Err
@@ -49,11 +50,12 @@ returns-in-Err g c =
     let size : length c.loop-p.self.nodes.items ≡ many = omega (arith, c.loop-p.invariant.done.size, length-map c.args.self.now.nodes.items g.N.Node.view, length-map c.loop-p.self.nodes.items g.N.Node.view) in
     let now = seen g.N.Node.view g.N.Node.read c.loop-p.self in
     record {
-      acts = done-halts (flat_map (takes many c.args.i)) (all-parts many c.args.i) c.args.c many (seen g.N.Node.view g.N.Node.read c.args.self.now) c.loop-p.p now c.in-Err.halt
+      acts = done-stops (flat_map (takes many c.args.i)) (all-parts many c.args.i) c.args.c many (seen g.N.Node.view g.N.Node.read c.args.self.now) c.loop-p.p now c.in-Err.halt (map g.N.Node.view c.take_others.new.self.nodes.items)
           (omega (arith, c.loop-p-test.true, c.len-p-end.ensures)) c.loop-p.invariant.done
-          (subst (λ (all : List Act). Halts (each c.args.c (run_of now) all) c.in-Err.halt) (sym (append-none (takes many c.args.i c.loop-p.p)))
-          (subst (λ (k : ℕ). Halts (each c.args.c (run_of now) (takes k c.args.i c.loop-p.p)) c.in-Err.halt) size c.in-Err.ensures.acts));
+          (subst (λ (all : List Act). StopsWithin c.args.c now all c.in-Err.halt (map g.N.Node.view c.take_others.new.self.nodes.items)) (sym (append-none (takes many c.args.i c.loop-p.p)))
+          (subst (λ (k : ℕ). StopsWithin c.args.c now (takes k c.args.i c.loop-p.p) c.in-Err.halt (map g.N.Node.view c.take_others.new.self.nodes.items)) size c.in-Err.ensures.acts));
       reads = tt;
+      in_place = c.in-Err.ensures.in_place ∙ c.loop-p.invariant.in_place;
     }
 
 pub returns : goal.returns
@@ -63,4 +65,5 @@ returns g c =
       acts = done-all (flat_map (takes many c.args.i)) (all-parts many c.args.i) c.args.c many (seen g.N.Node.view g.N.Node.read c.args.self.now) c.loop-p.p (seen g.N.Node.view g.N.Node.read c.loop-p.self)
           (omega (arith, c.loop-p-test.false, c.len-p-end.ensures)) c.loop-p.invariant.done;
       reads = c.loop-p.invariant.reads;
+      in_place = c.loop-p.invariant.in_place;
     }

@@ -3,12 +3,13 @@ use Rattle.std.specs.Arc.{arc_value}
 use Rattle.model_journal.specs.Entry.{Deliver, entry}
 use Rattle.model_journal.specs.Journal.{graph, vals}
 use Rattle.model_world.specs.World.{delivered}
+use Rattle.model_core.specs.Core.{entered}
 use Rattle.model_core.specs.Peer.{peer_of}
 use Rattle.model_core.proofs.PeerLaws.{graph-delivered}
 use Rattle.lasp_drive.specs.Node.{Delivers, TakesIn}
 use Rattle.lasp_drive.specs.declared.node.NodeStop.{NodeStop}
 use Rattle.lasp_node.specs.View.{node_of}
-use Rattle.lasp_node.proofs.CallLaws.{takes-ok, takes-none}
+use Rattle.lasp_node.proofs.CallLaws.{takes-ok, takes-none, frame-stays}
 use Rattle.lasp_node.proofs.NodeLaws.{not-wrong, delivered-ok, delivered-large}
 use Rattle.lasp_node.proofs.node.CoreNodeNode.deliver.Goals.{in-Ok, in-Err-TooManyRows, in-Err-Memory}
 use Rattle.lasp_node.proofs.node.CoreNodeNode.deliver.Goals as goal
@@ -42,3 +43,6 @@ returns-clause-takes c =
       | in-Err-TooManyRows w ↦ subst (λ (r : Result (Unit {0}) NodeStop). TakesIn a (node_of core) r (node_of new)) (sym w.result-is) (takes-none core new a _ w.in-Err-TooManyRows.ensures.err)
       | in-Err-Memory w ↦ subst (λ (r : Result (Unit {0}) NodeStop). TakesIn a (node_of core) r (node_of new)) (sym w.result-is) (takes-none core new a _ w.in-Err-Memory.ensures.err)
     ]
+
+pub returns-clause-place : goal.returns-clause-place
+returns-clause-place c = frame-stays c.deliver.result c.args.self.now.core c.deliver.new.self (entered (entry 0 (Deliver c.args.i (arc_value c.args.m.now))) c.args.self.now.core) refl c.deliver.ensures.ok c.deliver.ensures.err

@@ -7,3 +7,6 @@ returns-clause-settled g c = on-ok c.settle-settled.result (settled-shown c.args
 
 pub returns-clause-grew : goal.returns-clause-grew
 returns-clause-grew g c = settled-grew c.args.self.now.core c.settle-settled.new.core c.settle-settled.ensures.bound c.recall-2.ensures.core.legal
+
+pub returns-clause-place : goal.returns-clause-place
+returns-clause-place g c = c.settle-settled.ensures.bound.frame

@@ -1,13 +1,14 @@
 use Rattle.std.proofs.Common.{Result, refl, sym, subst}
 use Rattle.model_journal.specs.Entry.{Update, entry}
 use Rattle.model_world.specs.World.{updated}
+use Rattle.model_core.specs.Core.{entered}
 use Rattle.model_core.specs.Peer.{peer_of}
 use Rattle.model_core.proofs.PeerLaws.{graph-updated}
 use Rattle.lasp_state.specs.State.{op_of}
 use Rattle.lasp_drive.specs.Node.{Updates, TakesIn}
 use Rattle.lasp_drive.specs.declared.node.NodeStop.{NodeStop}
 use Rattle.lasp_node.specs.View.{node_of}
-use Rattle.lasp_node.proofs.CallLaws.{takes-ok, takes-none}
+use Rattle.lasp_node.proofs.CallLaws.{takes-ok, takes-none, frame-stays}
 use Rattle.lasp_node.proofs.NodeLaws.{IsFit, updated-ok, updated-large}
 use Rattle.lasp_node.proofs.node.CoreNodeNode.update.Goals.{in-Ok, in-Err-TooManyRows, in-Err-Memory}
 use Rattle.lasp_node.proofs.node.CoreNodeNode.update.Goals as goal
@@ -36,3 +37,6 @@ returns-clause-takes c =
       | in-Err-TooManyRows w ↦ subst (λ (r : Result (Unit {0}) NodeStop). TakesIn a (node_of core) r (node_of new)) (sym w.result-is) (takes-none core new a _ w.in-Err-TooManyRows.ensures.err)
       | in-Err-Memory w ↦ subst (λ (r : Result (Unit {0}) NodeStop). TakesIn a (node_of core) r (node_of new)) (sym w.result-is) (takes-none core new a _ w.in-Err-Memory.ensures.err)
     ]
+
+pub returns-clause-place : goal.returns-clause-place
+returns-clause-place c = frame-stays c.update.result c.args.self.now.core c.update.new.self (entered (entry 0 (Update c.args.x (op_of c.args.op.now))) c.args.self.now.core) refl c.update.ensures.ok c.update.ensures.err

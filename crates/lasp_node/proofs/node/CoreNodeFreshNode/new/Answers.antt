@@ -4,7 +4,7 @@ use Rattle.std.specs.Arc.{arc_value}
 use Rattle.model_graph.specs.Graph.{Decl}
 use Rattle.lasp_core.specs.Core.{fresh_core}
 use Rattle.lasp_node.proofs.CallLaws.{fresh-node}
-use Rattle.lasp_node.proofs.node.CoreNodeNode.new.Goals as goal
+use Rattle.lasp_node.proofs.node.CoreNodeFreshNode.new.Goals as goal
 
 pub returns : goal.returns
 returns c =

@@ -1,4 +1,4 @@
-use Rattle.std.proofs.Common.{◌+◌, ◌∷◌, [], refl, length, drop, map, sym, subst, arith}
+use Rattle.std.proofs.Common.{◌+◌, ◌∷◌, [], refl, length, drop, map, sym, subst, arith, ◌∙◌}
 use Rattle.std.specs.Prelude.{ℕ, List}
 use Rattle.std.specs.Arc.{arc_value}
 use Rattle.model_graph.specs.Graph.{Decl}
@@ -9,8 +9,9 @@ use Rattle.model_world.specs.Lawful.{Stage, AreLawful}
 use Rattle.lasp_graph.specs.Library.{library_of}
 use Rattle.lasp_script.specs.Command.{command_of}
 use Rattle.lasp_drive.specs.Driver.{seen, stage_of}
-use Rattle.lasp_drive.proofs.PlayLaws.{IsUnderWay, drop-at, drop-past, graph-so-far, fits-so-far, way-begins, way-next, way-halts, way-ends, graph-next, stage-next}
-use Rattle.lasp_drive.proofs.driver.Driver.play.Goals as goal
+use Rattle.lasp_drive.specs.Stretch.{GoesOn}
+use Rattle.lasp_drive.proofs.PlayLaws.{drop-at, drop-past, graph-so-far, fits-so-far, way-begins, way-next, way-stops, way-ends, graph-next, stage-next}
+use Rattle.lasp_drive.proofs.driver.Driver.run_through.Goals as goal
 
 pub loop-i-init : goal.loop-i-init
 loop-i-init g c =
@@ -18,7 +19,8 @@ loop-i-init g c =
     record {
       number = omega arith;
       within = omega arith;
-      way = way-begins d c.args.script.now.commands c.requires.ready;
+      way = way-begins 1 d c.args.script.now.commands c.requires.ready;
+      in_place = refl;
       lawful = subst (λ (s : Stage). AreLawful (length d.nodes) s c.args.script.now.commands) (sym c.requires.stage) c.requires.lawful;
       graph = c.requires.graph;
       fits = c.requires.fits;
@@ -53,13 +55,14 @@ loop-i-preserved g c =
     let next = seen g.N.Node.view g.N.Node.read c.step.new.self in
     let at = drop-at ks c.loop-i.i k c.at.ensures in
     let both = subst (λ (left : List plain.Command). AreLawful (length now.nodes) (stage_of now) left) at c.loop-i.invariant.lawful in
-    let graph = graph-next c.loop-i.c (length now.nodes) now next k refl c.in-Ok.ensures in
+    let graph = graph-next c.loop-i.c (length now.nodes) now next k refl c.in-Ok.ensures.acts in
     record {
       number = omega (arith, c.loop-i.invariant.number);
       within = omega (arith, c.loop-i-test.true, c.len-i-end.ensures);
-      way = way-next c.loop-i.c old now next k rest ks (subst (λ (left : List plain.Command). IsUnderWay c.loop-i.c old now left ks) at c.loop-i.invariant.way) c.in-Ok.ensures;
-      lawful = subst (λ (many : ℕ). AreLawful many (stage_of next) rest) (sym c.in-Ok.ensures.size)
-          (subst (λ (s : Stage). AreLawful (length now.nodes) s rest) (sym (stage-next c.loop-i.c (length now.nodes) now next k refl c.in-Ok.ensures)) both.1);
+      way = way-next 1 c.loop-i.c old now next k rest ks (subst (λ (left : List plain.Command). GoesOn 1 c.loop-i.c old now ks left) at c.loop-i.invariant.way) c.in-Ok.ensures.acts;
+      in_place = c.in-Ok.ensures.in_place ∙ c.loop-i.invariant.in_place;
+      lawful = subst (λ (many : ℕ). AreLawful many (stage_of next) rest) (sym c.in-Ok.ensures.acts.size)
+          (subst (λ (s : Stage). AreLawful (length now.nodes) s rest) (sym (stage-next c.loop-i.c (length now.nodes) now next k refl c.in-Ok.ensures.acts)) both.1);
       graph = subst (λ (h : List Decl). IsGraph (grown h rest)) (sym graph) (subst (λ (left : List plain.Command). IsGraph (grown now.graph left)) at c.loop-i.invariant.graph);
       fits = subst (λ (h : List Decl). FitsAll (library_of c.args.lib.now) (grown h rest)) (sym graph) (subst (λ (left : List plain.Command). FitsAll (library_of c.args.lib.now) (grown now.graph left)) at c.loop-i.invariant.fits);
     }
@@ -70,7 +73,10 @@ returns-in-Err g c =
     let k = command_of c.at.result.now in
     let old = seen g.N.Node.view g.N.Node.read c.args.self.now in
     let now = seen g.N.Node.view g.N.Node.read c.loop-i.self in
-    way-halts c.loop-i.c old now k (drop (c.loop-i.i + 1) ks) ks c.in-Err.halt (subst (λ (left : List plain.Command). IsUnderWay c.loop-i.c old now left ks) (drop-at ks c.loop-i.i k c.at.ensures) c.loop-i.invariant.way) c.in-Err.ensures
+    record {
+      played = way-stops 1 c.loop-i.c old now k (drop (c.loop-i.i + 1) ks) ks c.in-Err.halt (map g.N.Node.view c.step.new.self.nodes.items) (subst (λ (left : List plain.Command). GoesOn 1 c.loop-i.c old now ks left) (drop-at ks c.loop-i.i k c.at.ensures) c.loop-i.invariant.way) c.in-Err.ensures.acts;
+      in_place = c.in-Err.ensures.in_place ∙ c.loop-i.invariant.in_place;
+    }
 
 pub point-requires-clause-ready : goal.point-requires-clause-ready
 point-requires-clause-ready g c = c.loop-i.invariant.way.ready
@@ -83,5 +89,8 @@ returns g c =
     let ks = c.args.script.now.commands in
     let old = seen g.N.Node.view g.N.Node.read c.args.self.now in
     let now = seen g.N.Node.view g.N.Node.read c.loop-i.self in
-    way-ends c.loop-i.c old now (seen g.N.Node.view g.N.Node.read c.point.new.self) ks c.point.result (omega (arith, c.loop-i.invariant.number, c.loop-i-test.false, c.loop-i.invariant.within, c.requires.few))
-    (subst (λ (left : List plain.Command). IsUnderWay c.loop-i.c old now left ks) (drop-past ks c.loop-i.i (omega (arith, c.loop-i-test.false, c.len-i-end.ensures))) c.loop-i.invariant.way) c.point.ensures.passes.acts c.point.ensures.settled
+    record {
+      played = way-ends c.loop-i.c old now (seen g.N.Node.view g.N.Node.read c.point.new.self) ks c.point.result (omega (arith, c.loop-i.invariant.number, c.loop-i-test.false, c.loop-i.invariant.within, c.requires.few))
+          (subst (λ (left : List plain.Command). GoesOn 1 c.loop-i.c old now ks left) (drop-past ks c.loop-i.i (omega (arith, c.loop-i-test.false, c.len-i-end.ensures))) c.loop-i.invariant.way) c.point.ensures.passes.acts c.point.ensures.settled;
+      in_place = c.point.ensures.passes.in_place ∙ c.loop-i.invariant.in_place;
+    }
