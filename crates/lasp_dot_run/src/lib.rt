@@ -19,6 +19,6 @@ mod text;
 mod words;
 
 pub use graph::one_set;
-pub use play::{play_dots, run_dots};
+pub use play::{DotRun, play_dots, run_dots};
 pub use replicas::DotReplicas;
 pub use words::first_other;

@@ -1,16 +1,13 @@
 //! A whole script.
 
 ghost use Rattle.std.specs.Prelude.{◌≡◌, ◌≤◌, ◌<◌, ◌++◌, ℕ, IfOk, OnOk, Ok, length, string_bytes};
-ghost use Rattle.model_graph.specs.Evaluation.{rows_at};
 ghost use Rattle.model_world.specs.Lawful.{IsLawful, IsWithinLimits, AreLawful};
 ghost use Rattle.model_world.specs.Report.{report_of};
 ghost use Rattle.model_world.specs.World.{Run, ended, peer_at};
-ghost use Rattle.model_known.specs.Follow.{Followed};
-ghost use Rattle.model_known.specs.Holds.{IsPlaceOf};
-ghost use Rattle.model_dots.specs.Dots.{dots_of};
-ghost use Rattle.model_dot_worlds.specs.DotReport.{dot_text, dot_output, dot_sizes};
-ghost use Rattle.model_dot_worlds.specs.DotWorld.{one_set, dots_at, dot_start, dot_play, AreDotCommands};
+ghost use Rattle.model_dot_worlds.specs.DotReport.{live_lines, dot_text, dot_output};
+ghost use Rattle.model_dot_worlds.specs.DotWorld.{one_set, dots_at, StandsFor, dot_start, dot_play, AreDotCommands};
 ghost use Rattle.model_dot_worlds.specs.Sizes.{CountAtMost};
+ghost use Rattle.model_dot_worlds.specs.Unlimited.{IsUnlimited};
 ghost use Rattle.lasp_dot_run.specs.Commands.{stage_at};
 
 use super::command::do_command;
@@ -38,38 +35,41 @@ fn play(replicas: &mut DotReplicas, text: &mut String, script: &Script) -> Resul
     Ok(())
 }
 
-/// Runs a script over the graph of one set on replicas without tombstones, and appends what it prints. At its end each replica stands for that of the script's run: it has the live rows and the counts of it.
-pub fn play_dots(
-    alloc: Global,
-    script: &Script,
-    text: &mut String,
-) -> Result<DotReplicas, AllocError>
+/// The replicas at the end of a script, and what they printed.
+#[derive(Drop)]
+pub struct DotRun {
+    pub replicas: DotReplicas,
+    pub text: String,
+}
+
+/// Runs a script over the graph of one set on replicas without tombstones. At its end each replica stands for that of the script's run in which no limit stops: it has the live rows and the counts of it.
+pub fn play_dots(alloc: Global, script: &Script) -> Result<DotRun, AllocError>
     requires lawful { IsLawful one_set script.now }
     requires limits { IsWithinLimits script.now }
     requires known { AreDotCommands script.now.commands }
-    ensures done { IfOk result (λ w. w ≡ dot_play (dot_start script.now.nodes) script.now.commands) }
-    ensures text { OnOk result (string_bytes text.new ≡ string_bytes text.old ++ dot_text (dot_start script.now.nodes) script.now.commands) }
-    ensures stands { (f : Followed) → IsPlaceOf one_set script.now.nodes script.now.commands f
-        → IfOk result (λ w. (p : ℕ) → p < script.now.nodes → dots_at w.nodes p ≡ dots_of (rows_at (peer_at f.run.peers p).contents 0) (peer_at f.run.peers p).counts) }
+    ensures done { IfOk result (λ r. r.replicas ≡ dot_play (dot_start script.now.nodes) script.now.commands) }
+    ensures text { IfOk result (λ r. string_bytes r.text ≡ dot_text (dot_start script.now.nodes) script.now.commands) }
+    ensures stands { (run : Run) → IsUnlimited one_set script.now.nodes script.now.commands run
+        → IfOk result (λ r. (p : ℕ) → p < script.now.nodes → StandsFor (dots_at r.replicas.nodes p) (peer_at run.peers p)) }
 {
     replicas_without_tombstones_stand_for_those_with_them();
     let mut replicas = DotReplicas::new(alloc, script.nodes())?;
-    play(&mut replicas, text, script)?;
-    Ok(replicas)
+    let mut text = String::new(alloc);
+    play(&mut replicas, &mut text, script)?;
+    Ok(DotRun { replicas, text })
 }
 
-/// What replicas without tombstones print of a script over the graph of one set, what each knows at the end, and how many pairs it keeps. All but the last is the report of the script's run, where that comes to its end. Nothing stops such replicas but want of memory.
+/// What replicas without tombstones print of a script over the graph of one set, what each knows at the end, and how many pairs it keeps: the report of the script's run, and how many live rows each node's set has. That run comes to its end, or is told as if no limit stopped it. Nothing stops such replicas but want of memory.
 pub fn run_dots(alloc: Global, script: &Script) -> Result<Vec<u8>, AllocError>
     requires lawful { IsLawful one_set script.now }
     requires limits { IsWithinLimits script.now }
     requires known { AreDotCommands script.now.commands }
     ensures output { IfOk result (λ text. text.items ≡ dot_output script.now.nodes script.now.commands) }
-    ensures report { (last : Run) → ended one_set script.now ≡ Ok last
-        → IfOk result (λ text. text.items ≡ report_of last ++ dot_sizes 0 (dot_play (dot_start script.now.nodes) script.now.commands).nodes) }
+    ensures report { (last : Run) → ended one_set script.now ≡ Ok last → IfOk result (λ text. text.items ≡ report_of last ++ live_lines 0 last.peers) }
+    ensures unlimited { (run : Run) → IsUnlimited one_set script.now.nodes script.now.commands run → IfOk result (λ text. text.items ≡ report_of run ++ live_lines 0 run.peers) }
 {
     reports_need_no_tombstones();
-    let mut text = String::new(alloc);
-    let replicas = play_dots(alloc, script, &mut text)?;
+    let DotRun { replicas, mut text } = play_dots(alloc, script)?;
     push_all_known(&mut text, &replicas)?;
     push_all_sizes(&mut text, &replicas)?;
     Ok(text.into_bytes())

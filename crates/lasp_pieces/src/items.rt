@@ -75,6 +75,7 @@ impl<'a, T: Share> Items<'a, T> {
     pub fn next(&mut self) -> Option<&'a T>
         ensures some { IfSome result (λ x. self.old ≡ x.now ∷ self.new) }
         ensures none { IfNone result (self.old ≡ []) }
+        ensures left { IfNone result (self.new ≡ []) }
     {
         let first = self.first()?;
         self.skip();

@@ -1,5 +1,5 @@
 -- Replicas without tombstones and those of the run agree at each place: each state stands for what its replica knows.
-use Rattle.std.proofs.Common.{◌≡◌, ℕ, ◌+◌, ◌≤◌, ◌<◌, ◌⊎◌, inl, inr, List, [], ◌∷◌, ◌++◌, length, slice_set, replicate, Ok, refl, sym, ap, subst, ◌∙◌, arith}
+use Rattle.std.proofs.Common.{◌≡◌, ℕ, ◌+◌, ◌≤◌, ◌<◌, ◌⊎◌, inl, inr, List, [], ◌∷◌, ◌++◌, length, slice_set, replicate, refl, sym, ap, subst, ◌∙◌, arith}
 use Rattle.model_values.specs.Value.{Val}
 use Rattle.model_values.specs.Row.{Row}
 use Rattle.model_sets.specs.Rows.{IsAscending, join, add_delta, remove_delta}
@@ -15,22 +15,23 @@ use Rattle.model_messages.specs.Message.{Message}
 use Rattle.model_world.specs.Command as command
 use Rattle.model_world.specs.Command.{Command}
 use Rattle.model_world.specs.Lawful.{Stage, opening_stage, stage_after, MayBeDone, AreLawful}
-use Rattle.model_world.specs.World.{Peer, Act, Update, Post, Take, no_peer, fresh_peer, peer_at, updated, delivered, message_at, no_message, sent_number, sync_acts, acts}
+use Rattle.model_world.specs.World.{Peer, Run, Act, Update, Post, Take, no_peer, fresh_peer, peer_at, updated, delivered, message_at, no_message, sent_number, sync_acts, acts}
 use Rattle.model_known.specs.Delta.{Delta, deltas_at, brought_to, join_all, known}
-use Rattle.model_known.specs.Follow.{Followed, delta_of, follow_step, follow, begin}
-use Rattle.model_known.specs.Holds.{IsPlaceOf}
+use Rattle.model_known.specs.Follow.{Followed, delta_of, begin}
 use Rattle.model_known.proofs.EffectLaws.{followed}
 use Rattle.model_known.proofs.VariableLaws.{known-ordered}
 use Rattle.model_known.proofs.UpdateLaws.{known-kept, own-holds}
 use Rattle.model_known.proofs.KnownLaws.{known-larger, known-nothing}
-use Rattle.model_known.proofs.SoundLaws.{IsSound, sound-begin, sound-act, first-empty}
-use Rattle.model_known.proofs.FollowLaws.{afters, bound, step-effect}
+use Rattle.model_known.proofs.SoundLaws.{IsSound, sound-act, first-empty}
+use Rattle.model_known.proofs.FollowLaws.{afters}
 use Rattle.model_known.proofs.RoundLaws.{AreCalm, calm-sync}
-use Rattle.model_known.proofs.PlayLaws.{IsAt, stage_of, step-sound, place-sound}
+use Rattle.model_known.proofs.PlayLaws.{IsAt, stage_of}
 use Rattle.model_dots.specs.Dots.{Dots, no_dots, join_dots, raised, dots_of}
 use Rattle.model_dots.proofs.StandLaws.{stands-add, stands-remove, stands-join, live-visible}
+use Rattle.model_dot_worlds.specs.Unlimited.{IsUnlimited}
 use Rattle.model_dot_worlds.specs.Counted.{IsFree}
-use Rattle.model_dot_worlds.specs.DotWorld.{one_set, DotWorld, dots_at, dot_start, IsDotCommand, AreDotCommands, dot_acts, dots_updated, dot_act, dot_each, dot_play}
+use Rattle.model_dot_worlds.specs.DotWorld.{one_set, DotWorld, dots_at, StandsFor, dot_start, IsDotCommand, AreDotCommands, dot_acts, dots_updated, dot_act, dot_each, dot_play}
+use Rattle.model_dot_worlds.proofs.UnlimitedLaws.{followed_all, all-run, step-stands, begin-at, all-sound}
 use Rattle.model_dot_worlds.proofs.CountedLaws.{Counted, counted-take, counted-post, counted-begin, counted-step, has-counted}
 
 -- what stands for all that is known of the set by these counts
@@ -204,17 +205,14 @@ free-command (command.Read p x until) h = tt
 free-command (command.Await p x until) h = tt
 free-command (command.Declare d) h = tt
 
-pub follow-agrees : (nodes c : ℕ) (stage : Stage) (f last : Followed) (w : DotWorld) (commands : List Command) → IsAt nodes stage f → AreLawful nodes stage commands → AreDotCommands commands → follow c f commands ≡ Ok last
-    → Counted nodes f → Agrees nodes f w → Agrees nodes last (dot_play w commands)
-unfolding follow dot_play
-follow-agrees nodes c stage f last w [] at lawful dots e counted a = subst (λ (z : Followed). Agrees nodes z w) (let same : f ≡ last = cc in same) a
-follow-agrees nodes c stage f last w (k ∷ rest) at lawful dots e counted a =
-    let both = bound (follow_step c f k) (λ next. follow (c + 1) next rest) last e in
+all-agrees : (nodes : ℕ) (stage : Stage) (f : Followed) (w : DotWorld) (commands : List Command) → IsAt nodes stage f → AreLawful nodes stage commands → AreDotCommands commands → Counted nodes f → Agrees nodes f w
+    → Agrees nodes (followed_all f commands) (dot_play w commands)
+unfolding dot_play
+all-agrees nodes stage f w [] at lawful dots counted a = a
+all-agrees nodes stage f w (k ∷ rest) at lawful dots counted a =
     let may : MayBeDone nodes (stage_of f) k = subst (λ (z : Stage). MayBeDone nodes z k) at.stands lawful.0 in
-    let is : both.0 ≡ afters f (acts f.run k) = step-effect c f both.0 k both.1 in
-    follow-agrees nodes (c + 1) (stage_after nodes stage k) both.0 last (dot_each w (dot_acts w k)) rest (step-sound nodes c stage f both.0 k at lawful.0 both.1) lawful.1 dots.1 both.2
-    (subst (Counted nodes) (sym is) (counted-step nodes f k at.sound may (free-command k dots.0) counted))
-    (subst (λ (z : Followed). Agrees nodes z (dot_each w (dot_acts w k))) (sym is) (step-agrees nodes f w k at.sound counted may dots.0 a))
+    all-agrees nodes (stage_after nodes stage k) (afters f (acts f.run k)) (dot_each w (dot_acts w k)) rest (step-stands nodes stage f k at lawful.0) lawful.1 dots.1
+    (counted-step nodes f k at.sound may (free-command k dots.0) counted) (step-agrees nodes f w k at.sound counted may dots.0 a)
 
 pub begin-agrees : (nodes : ℕ) → Agrees nodes (begin one_set nodes) (dot_start nodes)
 begin-agrees nodes = record {
@@ -228,17 +226,27 @@ begin-agrees nodes = record {
   messages = λ i. known-none one_set nodes (replicate nodes []);
 }
 
-pub place-agrees : (nodes : ℕ) (commands : List Command) (f : Followed) → IsPlaceOf one_set nodes commands f → AreDotCommands commands → (p : ℕ) → p < nodes
-    → dots_at (dot_play (dot_start nodes) commands).nodes p ≡ dots_of (rows_at (peer_at f.run.peers p).contents 0) (peer_at f.run.peers p).counts
-place-agrees nodes commands f place dots p member =
-    let a = follow-agrees nodes 1 (opening_stage one_set) (begin one_set nodes) f (dot_start nodes) commands (record { sound = sound-begin one_set nodes; stands = refl }) place.lawful dots place.reached (counted-begin one_set nodes) (begin-agrees nodes) in
-    let s = place-sound one_set nodes commands f place in
-    let low : 0 < length f.run.graph = omega (arith, ap (λ (g : List Decl). length g) a.graph) in
-    a.peers p member ∙ ap (λ (k : Content). dots_of k.rows (peer_at f.run.peers p).counts) (sym ((s.holds p member).knows 0 low))
+-- ---- the run in which nothing stops
 
-pub place-visible : (nodes : ℕ) (commands : List Command) (f : Followed) → IsPlaceOf one_set nodes commands f → AreDotCommands commands → (p : ℕ) → p < nodes
-    → visible (dots_at (dot_play (dot_start nodes) commands).nodes p).rows ≡ visible (rows_at (peer_at f.run.peers p).contents 0)
-place-visible nodes commands f place dots p member =
-    ap (λ (d : Dots). visible d.rows) (place-agrees nodes commands f place dots p member) ∙ live-visible (rows_at (peer_at f.run.peers p).contents 0)
+module _ (nodes : ℕ) (commands : List Command) (lawful : AreLawful nodes (opening_stage one_set) commands) (dots : AreDotCommands commands) where
+  abbrev at_end : Followed
+  at_end = followed_all (begin one_set nodes) commands
 
-pub ruleset agreement = (place-agrees, place-visible)
+  pub end-agrees : Agrees nodes (followed_all (begin one_set nodes) commands) (dot_play (dot_start nodes) commands)
+  end-agrees = all-agrees nodes (opening_stage one_set) (begin one_set nodes) (dot_start nodes) commands (begin-at one_set nodes) lawful dots (counted-begin one_set nodes) (begin-agrees nodes)
+
+  pub end-stands : (p : ℕ) → p < nodes → StandsFor (dots_at (dot_play (dot_start nodes) commands).nodes p) (peer_at (followed_all (begin one_set nodes) commands).run.peers p)
+  end-stands p member =
+      let low : 0 < length at_end.run.graph = omega (arith, ap (λ (g : List Decl). length g) end-agrees.graph) in
+      end-agrees.peers p member ∙ ap (λ (k : Content). dots_of k.rows (peer_at at_end.run.peers p).counts) (sym (((all-sound one_set nodes commands lawful).holds p member).knows 0 low))
+
+pub each-stands : (nodes : ℕ) (commands : List Command) (run : Run) → IsUnlimited one_set nodes commands run → AreDotCommands commands → (p : ℕ) → p < nodes → StandsFor (dots_at (dot_play (dot_start nodes) commands).nodes p) (peer_at run.peers p)
+each-stands nodes commands run is dots p member =
+    subst (λ (r : Run). StandsFor (dots_at (dot_play (dot_start nodes) commands).nodes p) (peer_at r.peers p)) (all-run (begin one_set nodes) commands ∙ sym is.reached) (end-stands nodes commands is.lawful dots p member)
+
+pub each-visible : (nodes : ℕ) (commands : List Command) (run : Run) → IsUnlimited one_set nodes commands run → AreDotCommands commands → (p : ℕ) → p < nodes
+    → visible (dots_at (dot_play (dot_start nodes) commands).nodes p).rows ≡ visible (rows_at (peer_at run.peers p).contents 0)
+each-visible nodes commands run is dots p member =
+    ap (λ (d : Dots). visible d.rows) (each-stands nodes commands run is dots p member) ∙ live-visible (rows_at (peer_at run.peers p).contents 0)
+
+pub ruleset agreement = (each-stands, each-visible)

@@ -1,5 +1,5 @@
 -- In a run in which nothing is bound each row that is known has the token of a counted update, and a counted row is known.
-use Rattle.std.proofs.Common.{◌≡◌, ℕ, zero, suc, ◌+◌, ◌≤◌, ◌<◌, ◌⊎◌, inl, inr, Bool, true, false, ◌==◌, nat_lt, List, [], ◌∷◌, ◌++◌, length, slice_index_or, slice_set, replicate, Some, Ok, refl, sym, ap, subst, ◌∙◌, arith}
+use Rattle.std.proofs.Common.{◌≡◌, ℕ, zero, suc, ◌+◌, ◌≤◌, ◌<◌, ◌⊎◌, inl, inr, Bool, true, false, ◌==◌, nat_lt, List, [], ◌∷◌, ◌++◌, length, slice_index_or, slice_set, replicate, Some, refl, sym, ap, subst, ◌∙◌, arith}
 use Rattle.std.proofs.lemmas.Bool.Decides.{nat_tests}
 use Rattle.std.proofs.lemmas.Option.{none-some}
 use Rattle.model_values.specs.Value.{Val}
@@ -20,25 +20,27 @@ use Rattle.model_graph.proofs.LeastLaws.{least_of-rows}
 use Rattle.model_world.specs.Command as command
 use Rattle.model_world.specs.Command.{Command}
 use Rattle.model_world.specs.Lawful.{Stage, opening_stage, stage_after, MayBeDone, AreLawful}
-use Rattle.model_world.specs.World.{Peer, Act, Update, Post, Take, Extend, no_peer, fresh_peer, peer_at, updated, delivered, extended, message_at, no_message, sent_number, sync_acts, acts}
+use Rattle.model_world.specs.World.{Peer, Run, Act, Update, Post, Take, Extend, no_peer, fresh_peer, peer_at, updated, delivered, extended, message_at, no_message, sent_number, sync_acts, acts}
 use Rattle.model_known.specs.Delta.{Delta, deltas_at, brought_to, join_all, known}
 use Rattle.model_known.specs.Owner.{no_delta, delta_at}
-use Rattle.model_known.specs.Follow.{Followed, delta_of, follow_step, follow, begin}
-use Rattle.model_known.specs.Holds.{AreMade, IsPlaceOf}
+use Rattle.model_known.specs.Follow.{Followed, delta_of, begin}
+use Rattle.model_known.specs.Holds.{AreMade}
 use Rattle.model_known.proofs.EffectLaws.{followed}
 use Rattle.model_known.proofs.VariableLaws.{known-append, known-later}
 use Rattle.model_known.proofs.UpdateLaws.{known-kept, own-holds}
 use Rattle.model_known.proofs.HoldLaws.{each-var}
 use Rattle.model_known.proofs.TokenLaws.{known-owned}
 use Rattle.model_known.proofs.KnownLaws.{known-above, known-larger, known-nothing}
-use Rattle.model_known.proofs.SoundLaws.{IsSound, sound-begin, sound-act, first-empty}
-use Rattle.model_known.proofs.FollowLaws.{afters, bound, step-effect}
+use Rattle.model_known.proofs.SoundLaws.{IsSound, sound-act, first-empty}
+use Rattle.model_known.proofs.FollowLaws.{afters}
 use Rattle.model_known.proofs.RoundLaws.{AreCalm, calm-sync}
-use Rattle.model_known.proofs.PlayLaws.{IsAt, stage_of, step-sound, place-sound}
+use Rattle.model_known.proofs.PlayLaws.{IsAt, stage_of}
 use Rattle.model_dots.specs.Dots.{is_counted, IsGiven, raised, AreGiven, HasWhatIsCounted}
 use Rattle.model_dots.proofs.StandLaws.{raised-own, given-raised}
+use Rattle.model_dot_worlds.specs.Unlimited.{IsUnlimited}
 use Rattle.model_dot_worlds.specs.Counted.{IsFree, AreFree, AreCovered, AreNumbered}
 use Rattle.model_dots.proofs.DotLaws.{given-more}
+use Rattle.model_dot_worlds.proofs.UnlimitedLaws.{followed_all, all-run, step-stands, begin-at, all-sound}
 
 -- ---- rows
 
@@ -271,17 +273,15 @@ counted-step nodes f (command.Read p x until) s h free c = record { numbered = c
 counted-step nodes f (command.Await p x until) s h free c = record { numbered = c.numbered; peers = c.peers; messages = c.messages }
 counted-step nodes f (command.Declare d) s h free c = counted-extend nodes f s c d
 
-pub counted-follow : (nodes c : ℕ) (stage : Stage) (f last : Followed) (commands : List Command) → IsAt nodes stage f → AreLawful nodes stage commands → AreFree commands → follow c f commands ≡ Ok last → Counted nodes f → Counted nodes last
-unfolding follow
-counted-follow nodes c stage f last [] at lawful free e h = subst (Counted nodes) (let same : f ≡ last = cc in same) h
-counted-follow nodes c stage f last (k ∷ rest) at lawful free e h =
-    let both = bound (follow_step c f k) (λ next. follow (c + 1) next rest) last e in
-    counted-follow nodes (c + 1) (stage_after nodes stage k) both.0 last rest (step-sound nodes c stage f both.0 k at lawful.0 both.1) lawful.1 free.1 both.2
-    (subst (Counted nodes) (sym (step-effect c f both.0 k both.1)) (counted-step nodes f k at.sound (subst (λ (z : Stage). MayBeDone nodes z k) at.stands lawful.0) free.0 h))
+pub counted-all : (nodes : ℕ) (stage : Stage) (f : Followed) (commands : List Command) → IsAt nodes stage f → AreLawful nodes stage commands → AreFree commands → Counted nodes f → Counted nodes (followed_all f commands)
+counted-all nodes stage f [] at lawful free h = h
+counted-all nodes stage f (k ∷ rest) at lawful free h =
+    counted-all nodes (stage_after nodes stage k) (afters f (acts f.run k)) rest (step-stands nodes stage f k at lawful.0) lawful.1 free.1
+    (counted-step nodes f k at.sound (subst (λ (z : Stage). MayBeDone nodes z k) at.stands lawful.0) free.0 h)
 
-pub place-counted : (g : List Decl) (nodes : ℕ) (commands : List Command) (f : Followed) → IsPlaceOf g nodes commands f → AreFree commands → Counted nodes f
-place-counted g nodes commands f place free =
-    counted-follow nodes 1 (opening_stage g) (begin g nodes) f commands (record { sound = sound-begin g nodes; stands = refl }) place.lawful free place.reached (counted-begin g nodes)
+module _ (g : List Decl) (nodes : ℕ) (commands : List Command) (lawful : AreLawful nodes (opening_stage g) commands) (free : AreFree commands) where
+  pub all-counted : Counted nodes (followed_all (begin g nodes) commands)
+  all-counted = counted-all nodes (opening_stage g) (begin g nodes) commands (begin-at g nodes) lawful free (counted-begin g nodes)
 
 -- ---- who counts an update has its row
 
@@ -296,20 +296,30 @@ has-counted nodes f cs ds x s c made v (single q (suc j)) some counted =
     omega (arith, row, known-above f.run.graph nodes f.deltas cs x q j low (omega (arith, low, made q)) owned.0 (content.at_row v (single q (suc j))))
 
 -- what a node counts and doesn't show was removed there
-pub absent-dead : (g : List Decl) (nodes : ℕ) (commands : List Command) (f : Followed) → IsPlaceOf g nodes commands f → AreFree commands → (p q x : ℕ) → p < nodes → q < nodes → x < length f.run.graph
+absent-dead : (nodes : ℕ) (f : Followed) → IsSound nodes f → Counted nodes f → (p q x : ℕ) → p < nodes → q < nodes → x < length f.run.graph
     → (v : Val) (t : Tok) → HasRow (rows_at (peer_at f.run.peers q).contents x) v t → is_counted (peer_at f.run.peers p).counts t ≡ true → (mark (rows_at (peer_at f.run.peers p).contents x) v t ≡ 1 → ⊥)
     → IsDeadIn (rows_at (peer_at f.run.peers p).contents x) v t
-absent-dead g nodes commands f place free p q x member other low v t some counted hidden =
-    let s = place-sound g nodes commands f place in
-    let c = place-counted g nodes commands f place free in
+absent-dead nodes f s c p q x member other low v t some counted hidden =
     let theirs = subst (λ (k : Content). HasRow k.rows v t) ((s.holds q other).knows x low) some in
     let mine = has-counted nodes f (peer_at f.run.peers p).counts (peer_at f.run.peers q).counts x s c (s.holds p member).made v t theirs counted in
     let here : HasRow (rows_at (peer_at f.run.peers p).contents x) v t = subst (λ (k : Content). HasRow k.rows v t) (sym ((s.holds p member).knows x low)) mine in
     omega (arith, here, hidden, mark-small (rows_at (peer_at f.run.peers p).contents x) v t)
 
--- and each row that it has is of an update that it counts
-pub rows-given : (g : List Decl) (nodes : ℕ) (commands : List Command) (f : Followed) → IsPlaceOf g nodes commands f → AreFree commands → (p x : ℕ) → p < nodes → x < length f.run.graph
-    → AreGiven (rows_at (peer_at f.run.peers p).contents x) (peer_at f.run.peers p).counts
-rows-given g nodes commands f place free p x member low = held-given nodes f (place-sound g nodes commands f place) (place-counted g nodes commands f place free) p x member low
+-- ---- the run in which nothing stops
 
-pub ruleset counted = (rows-given, absent-dead)
+-- each row that it has is of an update that it counts
+pub rows-given : (g : List Decl) (nodes : ℕ) (commands : List Command) (run : Run) → IsUnlimited g nodes commands run → AreFree commands → (p x : ℕ) → p < nodes → x < length run.graph
+    → AreGiven (rows_at (peer_at run.peers p).contents x) (peer_at run.peers p).counts
+rows-given g nodes commands run is free p x member =
+    subst (λ (r : Run). x < length r.graph → AreGiven (rows_at (peer_at r.peers p).contents x) (peer_at r.peers p).counts) (all-run (begin g nodes) commands ∙ sym is.reached)
+    (held-given nodes (followed_all (begin g nodes) commands) (all-sound g nodes commands is.lawful) (all-counted g nodes commands is.lawful free) p x member)
+
+pub rows-removed : (g : List Decl) (nodes : ℕ) (commands : List Command) (run : Run) → IsUnlimited g nodes commands run → AreFree commands → (p q x : ℕ) → p < nodes → q < nodes → x < length run.graph
+    → (v : Val) (t : Tok) → HasRow (rows_at (peer_at run.peers q).contents x) v t → is_counted (peer_at run.peers p).counts t ≡ true → (mark (rows_at (peer_at run.peers p).contents x) v t ≡ 1 → ⊥)
+    → IsDeadIn (rows_at (peer_at run.peers p).contents x) v t
+rows-removed g nodes commands run is free p q x member other =
+    subst (λ (r : Run). x < length r.graph → (v : Val) (t : Tok) → HasRow (rows_at (peer_at r.peers q).contents x) v t → is_counted (peer_at r.peers p).counts t ≡ true
+    → (mark (rows_at (peer_at r.peers p).contents x) v t ≡ 1 → ⊥) → IsDeadIn (rows_at (peer_at r.peers p).contents x) v t) (all-run (begin g nodes) commands ∙ sym is.reached)
+    (absent-dead nodes (followed_all (begin g nodes) commands) (all-sound g nodes commands is.lawful) (all-counted g nodes commands is.lawful free) p q x member other)
+
+pub ruleset counted = (rows-given, rows-removed)

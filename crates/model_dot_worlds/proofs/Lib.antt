@@ -1,4 +1,5 @@
 -- The laws of such worlds.
+pub mod UnlimitedLaws
 pub mod CountedLaws
 pub mod AgreeLaws
 pub mod TextLaws

@@ -14,20 +14,21 @@ use Rattle.model_world.specs.Command.{Command, Script}
 use Rattle.model_world.specs.Lawful.{Stage, opening_stage, stage_after, MayBeDone, AreLawful, IsLawful}
 use Rattle.model_world.specs.Line.{line, known_line, print_line}
 use Rattle.model_world.specs.Report.{known_lines, read_lines, report_of}
-use Rattle.model_world.specs.World.{Peer, Run, Opened, Point, peer_at, shown_content_at, sync_acts, acts, act, ended}
-use Rattle.model_world.proofs.StopLaws.{point-same}
+use Rattle.model_world.specs.World.{Peer, Run, Opened, peer_at, shown_content_at, sync_acts, acts, ended}
 use Rattle.model_known.specs.Delta.{known}
-use Rattle.model_known.specs.Follow.{Followed, follow_step, follow, begin}
-use Rattle.model_known.proofs.SoundLaws.{IsSound, sound-begin}
-use Rattle.model_known.proofs.FollowLaws.{afters, bound, step-effect, follow-play}
+use Rattle.model_known.specs.Follow.{Followed, begin}
+use Rattle.model_known.proofs.SoundLaws.{IsSound}
+use Rattle.model_known.proofs.FollowLaws.{afters}
 use Rattle.model_known.proofs.RoundLaws.{calm-sync}
-use Rattle.model_known.proofs.PlayLaws.{IsAt, stage_of, step-sound, follow-sound}
+use Rattle.model_known.proofs.PlayLaws.{IsAt, stage_of}
 use Rattle.model_dots.specs.Dots.{Dots}
 use Rattle.model_dots.proofs.StandLaws.{live-visible}
-use Rattle.model_dot_worlds.specs.DotWorld.{one_set, DotWorld, dots_at, dot_start, IsDotCommand, AreDotCommands, dot_acts, dot_each, dot_play}
-use Rattle.model_dot_worlds.specs.DotReport.{dot_print, dot_text, dot_known, dot_report}
+use Rattle.model_dot_worlds.specs.Unlimited.{IsUnlimited}
+use Rattle.model_dot_worlds.specs.DotWorld.{one_set, DotWorld, dots_at, StandsFor, dot_start, IsDotCommand, AreDotCommands, dot_acts, dot_each, dot_play}
+use Rattle.model_dot_worlds.specs.DotReport.{dot_print, dot_text, dot_known, dot_sizes, live_lines, dot_report, dot_output}
+use Rattle.model_dot_worlds.proofs.UnlimitedLaws.{followed_all, all-run, step-stands, begin-at, all-sound, ended-unlimited}
 use Rattle.model_dot_worlds.proofs.CountedLaws.{Counted, counted-begin, counted-step}
-use Rattle.model_dot_worlds.proofs.AgreeLaws.{Agrees, free-command, begin-agrees, step-agrees, follow-agrees}
+use Rattle.model_dot_worlds.proofs.AgreeLaws.{Agrees, free-command, begin-agrees, step-agrees, end-agrees, end-stands}
 use Rattle.model_known.proofs.DirectLaws.{calm-text}
 
 -- ---- one line
@@ -64,47 +65,74 @@ step-text nodes f w (command.Read p x until) s h dot a = absurd dot
 step-text nodes f w (command.Await p x until) s h dot a = absurd dot
 step-text nodes f w (command.Declare d) s h dot a = absurd dot
 
-follow-text : (nodes c : ℕ) (stage : Stage) (f last : Followed) (w : DotWorld) (commands : List Command) → IsAt nodes stage f → AreLawful nodes stage commands → AreDotCommands commands → follow c f commands ≡ Ok last
-    → Counted nodes f → Agrees nodes f w → last.run.text ≡ f.run.text ++ dot_text w commands
-unfolding follow dot_text
-follow-text nodes c stage f last w [] at lawful dots e counted a = ap (λ (z : Followed). z.run.text) (let same : last ≡ f = cc in same) ∙ (sym (append-nil f.run.text))
-follow-text nodes c stage f last w (k ∷ rest) at lawful dots e counted a =
-    let both = bound (follow_step c f k) (λ next. follow (c + 1) next rest) last e in
+all-text : (nodes : ℕ) (stage : Stage) (f : Followed) (w : DotWorld) (commands : List Command) → IsAt nodes stage f → AreLawful nodes stage commands → AreDotCommands commands → Counted nodes f → Agrees nodes f w
+    → (followed_all f commands).run.text ≡ f.run.text ++ dot_text w commands
+unfolding dot_text
+all-text nodes stage f w [] at lawful dots counted a = sym (append-nil f.run.text)
+all-text nodes stage f w (k ∷ rest) at lawful dots counted a =
     let may : MayBeDone nodes (stage_of f) k = subst (λ (z : Stage). MayBeDone nodes z k) at.stands lawful.0 in
-    let is : both.0 ≡ afters f (acts f.run k) = step-effect c f both.0 k both.1 in
-    follow-text nodes (c + 1) (stage_after nodes stage k) both.0 last (dot_each w (dot_acts w k)) rest (step-sound nodes c stage f both.0 k at lawful.0 both.1) lawful.1 dots.1 both.2
-    (subst (Counted nodes) (sym is) (counted-step nodes f k at.sound may (free-command k dots.0) counted))
-    (subst (λ (z : Followed). Agrees nodes z (dot_each w (dot_acts w k))) (sym is) (step-agrees nodes f w k at.sound counted may dots.0 a))
-    ∙ ap (λ (words : List ℕ). words ++ dot_text (dot_each w (dot_acts w k)) rest) (ap (λ (z : Followed). z.run.text) is ∙ step-text nodes f w k at.sound may dots.0 a)
+    all-text nodes (stage_after nodes stage k) (afters f (acts f.run k)) (dot_each w (dot_acts w k)) rest (step-stands nodes stage f k at lawful.0) lawful.1 dots.1
+    (counted-step nodes f k at.sound may (free-command k dots.0) counted) (step-agrees nodes f w k at.sound counted may dots.0 a)
+    ∙ ap (λ (words : List ℕ). words ++ dot_text (dot_each w (dot_acts w k)) rest) (step-text nodes f w k at.sound may dots.0 a)
     ∙ append_assoc f.run.text (dot_print w k) (dot_text (dot_each w (dot_acts w k)) rest)
 
--- ---- what each replica knows
+-- ---- what each replica knows and keeps
 
-known-agrees : (p : ℕ) (peers : List Peer) (states : List Dots) → length states ≡ length peers → ((i : ℕ) → i < length peers → (dots_at states i).counts ≡ (peer_at peers i).counts) → known_lines p peers ≡ dot_known p states
+abbrev AllStand : List Dots → List Peer → Type 0
+AllStand states peers = (i : ℕ) → i < length peers → StandsFor (dots_at states i) (peer_at peers i)
+
+known-agrees : (p : ℕ) (peers : List Peer) (states : List Dots) → length states ≡ length peers → AllStand states peers → known_lines p peers ≡ dot_known p states
 known-agrees p [] [] long same = refl
 known-agrees p [] (d ∷ states) long same = absurd (omega (arith, long))
 known-agrees p (r ∷ peers) [] long same = absurd (omega (arith, long))
 known-agrees p (r ∷ peers) (d ∷ states) long same =
-    λ k. known_line p (sym (same 0 (omega arith)) k) ++ known-agrees (p + 1) peers states (omega (arith, long)) (λ i low. same (suc i) (omega (arith, low))) k
+    λ k. known_line p (sym (ap (λ (z : Dots). z.counts) (same 0 (omega arith))) k) ++ known-agrees (p + 1) peers states (omega (arith, long)) (λ i low. same (suc i) (omega (arith, low))) k
+
+sizes-agree : (p : ℕ) (peers : List Peer) (states : List Dots) → length states ≡ length peers → AllStand states peers → live_lines p peers ≡ dot_sizes p states
+sizes-agree p [] [] long same = refl
+sizes-agree p [] (d ∷ states) long same = absurd (omega (arith, long))
+sizes-agree p (r ∷ peers) [] long same = absurd (omega (arith, long))
+sizes-agree p (r ∷ peers) (d ∷ states) long same =
+    λ k. line (codes "dots" ∷ decimal p ∷ decimal (length (sym (ap (λ (z : Dots). z.rows) (same 0 (omega arith))) k)) ∷ []) ++ sizes-agree (p + 1) peers states (omega (arith, long)) (λ i low. same (suc i) (omega (arith, low))) k
 
 no-reads : (run : Run) (reads : List Opened) → reads ≡ [] → read_lines 0 run reads ≡ []
 no-reads run reads e = ap (read_lines 0 run) e
 
--- the report of a run of one set is that of its replicas without tombstones
-pub report-agrees : (script : Script) (last : Run) → IsLawful one_set script → AreDotCommands script.commands → ended one_set script ≡ Ok last → report_of last ≡ dot_report script.nodes script.commands
-report-agrees script last lawful dots e =
-    let both = bound (follow 1 (begin one_set script.nodes) script.commands) (λ f. act (1 + length script.commands) f.run Point) last (follow-play 1 (begin one_set script.nodes) script.commands ∙ e) in
-    let f = both.0 in
-    let same : last ≡ f.run = point-same (1 + length script.commands) 0 f.run.peers f.run last both.2 in
-    let at : IsAt script.nodes (opening_stage one_set) (begin one_set script.nodes) = record { sound = sound-begin one_set script.nodes; stands = refl } in
-    let a = follow-agrees script.nodes 1 (opening_stage one_set) (begin one_set script.nodes) f (dot_start script.nodes) script.commands at lawful.each dots both.1 (counted-begin one_set script.nodes) (begin-agrees script.nodes) in
-    let s = (follow-sound script.nodes 1 (opening_stage one_set) (begin one_set script.nodes) f script.commands at lawful.each both.1).sound in
-    let text : f.run.text ≡ dot_text (dot_start script.nodes) script.commands =
-    follow-text script.nodes 1 (opening_stage one_set) (begin one_set script.nodes) f (dot_start script.nodes) script.commands at lawful.each dots both.1 (counted-begin one_set script.nodes) (begin-agrees script.nodes) in
-    let known_text : known_lines 0 f.run.peers ≡ dot_known 0 (dot_play (dot_start script.nodes) script.commands).nodes =
-    known-agrees 0 f.run.peers (dot_play (dot_start script.nodes) script.commands).nodes (omega (arith, a.many, s.many)) (λ i low. ap (λ (d : Dots). d.counts) (a.peers i (omega (arith, low, s.many)))) in
-    ap report_of same
-    ∙ (λ k. text k ++ known_text k ++ no-reads f.run f.run.reads a.reads k)
-    ∙ sym ((sym (append-nil (dot_report script.nodes script.commands))))
+-- ---- the report
 
-pub ruleset reports = (report-agrees)
+module _ (nodes : ℕ) (commands : List Command) (lawful : AreLawful nodes (opening_stage one_set) commands) (dots : AreDotCommands commands) where
+  abbrev at_end : Run
+  at_end = (followed_all (begin one_set nodes) commands).run
+
+  abbrev states : List Dots
+  states = (dot_play (dot_start nodes) commands).nodes
+
+  many : length at_end.peers ≡ nodes
+  many = (all-sound one_set nodes commands lawful).many
+
+  long : length states ≡ length at_end.peers
+  long = (end-agrees nodes commands lawful dots).many ∙ sym many
+
+  stand : AllStand states at_end.peers
+  stand i low = end-stands nodes commands lawful dots i (omega (arith, low, many))
+
+  end-report : report_of (followed_all (begin one_set nodes) commands).run ≡ dot_report nodes commands
+  end-report =
+      let text : at_end.text ≡ dot_text (dot_start nodes) commands =
+      all-text nodes (opening_stage one_set) (begin one_set nodes) (dot_start nodes) commands (begin-at one_set nodes) lawful dots (counted-begin one_set nodes) (begin-agrees nodes) in
+      let known_text : known_lines 0 at_end.peers ≡ dot_known 0 states = known-agrees 0 at_end.peers states long stand in
+      (λ k. text k ++ known_text k ++ no-reads at_end at_end.reads (end-agrees nodes commands lawful dots).reads k) ∙ append-nil (dot_report nodes commands)
+
+  end-output : dot_output nodes commands ≡ report_of (followed_all (begin one_set nodes) commands).run ++ live_lines 0 (followed_all (begin one_set nodes) commands).run.peers
+  end-output = λ k. sym end-report k ++ sym (sizes-agree 0 at_end.peers states long stand) k
+
+-- what replicas without tombstones print and keep is told by the run in which nothing stops
+pub output-unlimited : (nodes : ℕ) (commands : List Command) (run : Run) → IsUnlimited one_set nodes commands run → AreDotCommands commands → dot_output nodes commands ≡ report_of run ++ live_lines 0 run.peers
+output-unlimited nodes commands run is dots =
+    subst (λ (r : Run). dot_output nodes commands ≡ report_of r ++ live_lines 0 r.peers) (all-run (begin one_set nodes) commands ∙ sym is.reached) (end-output nodes commands is.lawful dots)
+
+-- and by the run that comes to its end
+pub output-ended : (script : Script) (last : Run) → IsLawful one_set script → AreDotCommands script.commands → ended one_set script ≡ Ok last → dot_output script.nodes script.commands ≡ report_of last ++ live_lines 0 last.peers
+output-ended script last lawful dots e = output-unlimited script.nodes script.commands last (record { lawful = lawful.each; reached = ended-unlimited one_set script last e }) dots
+
+pub ruleset reports = (output-unlimited, output-ended)

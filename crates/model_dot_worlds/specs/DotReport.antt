@@ -1,11 +1,13 @@
 -- What such replicas print: a line for each print, and at the end what each knows and how many pairs it keeps.
-use Rattle.std.specs.Prelude.{ℕ, ◌+◌, List, [], ◌∷◌, ◌++◌, length, codes}
+use Rattle.std.specs.Prelude.{ℕ, ◌+◌, not, List, [], ◌∷◌, ◌++◌, length, filter, codes}
 use Rattle.std.specs.Fmt.{decimal}
 use Rattle.model_values.specs.Text.{shown_values}
 use Rattle.model_sets.specs.Values.{visible}
+use Rattle.model_graph.specs.Evaluation.{rows_at}
 use Rattle.model_world.specs.Command as command
 use Rattle.model_world.specs.Command.{Command}
 use Rattle.model_world.specs.Line.{line, known_line}
+use Rattle.model_world.specs.World.{Peer}
 use Rattle.model_dots.specs.Dots.{Dots}
 use Rattle.model_dot_worlds.specs.DotWorld.{DotWorld, dots_at, dot_start, dot_acts, dot_each, dot_play}
 
@@ -28,6 +30,11 @@ dot_known p (d ∷ states) = known_line p d.counts ++ dot_known (p + 1) states
 abbrev pub dot_sizes : ℕ → List Dots → List ℕ
 dot_sizes p [] = []
 dot_sizes p (d ∷ states) = line (codes "dots" ∷ decimal p ∷ decimal (length d.rows) ∷ []) ++ dot_sizes (p + 1) states
+
+-- `dots NODE NUMBER` for each replica with tombstones, the first being number p: how many live rows its set has
+abbrev pub live_lines : ℕ → List Peer → List ℕ
+live_lines p [] = []
+live_lines p (r ∷ peers) = line (codes "dots" ∷ decimal p ∷ decimal (length (filter (λ row. not row.1) (rows_at r.contents 0))) ∷ []) ++ live_lines (p + 1) peers
 
 -- the report of commands: what they print, and then what each replica knows
 abbrev pub dot_report : ℕ → List Command → List ℕ

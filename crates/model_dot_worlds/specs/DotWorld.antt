@@ -1,11 +1,12 @@
 -- Replicas of one set without tombstones that do the commands of a script: each keeps its state, and sends it whole.
-use Rattle.std.specs.Prelude.{ℕ, List, [], ◌∷◌, ◌++◌, length, slice_index_or, slice_set, replicate, codes}
+use Rattle.std.specs.Prelude.{◌≡◌, ℕ, List, [], ◌∷◌, ◌++◌, length, slice_index_or, slice_set, replicate, codes}
 use Rattle.model_states.specs.Update.{Op, Add, Remove}
 use Rattle.model_graph.specs.Graph.{Decl, OrSet}
+use Rattle.model_graph.specs.Evaluation.{rows_at}
 use Rattle.model_world.specs.Command as command
 use Rattle.model_world.specs.Command.{Command}
-use Rattle.model_world.specs.World.{Act, Update, Post, Take, Point, Show, sync_acts}
-use Rattle.model_dots.specs.Dots.{Dots, no_dots, join_dots, add_dot, remove_dots}
+use Rattle.model_world.specs.World.{Peer, Act, Update, Post, Take, Point, Show, sync_acts}
+use Rattle.model_dots.specs.Dots.{Dots, no_dots, join_dots, add_dot, remove_dots, dots_of}
 
 -- the graph: one observed-remove set, named a
 abbrev pub one_set : List Decl
@@ -18,6 +19,10 @@ pub record DotWorld : Type 0 where
 
 abbrev pub dots_at : List Dots → ℕ → Dots
 dots_at states i = slice_index_or states i (no_dots 0)
+
+-- a state stands for a replica with tombstones: it has the live rows of its set, and its counts
+abbrev pub StandsFor : Dots → Peer → Type 0
+StandsFor s r = s ≡ dots_of (rows_at r.contents 0) r.counts
 
 abbrev pub dot_start : ℕ → DotWorld
 dot_start nodes = record { nodes = replicate nodes (no_dots nodes); sent = [] }

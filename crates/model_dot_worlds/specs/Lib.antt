@@ -1,4 +1,5 @@
 -- Worlds of sets without tombstones.
+pub mod Unlimited
 pub mod DotWorld
 pub mod Counted
 pub mod DotReport

@@ -5,10 +5,12 @@ mod agreement;
 mod counted;
 mod report;
 mod sizes;
+mod unlimited;
 mod words;
 
 pub use agreement::replicas_without_tombstones_stand_for_those_with_them;
 pub use counted::what_is_counted_and_absent_was_removed;
 pub use report::reports_need_no_tombstones;
 pub use sizes::no_more_updates_are_counted_than_were_made;
+pub use unlimited::runs_go_as_if_nothing_stopped_them;
 pub use words::the_first_command_of_another_word_is_told;

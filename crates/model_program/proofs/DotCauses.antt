@@ -1,18 +1,19 @@
 -- The plan of `dots` over told contents, and how its calls may end.
 use Rattle.std.proofs.Common.{refl, sym, ap, subst, ◌∙◌}
-use Rattle.std.specs.Prelude.{◌≡◌, ◌<◌, ◌+◌, ◌++◌, Bool, true, false, nat_lt, ℕ, List, length, Option, Some, None, Ok, Err, Result}
+use Rattle.std.specs.Prelude.{◌≡◌, ◌⊎◌, ◌<◌, ◌+◌, ◌++◌, Bool, true, false, nat_lt, ℕ, List, length, Option, Some, None, Ok, Err, Result}
 use mathlib.Core.Logic.{inl, inr}
 use Rattle.model_functions.specs.Library.{Library}
 use Rattle.model_world.specs.Command.{Script}
 use Rattle.model_world.specs.Report.{report_of}
-use Rattle.model_world.specs.World.{Run, ended}
+use Rattle.model_world.specs.World.{Run, start, ended}
 use Rattle.model_scripts.specs.Script.{script_of}
 use Rattle.model_scripts.specs.declared.script_why.ScriptWhy.{ScriptWhy}
 use Rattle.model_scripts.proofs.Reached.{accepted-script_of}
-use Rattle.model_dot_worlds.specs.DotReport.{dot_output, dot_sizes}
-use Rattle.model_dot_worlds.specs.DotWorld.{one_set, dot_start, dot_play, AreDotCommands}
+use Rattle.model_dot_worlds.specs.DotReport.{live_lines, dot_output}
+use Rattle.model_dot_worlds.specs.DotWorld.{one_set, AreDotCommands}
+use Rattle.model_dot_worlds.specs.Unlimited.{unlimited}
 use Rattle.model_dot_worlds.specs.Words.{first_other, IsFirstOther}
-use Rattle.model_dot_worlds.proofs.TextLaws.{report-agrees}
+use Rattle.model_dot_worlds.proofs.TextLaws.{output-unlimited, output-ended}
 use Rattle.model_dot_worlds.proofs.WordLaws.{first-told, known-none}
 use Rattle.model_program.specs.Dots.{dots_or, dots_answer, IsDotStatus, done, script, file, text, memory}
 use Rattle.model_program.specs.Ends.{Writing, Ends}
@@ -59,11 +60,23 @@ module _ (lib : Library) (content : List ℕ → Option (List ℕ)) (words : Lis
   pub dots-written : (s : Script) → IsDotsTold lib content words s → AreDotCommands s.commands → told_answer content words (plan lib words) ≡ Some (Ok (Exactly (dot_output s.nodes s.commands)))
   dots-written s told known = dots-answered s (Ok (dot_output s.nodes s.commands)) told (ap (dots_or s) (known-none 1 s.commands known))
 
+  -- the run of a script that was told, come to its end or not stopped by any limit
+  pub run-output : (s : Script) (run : Run) → IsDotsTold lib content words s → (ended one_set s ≡ Ok run) ⊎ (run ≡ unlimited (start one_set s.nodes) s.commands) → AreDotCommands s.commands
+      → dot_output s.nodes s.commands ≡ report_of run ++ live_lines 0 run.peers
+  run-output s run told (inl ends) known = output-ended s run (accepted-script_of lib one_set told.bytes s told.read).lawful known ends
+  run-output s run told (inr reached) known = output-unlimited s.nodes s.commands run (record { lawful = (accepted-script_of lib one_set told.bytes s told.read).lawful.each; reached = reached }) known
+
+  run-reported : (s : Script) (run : Run) → IsDotsTold lib content words s → AreDotCommands s.commands → (ended one_set s ≡ Ok run) ⊎ (run ≡ unlimited (start one_set s.nodes) s.commands)
+      → told_answer content words (plan lib words) ≡ Some (Ok (Exactly (report_of run ++ live_lines 0 run.peers)))
+  run-reported s run told known which = dots-written s told known ∙ ap (λ (output : List ℕ). Some (Ok (Exactly output))) (run-output s run told which known)
+
   pub dots-reported : (s : Script) (run : Run) → IsDotsTold lib content words s → AreDotCommands s.commands → ended one_set s ≡ Ok run
-      → told_answer content words (plan lib words) ≡ Some (Ok (Exactly (report_of run ++ dot_sizes 0 (dot_play (dot_start s.nodes) s.commands).nodes)))
-  dots-reported s run told known ends =
-      dots-written s told known
-      ∙ ap (λ (report : List ℕ). Some (Ok (Exactly (report ++ dot_sizes 0 (dot_play (dot_start s.nodes) s.commands).nodes)))) (sym (report-agrees s run (accepted-script_of lib one_set told.bytes s told.read).lawful known ends))
+      → told_answer content words (plan lib words) ≡ Some (Ok (Exactly (report_of run ++ live_lines 0 run.peers)))
+  dots-reported s run told known ends = run-reported s run told known (inl ends)
+
+  pub dots-unlimited : (s : Script) (run : Run) → IsDotsTold lib content words s → AreDotCommands s.commands → run ≡ unlimited (start one_set s.nodes) s.commands
+      → told_answer content words (plan lib words) ≡ Some (Ok (Exactly (report_of run ++ live_lines 0 run.peers)))
+  dots-unlimited s run told known reached = run-reported s run told known (inr reached)
 
 -- ---- how a call ends
 

@@ -1,5 +1,5 @@
 -- A call that followed the plan of its words, and ended by its answer, keeps all that is promised of it.
-use Rattle.std.specs.Prelude.{◌≡◌, ℕ, List, Result, Ok, Err}
+use Rattle.std.proofs.Common.{◌≡◌, ℕ, inl, inr, List, Result, Ok, Err}
 use Rattle.model_functions.specs.Library.{Library}
 use Rattle.model_program.specs.Call.{AreUnchanged, AreLater, IsLater, Reading, view_of, IsAnswered}
 use Rattle.model_program.specs.Ends.{Writing, Ends}
@@ -28,7 +28,8 @@ call-answered lib words files answer out err status same later unread follows ou
   direct = λ g script tells done. direct-ends lib words (view_of files) g script answer out err status tells follows ends done;
   known = λ g script tells done. known-places g script;
   alike = λ g script tells done. alike-places g script;
-  dots = λ script run tells is done. dots-writes lib words (view_of files) script run answer out err status tells is follows ends done;
+  dots = λ script run tells is done. dots-writes lib words (view_of files) script run answer out err status tells (inl is) follows ends done;
+  dots_unlimited = λ script run tells is done. dots-writes lib words (view_of files) script run answer out err status tells (inr is) follows ends done;
   unread = unread;
   quiet = λ not_done not_fault. quiet-ends words answer out err status not_done not_fault ends;
 }

@@ -6,10 +6,11 @@ use Rattle.model_graph.specs.Graph.{Decl}
 use Rattle.model_values.specs.Faults.{Rose}
 use Rattle.model_values.specs.Told.{Appends, AppendsPrefix}
 use Rattle.model_world.specs.Command.{Script}
-use Rattle.model_world.specs.World.{Run, ended}
+use Rattle.model_world.specs.World.{Run, start, ended}
 use Rattle.model_world.specs.Report.{report_of}
-use Rattle.model_dot_worlds.specs.DotReport.{dot_sizes}
-use Rattle.model_dot_worlds.specs.DotWorld.{one_set, dot_start, dot_play}
+use Rattle.model_dot_worlds.specs.DotReport.{live_lines}
+use Rattle.model_dot_worlds.specs.DotWorld.{one_set}
+use Rattle.model_dot_worlds.specs.Unlimited.{unlimited}
 use Rattle.model_known.specs.Direct.{direct_report}
 use Rattle.model_program.specs.Cause.{HasCause}
 use Rattle.model_program.specs.Ends.{Writing, writing, Tells, Ends, NoFault, MeetsFault}
@@ -118,9 +119,10 @@ pub record IsAnswered {N : Type 0} (lib : Library) (words : List (List ℕ)) (fi
   -- of such a run: at each place each node has what is known by its counts, so nodes with equal counts, at one place or two with the same graph, have equal sources, show the same and print the same
   pub known : (g : List Decl) (script : Script) → TellsRun lib (files.content files.before) words g script → status ≡ 0 → AreKnown g script
   pub alike : (g : List Decl) (script : Script) → TellsRun lib (files.content files.before) words g script → status ≡ 0 → AreAlike g script
-  -- where the contents of the script are told and its run over one set comes to its end, `dots` writes that run's report, and how many pairs each replica keeps without tombstones
-  pub dots : (script : Script) (run : Run) → TellsDots lib (files.content files.before) words script → ended one_set script ≡ Ok run → status ≡ 0
-      → Appends out.before (report_of run ++ dot_sizes 0 (dot_play (dot_start script.nodes) script.commands).nodes) out.after
+  -- where the contents of the script are told, `dots` writes the report of its run over one set, and how many live rows each node's set has: of the run that comes to its end, and of any as if no limit stopped it
+  pub dots : (script : Script) (run : Run) → TellsDots lib (files.content files.before) words script → ended one_set script ≡ Ok run → status ≡ 0 → Appends out.before (report_of run ++ live_lines 0 run.peers) out.after
+  pub dots_unlimited : (script : Script) (run : Run) → TellsDots lib (files.content files.before) words script → run ≡ unlimited (start one_set script.nodes) script.commands → status ≡ 0
+      → Appends out.before (report_of run ++ live_lines 0 run.peers) out.after
   -- words of no form for one thread: no file is read
   pub unread : IsUsageForm (form words) → files.after ≡ files.before
   -- with another status than 0 and 5 nothing is written to `out`

@@ -4,11 +4,12 @@ ghost use Rattle.std.specs.Prelude.{◌≡◌, ◌<◌, ◌+◌, ◌++◌, ℕ, 
 ghost use Rattle.model_functions.specs.Library.{Library};
 ghost use Rattle.model_world.specs.Command.{Script};
 ghost use Rattle.model_world.specs.Report.{report_of};
-ghost use Rattle.model_world.specs.World.{Run, ended};
+ghost use Rattle.model_world.specs.World.{Run, start, ended};
 ghost use Rattle.model_scripts.specs.Script.{script_of};
 ghost use Rattle.model_scripts.specs.declared.script_why.ScriptWhy.{ScriptWhy};
-ghost use Rattle.model_dot_worlds.specs.DotReport.{dot_output, dot_sizes};
-ghost use Rattle.model_dot_worlds.specs.DotWorld.{one_set, dot_start, dot_play, AreDotCommands};
+ghost use Rattle.model_dot_worlds.specs.DotReport.{live_lines, dot_output};
+ghost use Rattle.model_dot_worlds.specs.DotWorld.{one_set, AreDotCommands};
+ghost use Rattle.model_dot_worlds.specs.Unlimited.{unlimited};
 ghost use Rattle.model_dot_worlds.specs.Words.{IsFirstOther};
 ghost use Rattle.model_program.specs.Dots.{IsDotStatus};
 ghost use Rattle.model_program.specs.Ends.{Writing, Ends};
@@ -20,7 +21,7 @@ ghost use Rattle.model_program.specs.declared.failure.Failure.{Failure};
 ghost use Rattle.model_program.specs.declared.form.Form.TheVariants.{Dots};
 ghost use Rattle.model_program.specs.declared.refusal.Refusal.TheVariants as refusal;
 
-/// The script's file, the script, and its first command of another word. Where the run of the script over the graph of one set comes to its end, what is written begins with that run's report.
+/// The script's file, the script, and its first command of another word. What is written of any other is the report of the script's run over the graph of one set and how many live rows each node's set has, whether that run comes to its end or is told as if no limit stopped it.
 pub fn causes_of_dots()
     ensures script_too_long { (lib : Library) (content : List ℕ → Option (List ℕ)) (words : List (List ℕ)) (script : List ℕ) → form words ≡ Dots
         → content (word_at words 1) ≡ Some script → file_limit < length script
@@ -36,7 +37,10 @@ pub fn causes_of_dots()
         → told_answer content words (plan lib words) ≡ Some (Ok (Exactly (dot_output s.nodes s.commands))) }
     ensures reported { (lib : Library) (content : List ℕ → Option (List ℕ)) (words : List (List ℕ)) (s : Script) (run : Run) → form words ≡ Dots
         → IsDotsTold lib content words s → AreDotCommands s.commands → ended one_set s ≡ Ok run
-        → told_answer content words (plan lib words) ≡ Some (Ok (Exactly (report_of run ++ dot_sizes 0 (dot_play (dot_start s.nodes) s.commands).nodes))) }
+        → told_answer content words (plan lib words) ≡ Some (Ok (Exactly (report_of run ++ live_lines 0 run.peers))) }
+    ensures unlimited { (lib : Library) (content : List ℕ → Option (List ℕ)) (words : List (List ℕ)) (s : Script) (run : Run) → form words ≡ Dots
+        → IsDotsTold lib content words s → AreDotCommands s.commands → run ≡ unlimited (start one_set s.nodes) s.commands
+        → told_answer content words (plan lib words) ≡ Some (Ok (Exactly (report_of run ++ live_lines 0 run.peers))) }
 {}
 
 /// No graph is read, no run stops and no file is joined in, so there is no status for any of these.

@@ -1,4 +1,4 @@
-use Rattle.model_program.proofs.DotCauses.{dots-long, dots-refused, dots-other, dots-written, dots-reported}
+use Rattle.model_program.proofs.DotCauses.{dots-long, dots-refused, dots-other, dots-written, dots-reported, dots-unlimited}
 use Rattle.model_program.proofs.causes.dots.causes_of_dots.Goals as goal
 
 pub returns-clause-script_too_long : goal.returns-clause-script_too_long
@@ -15,3 +15,6 @@ returns-clause-written c = λ lib content words s is. dots-written lib content w
 
 pub returns-clause-reported : goal.returns-clause-reported
 returns-clause-reported c = λ lib content words s run is. dots-reported lib content words is s run
+
+pub returns-clause-unlimited : goal.returns-clause-unlimited
+returns-clause-unlimited c = λ lib content words s run is. dots-unlimited lib content words is s run
