@@ -8,6 +8,8 @@ mod calls;
 #[cfg(test)]
 mod dice;
 #[cfg(test)]
+mod mail;
+#[cfg(test)]
 mod many;
 #[cfg(test)]
 mod worlds;

@@ -2,16 +2,18 @@
 
 use crate::beside::Beside;
 use crate::dice::Dice;
+use crate::mail::{Mail, Tally};
 use crate::wrong::Wrong;
 use lasp_value::Value;
 use std::alloc::Global;
 use std::test::Fail;
 
-/// Some replicas, and all messages that were sent.
+/// Some replicas, all messages that were sent, and who took which.
 #[derive(Drop)]
 struct World {
     replicas: Vec<Beside>,
     sent: Vec<Beside>,
+    mail: Mail,
 }
 
 impl World {
@@ -25,10 +27,11 @@ impl World {
         Ok(World {
             replicas,
             sent: Vec::new(alloc),
+            mail: Mail::new(alloc),
         })
     }
 
-    /// Some replica adds, removes, sends or takes any message, and is then looked at. One that isn't there does nothing.
+    /// Some replica adds, removes, sends or takes any message, and is then looked at, the only one that changed. One that isn't there does nothing.
     fn step(&mut self, alloc: Global, dice: &mut Dice) -> Result<(), Wrong> {
         let node = dice.roll(5) as u8;
         let p = node as usize;
@@ -39,7 +42,7 @@ impl World {
         match dice.roll(8) {
             0 | 1 | 2 => self.replicas[p].add(alloc, &value, node)?,
             3 | 4 => self.replicas[p].remove(&value, node)?,
-            5 => self.sent.push(self.replicas[p].try_clone()?)?,
+            5 => self.send(p)?,
             _ => self.deliver(p, dice)?,
         }
         self.look(p)
@@ -54,37 +57,50 @@ impl World {
         }
     }
 
+    fn send(&mut self, p: usize) -> Result<(), Wrong> {
+        let Some(replica) = self.replicas.get(p) else {
+            return Err(Wrong::NoNode);
+        };
+        self.sent.push(replica.try_clone()?)?;
+        self.mail.send(p)?;
+        Ok(())
+    }
+
     /// The replica takes any message that was ever sent.
     fn deliver(&mut self, p: usize, dice: &mut Dice) -> Result<(), Wrong> {
         if self.sent.is_empty() || p >= self.replicas.len() {
             return Ok(());
         }
         let i = dice.roll(self.sent.len() as u64) as usize;
+        self.mail.take(p, i)?;
         self.replicas[p].take(&self.sent[i])
     }
 }
 
-/// A world of so many steps that follows from a seed.
-fn play(alloc: Global, seed: u64, steps: u32) -> Result<(), Wrong> {
+/// A world of so many steps that follows from a seed; what became of its messages is counted.
+fn play(alloc: Global, seed: u64, steps: u32, tally: &mut Tally) -> Result<(), Wrong> {
     let mut dice = Dice::new(seed);
     let mut world = World::new(alloc, &mut dice)?;
     for _ in 0..steps {
         world.step(alloc, &mut dice)?;
     }
+    world.mail.count(world.replicas.len(), tally);
     Ok(())
 }
 
-fn play_all(alloc: Global, worlds: u64) -> Result<(), Wrong> {
+fn play_all(alloc: Global, worlds: u64) -> Result<Tally, Wrong> {
+    let mut tally = Tally::new();
     for seed in 0..worlds {
-        play(alloc, seed, 100)?;
+        play(alloc, seed, 100, &mut tally)?;
     }
-    Ok(())
+    Ok(tally)
 }
 
 #[test]
-fn whatever_is_lost_or_comes_again_both_sorts_of_sets_show_the_same(
+fn whatever_is_lost_or_comes_again_or_late_both_sorts_of_sets_show_the_same(
     rt: HostRuntime,
 ) -> Result<(), Fail> {
-    play_all(rt.alloc(), 1000)?;
+    let tally = play_all(rt.alloc(), 1000)?;
+    assert!(rt; tally.lost > 1000 && tally.again > 1000 && tally.late > 1000);
     Ok(())
 }
