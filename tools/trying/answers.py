@@ -28,9 +28,10 @@ def answer_to(graph, file, contents):
     try:
         counts, sources = read(contents)
     except Refused as it:
-        return 9, "", f"state {file} {it.place} {it.cause}\n"
+        return 9, b"", f"state {file} {it.place} {it.cause}\n".encode()
     if [[it.name, it.kind] for it in sources] != graph[: len(sources)]:
-        return 9, "", f"state {file} 0 WrongGraph\n"
+        return 9, b"", f"state {file} 0 WrongGraph\n".encode()
     told = {it.name: it.content for it in sources}
     lines = [f"{name} {printed(kind, told.get(name, LEAST[kind]))}\n" for name, kind in graph]
-    return 0, "".join(lines) + f"known {' '.join(map(str, counts))}\n", ""
+    lines.append(f"known {' '.join(map(str, counts))}\n")
+    return 0, "".join(lines).encode(), b""
