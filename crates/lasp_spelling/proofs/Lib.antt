@@ -1,0 +1,4 @@
+pub mod Lexemes
+pub mod Trees
+pub mod Arrays
+pub mod Numbers
