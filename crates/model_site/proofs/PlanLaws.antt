@@ -1,0 +1,106 @@
+-- Laws of plans: calls that did parts of a plan, one after the other, followed the whole.
+use Rattle.std.proofs.Common.{refl, sym, ap, subst, ◌∙◌, arith}
+use Rattle.std.specs.Prelude.{◌≡◌, ◌<◌, ◌≤◌, ℕ, List, length, Option, Result, Ok, Err, if◌then◌else◌, Bool}
+use mathlib.Core.Logic.{inl, inr}
+use Rattle.std.proofs.lemmas.Bool.{le-ltb, lt-ltb}
+use Rattle.model_values.specs.Faults.{Rose}
+use Rattle.model_values.specs.Told.{Sees}
+use Rattle.model_program.specs.Follows.{View, IsPartOf}
+use Rattle.model_program.specs.Plan.{file_limit, word_at}
+use Rattle.model_program.specs.declared.refusal.Refusal.TheVariants.{TooLong}
+use Rattle.model_site.specs.Follows.{Gives, Follows, Part, Passes, Stops, Performs}
+use Rattle.model_site.specs.Plan.{Plan, Says, Reads, given, within, reading}
+use Rattle.model_site.specs.declared.site_refusal.SiteRefusal.{SiteRefusal}
+use Rattle.model_site.specs.declared.site_refusal.SiteRefusal.TheVariants.{Shared}
+use Rattle.model_site.specs.declared.site_failure.SiteFailure.{SiteFailure}
+use Rattle.model_site.specs.declared.site_failure.SiteFailure.TheVariants.{Refused, ReadFault, Memory}
+
+-- ---- calls that are parts of one
+
+-- a call is a part of itself
+pub part-itself : (v : View) → IsPartOf v v
+part-itself v = record { content = λ n. refl; before = λ n. omega arith; after = λ n. omega arith }
+
+-- a part of a part is a part of the whole
+pub part-of-part : (u v w : View) → IsPartOf u v → IsPartOf v w → IsPartOf u w
+part-of-part u v w h k = record {
+  content = λ name. h.content name ∙ k.content name;
+  before = λ name. omega (arith, h.before name, k.before name);
+  after = λ name. omega (arith, h.after name, k.after name);
+}
+
+-- ---- one file
+
+-- memory may be wanting at any place
+pub follows-memory : (words : List (List ℕ)) (v : View) (p : Plan) → Follows words v p (Err Memory)
+unfolding Follows
+follows-memory words v (Says answer) = tt
+follows-memory words v (Reads f next) = inl tt
+
+rose-wider : (a b c d : ℕ) → a ≤ b → c ≤ d → Rose b c → Rose a d
+rose-wider a b c d h k rose = omega (arith, h, k, rose)
+
+abbrev pub choice : ℕ → List ℕ → Bool → Result (List ℕ) SiteRefusal
+choice f bytes long = if long then Err (Shared (TooLong f)) else Ok bytes
+
+pub within-short : (f : ℕ) (bytes : List ℕ) → length bytes ≤ file_limit → within f bytes ≡ Ok bytes
+within-short f bytes short = ap (λ (long : Bool). choice f bytes long) (le-ltb file_limit (length bytes) short)
+
+pub within-long : (f : ℕ) (bytes : List ℕ) → file_limit < length bytes → within f bytes ≡ Err (Shared (TooLong f))
+within-long f bytes long = ap (λ (long : Bool). choice f bytes long) (lt-ltb file_limit (length bytes) long)
+
+-- a file was read
+pub passes-read : (words : List (List ℕ)) (v : View) (f : ℕ) (bytes : List ℕ) → Sees (v.content (word_at words f)) bytes → length bytes ≤ file_limit → Passes words v (reading f) bytes
+unfolding Follows
+passes-read words v f bytes sees short w part next r h =
+    inr (
+      bytes,
+      subst (λ (told : Option (List ℕ)). Sees told bytes) (part.content (word_at words f)) sees,
+      subst (λ (read : Result (List ℕ) SiteRefusal). Follows words w (given read next) r) (sym (within-short f bytes short)) h,
+    )
+
+-- a file is too long
+pub stops-too_long : (words : List (List ℕ)) (v : View) (f : ℕ) (bytes : List ℕ) → Sees (v.content (word_at words f)) bytes → file_limit < length bytes → Stops words v (reading f) (Refused (Shared (TooLong f)))
+unfolding Follows
+stops-too_long words v f bytes sees long w part next =
+    inr (
+      bytes,
+      subst (λ (told : Option (List ℕ)). Sees told bytes) (part.content (word_at words f)) sees,
+      subst (λ (read : Result (List ℕ) SiteRefusal). Follows words w (given read next) (Err (Refused (Shared (TooLong f))))) (sym (within-long f bytes long)) refl,
+    )
+
+-- a read failed
+pub stops-fault : (words : List (List ℕ)) (v : View) (f : ℕ) → f < length words → Rose (v.before (word_at words f)) (v.after (word_at words f)) → Stops words v (reading f) (ReadFault f)
+unfolding Follows
+stops-fault words v f named rose w part next =
+    inl (refl, named, rose-wider (w.before (word_at words f)) (v.before (word_at words f)) (v.after (word_at words f)) (w.after (word_at words f)) (part.before (word_at words f)) (part.after (word_at words f)) rose)
+
+-- memory may be wanting in any part
+pub stops-memory : {B : Type 0} (words : List (List ℕ)) (v : View) (part : Part B) → Stops words v part Memory
+stops-memory words v part w within next = follows-memory words w (part next)
+
+-- ---- what is answered
+
+-- the end of a plan
+pub follows-says : (words : List (List ℕ)) (v : View) (answer : Result (List ℕ) SiteRefusal) (r : Result (List ℕ) SiteFailure) → Gives (λ (t : List ℕ). t) answer r → Follows words v (Says answer) r
+unfolding Follows
+follows-says words v answer r h = h
+
+-- after a read, the bytes are read as something
+pub passes-given : {B : Type 0} (words : List (List ℕ)) (v : View) (f : ℕ) (bytes : List ℕ) (reader : List ℕ → Result B SiteRefusal) (b : B)
+    → Passes words v (reading f) bytes → reader bytes ≡ Ok b → Passes words v (λ (next : B → Plan). reading f (λ read. given (reader read) next)) b
+passes-given {B} words v f bytes reader b passes e w part next r h =
+    passes w part (λ read. given (reader read) next) r (subst (λ (read : Result B SiteRefusal). Follows words w (given read next) r) (sym e) h)
+
+pub stops-given : {B : Type 0} (words : List (List ℕ)) (v : View) (f : ℕ) (bytes : List ℕ) (reader : List ℕ → Result B SiteRefusal) (e : SiteRefusal)
+    → Passes words v (reading f) bytes → reader bytes ≡ Err e → Stops words v (λ (next : B → Plan). reading f (λ read. given (reader read) next)) (Refused e)
+stops-given {B} words v f bytes reader e passes is w part next =
+    passes w part (λ read. given (reader read) next) (Err (Refused e))
+    (subst (λ (read : Result B SiteRefusal). Follows words w (given read next) (Err (Refused e))) (sym is) (follows-says words w (Err e) (Err (Refused e)) refl))
+
+pub performs-given : {A B : Type 0} (shown : A → B) (words : List (List ℕ)) (v : View) (f : ℕ) (bytes : List ℕ) (reader : List ℕ → Result B SiteRefusal) (result : Result A SiteFailure)
+    → Passes words v (reading f) bytes → Gives shown (reader bytes) result → Performs shown words v (λ (next : B → Plan). reading f (λ read. given (reader read) next)) result
+performs-given shown words v f bytes reader (Ok a) passes gives = passes-given words v f bytes reader (shown a) passes gives
+performs-given shown words v f bytes reader (Err (Refused e)) passes gives = stops-given words v f bytes reader e passes gives
+performs-given shown words v f bytes reader (Err (ReadFault e)) passes gives = absurd gives
+performs-given shown words v f bytes reader (Err Memory) passes gives = stops-memory words v (λ (next : _ → Plan). reading f (λ read. given (reader read) next))

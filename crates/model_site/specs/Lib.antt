@@ -1,0 +1,10 @@
+pub mod Plan
+pub mod Follows
+pub mod Line
+pub mod Ends
+pub mod Site
+pub mod Program
+pub mod Told
+pub mod World
+pub mod Cause
+pub mod Call
