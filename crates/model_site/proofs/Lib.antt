@@ -1,2 +1,4 @@
 pub mod PlanLaws
 pub mod AnswerLaws
+pub mod SiteLaws
+pub mod CauseLaws
