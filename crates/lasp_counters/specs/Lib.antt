@@ -2,3 +2,4 @@ pub mod Counts
 pub mod CountLaws
 pub mod Members
 pub mod RegisterLaws
+pub mod Prelude

@@ -1,9 +1,8 @@
 //! The counter: one count for each node, of which each only rises.
 
 ghost use Rattle.std.specs.Prelude.{◌≡◌, ◌≢◌, ◌<◌, ◌≤◌, ◌↔◌, IsTrue, IfOk, IsOk, length, slice_set, sum, refl};
+ghost use Rattle.lasp_counters.specs.Prelude.{count_max, count_at, zeros, inc_delta, AreCounts, larger, AreAtMost, HaveSameNodes};
 ghost use Rattle.std.proofs.Common.{sym, ◌∙◌, arith};
-ghost use Rattle.model_states.specs.Counts.{count_max, count_at, zeros, inc_delta};
-ghost use Rattle.lasp_counters.specs.Counts.{AreCounts, larger, AreAtMost, HaveSameNodes};
 
 use super::raise::{are_at_most, raise, sum_of};
 use lasp_lattice::Lattice;

@@ -1,7 +1,7 @@
 //! A pass over the values of a grow-only set, first to last.
 
 ghost use Rattle.std.specs.Prelude.{◌≡◌, ◌∷◌, [], IfSome, IfNone};
-ghost use Rattle.lasp_value.specs.Value.{val_of};
+ghost use Rattle.lasp_counters.specs.Prelude.{val_of};
 
 use lasp_orset::Rows;
 use lasp_value::Value;

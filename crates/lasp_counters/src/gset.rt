@@ -1,9 +1,7 @@
 //! The set that only grows.
 
 ghost use Rattle.std.specs.Prelude.{◌≡◌, ◌≢◌, ◌<◌, ◌≤◌, ◌^◌, ◌↔◌, ◌++◌, ◌∷◌, [], IfOk, OnOk, OnErr, IsTrue, Some, length, map, slice_get, string_bytes};
-ghost use Rattle.model_values.specs.Text.{shown_values};
-ghost use Rattle.model_sets.specs.Values.{IsHeld, AreAscending, unite, IsWithin};
-ghost use Rattle.lasp_value.specs.Value.{val_of};
+ghost use Rattle.lasp_counters.specs.Prelude.{shown_values, IsHeld, AreAscending, unite, IsWithin, val_of};
 
 use super::elements::Elements;
 use lasp_orset::{Entry, OrSet, add_delta};

@@ -1,8 +1,8 @@
 //! Grow-only sets as a lattice.
 
 ghost use Rattle.std.specs.Prelude.{◌++◌, [], refl};
+ghost use Rattle.lasp_counters.specs.Prelude.{AreAscending, unite, IsWithin};
 ghost use Rattle.std.proofs.Common.{arith};
-ghost use Rattle.model_sets.specs.Values.{AreAscending, unite, IsWithin};
 ghost use Rattle.model_sets.proofs.ValueLaws as laws;
 
 use super::gset::GSet;

@@ -1,7 +1,7 @@
 //! The loops over counts.
 
 ghost use Rattle.std.specs.Prelude.{◌≡◌, ◌≢◌, ◌↔◌, IsTrue, sum};
-ghost use Rattle.lasp_counters.specs.Counts.{AreCounts, HaveSameNodes, AreAtMost, larger};
+ghost use Rattle.lasp_counters.specs.Prelude.{AreCounts, HaveSameNodes, AreAtMost, larger};
 
 /// Raises each count to the other one where that is larger, and tells whether one rose.
 pub(crate) fn raise(counts: &mut [u64], others: &[u64]) -> bool

@@ -1,7 +1,7 @@
 //! The register that keeps the greatest number.
 
 ghost use Rattle.std.specs.Prelude.{◌≡◌, ◌≢◌, ◌↔◌, IsTrue, IfOk, IsOk, OnOk};
-ghost use Rattle.model_states.specs.Register.{later, IsNotLater};
+ghost use Rattle.lasp_counters.specs.Prelude.{later, IsNotLater};
 ghost use Rattle.model_states.proofs.RegisterLaws as order;
 ghost use Rattle.lasp_counters.specs.RegisterLaws as laws;
 

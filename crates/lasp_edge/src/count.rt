@@ -1,6 +1,6 @@
 //! The count of faults.
 ghost use Rattle.std.specs.Prelude.{◌≡◌, ◌≤◌};
-ghost use Rattle.model_values.specs.Faults.{counted};
+ghost use Rattle.lasp_edge.specs.Prelude.{counted};
 
 /// Counts one more fault, up to the last value of the counter.
 pub(crate) fn count_fault(faults: &mut u64)

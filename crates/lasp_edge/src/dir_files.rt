@@ -1,8 +1,6 @@
 //! Real files.
 ghost use Rattle.std.specs.Prelude.{◌≡◌, ℕ, ◌<◌, ◌≤◌, List, if◌then◌else◌, length, IfOk};
-ghost use Rattle.model_values.specs.Faults.{Rose, counted};
-ghost use Rattle.model_values.specs.Told.{Sees, untold};
-ghost use Rattle.lasp_edge.specs.Loops.{is_failed};
+ghost use Rattle.lasp_edge.specs.Prelude.{Rose, counted, Sees, untold, is_failed};
 
 use crate::count::count_fault;
 use crate::error::Fetch;

@@ -1,6 +1,6 @@
 //! Why a read or a write failed.
 ghost use Rattle.std.specs.Prelude.{◌≡◌};
-ghost use Rattle.lasp_edge.specs.declared.error.Fetch.TheVariants.{Memory};
+ghost use Rattle.lasp_edge.specs.Prelude.{Memory};
 
 use std::alloc::AllocError;
 use thiserror::Error;

@@ -1,10 +1,7 @@
 //! Files in memory, some of whose reads fail.
 ghost use Rattle.std.specs.Prelude.{◌≡◌, ℕ, ◌<◌, ◌≤◌, ◌↔◌, ◌∷◌, ◌++◌, List, [], Some, Bool, if◌then◌else◌, not, length, IfOk, OnOk, OnErr, IsTrue, IsSomeAnd};
-ghost use Rattle.std.specs.Str.{bytes_eq};
-ghost use Rattle.model_values.specs.Faults.{Rose, counted};
-ghost use Rattle.model_values.specs.Told.{Sees};
-ghost use Rattle.lasp_edge.specs.Shelf.{file_at};
-ghost use Rattle.lasp_edge.specs.MemFiles.{next_fails, is_set};
+ghost use Rattle.lasp_edge.specs.Prelude.{bytes_eq, Rose, counted, Sees, file_at, is_set};
+ghost use Rattle.lasp_edge.specs.MemFiles.{next_fails};
 
 use crate::count::count_fault;
 use crate::error::Fetch;

@@ -1,9 +1,8 @@
 //! Output in memory, some of whose writes fail.
 ghost use Rattle.std.specs.Prelude.{◌≡◌, ℕ, ◌≤◌, ◌↔◌, ◌++◌, List, [], Some, if◌then◌else◌, length, take, IfOk, OnOk, OnErr, IsTrue, is_err};
-ghost use Rattle.std.specs.Bool.{nat_eq};
-ghost use Rattle.model_values.specs.Faults.{Rose, counted};
-ghost use Rattle.model_values.specs.Told.{Appends, AppendsPrefix};
-ghost use Rattle.lasp_edge.specs.MemSink.{set_after, next_fails, taken_count};
+ghost use Rattle.lasp_edge.specs.Prelude.{nat_eq, Rose, counted, AppendsPrefix, set_after, taken_count};
+ghost use Rattle.model_values.specs.Told.{Appends};
+ghost use Rattle.lasp_edge.specs.MemSink.{next_fails};
 
 use crate::count::count_fault;
 use crate::error::Failed;

@@ -1,8 +1,6 @@
 //! The loop that reads a file.
 ghost use Rattle.std.specs.Prelude.{◌≡◌, ◌≤◌, if◌then◌else◌, OnOk};
-ghost use Rattle.std.specs.Io.KnownBytes.{IsAtEnd};
-ghost use Rattle.model_values.specs.Faults.{counted};
-ghost use Rattle.lasp_edge.specs.Loops.{TakesUpTo, is_failed};
+ghost use Rattle.lasp_edge.specs.Prelude.{IsAtEnd, counted, TakesUpTo, is_failed};
 
 use crate::count::count_fault;
 use crate::error::Fetch;

@@ -1,7 +1,6 @@
 //! Files in memory, by name: what `MemFiles` and `SureFiles` keep.
 ghost use Rattle.std.specs.Prelude.{◌≡◌, ℕ, ◌<◌, ◌≤◌, ◌≢◌, ◌↔◌, List, [], Some, if◌then◌else◌, length, IfOk, OnOk, OnErr, option_map};
-ghost use Rattle.std.specs.Str.{bytes_eq};
-ghost use Rattle.lasp_edge.specs.Shelf.{file_at};
+ghost use Rattle.lasp_edge.specs.Prelude.{bytes_eq, file_at};
 
 use crate::error::Fetch;
 use std::alloc::{AllocError, Global};

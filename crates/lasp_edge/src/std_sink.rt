@@ -1,9 +1,8 @@
 //! Real output.
 ghost use Rattle.std.specs.Prelude.{◌≡◌, ◌≤◌, if◌then◌else◌, OnOk, OnErr, is_err};
+ghost use Rattle.lasp_edge.specs.Prelude.{GrowsByPrefix, Rose, counted, AppendsPrefix, untold};
 ghost use Rattle.std.specs.Io.KnownBytes as known;
-ghost use Rattle.lasp_edge.specs.Loops.{GrowsByPrefix};
-ghost use Rattle.model_values.specs.Faults.{Rose, counted};
-ghost use Rattle.model_values.specs.Told.{Appends, AppendsPrefix, untold};
+ghost use Rattle.model_values.specs.Told.{Appends};
 
 use crate::error::Failed;
 use crate::sink::Sink;

@@ -1,9 +1,6 @@
 //! Files in memory whose reads never fail.
 ghost use Rattle.std.specs.Prelude.{◌≡◌, ◌≢◌, ℕ, ◌<◌, ◌≤◌, ◌↔◌, List, [], Some, if◌then◌else◌, length, IfOk, OnOk, OnErr, unwrap_or};
-ghost use Rattle.std.specs.Str.{bytes_eq};
-ghost use Rattle.model_values.specs.Faults.{Rose};
-ghost use Rattle.model_values.specs.Told.{Sees};
-ghost use Rattle.lasp_edge.specs.Shelf.{file_at};
+ghost use Rattle.lasp_edge.specs.Prelude.{bytes_eq, Rose, Sees, file_at};
 
 use crate::error::Fetch;
 use crate::files::Files;

@@ -1,7 +1,7 @@
 //! Output that is thrown away.
 ghost use Rattle.std.specs.Prelude.{◌≡◌, ◌≤◌, OnOk, OnErr, Ok};
-ghost use Rattle.model_values.specs.Faults.{Rose};
-ghost use Rattle.model_values.specs.Told.{Appends, AppendsPrefix, untold};
+ghost use Rattle.lasp_edge.specs.Prelude.{Rose, AppendsPrefix, untold};
+ghost use Rattle.model_values.specs.Told.{Appends};
 
 use crate::error::Failed;
 use crate::sink::Sink;

@@ -1,8 +1,7 @@
 //! The loop that writes output.
 ghost use Rattle.std.specs.Prelude.{◌≡◌, ◌≤◌, if◌then◌else◌, OnOk, OnErr, is_err};
+ghost use Rattle.lasp_edge.specs.Prelude.{counted, GrowsByPrefix};
 ghost use Rattle.std.specs.Io.KnownBytes.{Appends};
-ghost use Rattle.model_values.specs.Faults.{counted};
-ghost use Rattle.lasp_edge.specs.Loops.{GrowsByPrefix};
 
 use crate::count::count_fault;
 use crate::error::Failed;

@@ -7,3 +7,4 @@ pub mod Named
 pub mod Predicate
 pub mod Steps
 pub mod Stored
+pub mod Prelude

@@ -1,7 +1,7 @@
 //! The library: the functions of a program's own that a graph may name.
 
 ghost use Rattle.std.specs.Prelude.{◌≡◌, []};
-ghost use Rattle.lasp_fns.specs.Library.{maps_of, predicates_of, lifts_of};
+ghost use Rattle.lasp_fns.specs.Prelude.{maps_of, predicates_of, lifts_of};
 
 mod add;
 mod find;

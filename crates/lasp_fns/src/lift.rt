@@ -1,10 +1,7 @@
 //! The operation of a lift: the number that a value brings to a fold.
 
 ghost use Rattle.std.specs.Prelude.{◌≡◌, ◌↔◌, ◌≤◌, IsTrue, length, pos};
-ghost use Rattle.model_values.specs.Size.{IsSized};
-ghost use Rattle.model_functions.specs.Lift.{lifted, number_of, length_of, first_of};
-ghost use Rattle.lasp_value.specs.Value.{val_of};
-ghost use Rattle.lasp_fns.specs.Lift.{lift_op_of};
+ghost use Rattle.lasp_fns.specs.Prelude.{IsSized, lifted, number_of, length_of, first_of, val_of, lift_op_of};
 
 use lasp_value::Value;
 

@@ -1,11 +1,7 @@
 //! The operations of a map function, and what they make of a value.
 
 ghost use Rattle.std.specs.Prelude.{◌≡◌, ◌↔◌, ◌<◌, ◌≤◌, ◌++◌, ◌∷◌, [], IfOk, IsTrue, OnOk, OnErr, length, slice_get, Some, map};
-ghost use Rattle.model_values.specs.Value.{int};
-ghost use Rattle.model_values.specs.Size.{IsSized};
-ghost use Rattle.model_functions.specs.Map.{mapped, mapped_once, mapped_number, mapped_text, mapped_pair};
-ghost use Rattle.lasp_value.specs.Value.{val_of};
-ghost use Rattle.lasp_fns.specs.Map.{map_op_of};
+ghost use Rattle.lasp_fns.specs.Prelude.{int, IsSized, mapped, mapped_once, mapped_number, mapped_text, mapped_pair, val_of, map_op_of};
 
 use lasp_value::{Text, Value};
 use std::alloc::{AllocError, Global};

@@ -1,10 +1,7 @@
 //! The operations of a predicate, and what passes them.
 
 ghost use Rattle.std.specs.Prelude.{◌≡◌, ◌↔◌, ◌<◌, ◌++◌, ◌∷◌, [], IfOk, IsTrue, OnOk, OnErr, length, slice_get, Some, map};
-ghost use Rattle.model_values.specs.Size.{IsSized};
-ghost use Rattle.model_functions.specs.Predicate.{passes, passes_once, passes_number, passes_text, passes_pair, begins_with};
-ghost use Rattle.lasp_value.specs.Value.{val_of};
-ghost use Rattle.lasp_fns.specs.Predicate.{pred_op_of};
+ghost use Rattle.lasp_fns.specs.Prelude.{IsSized, passes, passes_once, passes_number, passes_text, passes_pair, begins_with, val_of, pred_op_of};
 
 use lasp_value::{Text, Value};
 use std::alloc::{AllocError, Global};

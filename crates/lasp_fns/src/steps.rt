@@ -1,16 +1,7 @@
 //! A library that counts its calls.
 
 ghost use Rattle.std.specs.Prelude.{◌≡◌, ◌<◌, length, option_copied};
-ghost use Rattle.std.specs.Option.{option_map};
-ghost use Rattle.model_values.specs.Size.{IsSized};
-ghost use Rattle.model_functions.specs.Predicate.{passes};
-ghost use Rattle.model_functions.specs.Lift.{lifted};
-ghost use Rattle.lasp_value.specs.Value.{val_of};
-ghost use Rattle.lasp_fns.specs.Answers.{Answers};
-ghost use Rattle.lasp_fns.specs.Lift.{lift_op_of};
-ghost use Rattle.lasp_fns.specs.Named.{item_at};
-ghost use Rattle.lasp_fns.specs.Library.{maps_of, predicates_of, lifts_of, map_ops_at, pred_ops_at, lift_op_at};
-ghost use Rattle.lasp_fns.specs.Steps.{library_of, ticks_of, one_more};
+ghost use Rattle.lasp_fns.specs.Prelude.{option_map, IsSized, passes, lifted, val_of, Answers, lift_op_of, item_at, maps_of, predicates_of, lifts_of, map_ops_at, pred_ops_at, lift_op_at, library_of, ticks_of, one_more};
 
 use crate::library::Library;
 use crate::lift::LiftOp;

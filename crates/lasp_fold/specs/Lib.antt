@@ -2,3 +2,4 @@ pub mod Group
 pub mod GroupLaws
 pub mod Fold
 pub mod Turns
+pub mod Prelude

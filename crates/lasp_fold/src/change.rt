@@ -1,10 +1,7 @@
 //! The number of a set that grew, from the number before.
 
 ghost use Rattle.std.specs.Prelude.{◌≡◌};
-ghost use Rattle.model_sets.specs.Rows.{IsAtMost};
-ghost use Rattle.model_sets.specs.Folds.{fold_set};
-ghost use Rattle.lasp_fns.specs.Stored.{lift_of};
-ghost use Rattle.lasp_fold.specs.Fold.{IsWithinLimits, taken_lift};
+ghost use Rattle.lasp_fold.specs.Prelude.{IsAtMost, fold_set, lift_of, IsWithinLimits, taken_lift};
 
 use super::group::FoldGroup;
 use super::step::turned;

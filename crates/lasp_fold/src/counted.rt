@@ -1,15 +1,7 @@
 //! The number of a set that grew, through a library that counts its calls.
 
 ghost use Rattle.std.specs.Prelude.{◌≡◌, ◌+◌, ◌*◌, ◌^◌, ◌<◌, ◌≤◌, IsTrue, fold, length};
-ghost use Rattle.model_sets.specs.Rows.{IsAtMost};
-ghost use Rattle.model_sets.specs.Values.{visible, row_values};
-ghost use Rattle.model_sets.specs.Equations.{changed};
-ghost use Rattle.model_sets.specs.Folds.{fold_set};
-ghost use Rattle.model_graph.specs.Increment.{IsChange};
-ghost use Rattle.lasp_fns.specs.Library.{lifts_of, lift_op_at};
-ghost use Rattle.lasp_fns.specs.Steps.{library_of, ticks_of};
-ghost use Rattle.lasp_fold.specs.Fold.{AreSized, IsWithinLimits, taken_lift};
-ghost use Rattle.lasp_fold.specs.Turns.{turned, turns};
+ghost use Rattle.lasp_fold.specs.Prelude.{IsAtMost, visible, row_values, changed, fold_set, IsChange, lifts_of, lift_op_at, library_of, ticks_of, AreSized, IsWithinLimits, taken_lift, turned, turns};
 
 use super::group::FoldGroup;
 use super::step;

@@ -1,9 +1,8 @@
 //! Numbers under their sum.
 
+ghost use Rattle.lasp_fold.specs.Prelude.{combined, inverse, is_member, taken, magnitude};
 ghost use Rattle.model_graph.specs.Graph as op;
-ghost use Rattle.model_graph.specs.Fold.{combined, inverse, is_member, taken};
 ghost use Rattle.std.specs.Prelude.{pos};
-ghost use Rattle.lasp_fold.specs.Group.{magnitude};
 ghost use Rattle.lasp_fold.specs.GroupLaws as laws;
 
 use super::group::FoldGroup;

@@ -1,13 +1,7 @@
 //! The values that came to be visible, or ceased to be, from one set to a greater one: a pass over the rows of a set that has them all, with two searches for each value.
 
 ghost use Rattle.std.specs.Prelude.{◌≡◌, ◌∷◌, [], None, IfSome, IfNone};
-ghost use Rattle.std.specs.Option.{option_map};
-ghost use Rattle.model_values.specs.Size.{IsSized};
-ghost use Rattle.model_sets.specs.Values.{visible};
-ghost use Rattle.lasp_value.specs.Value.{val_of};
-ghost use Rattle.model_sets.specs.Loops.{is_last};
-ghost use Rattle.lasp_fold.specs.Fold.{AreSized};
-ghost use Rattle.lasp_fold.specs.Turns.{values_left, turns};
+ghost use Rattle.lasp_fold.specs.Prelude.{option_map, IsSized, visible, val_of, is_last, AreSized, values_left, turns};
 
 use lasp_orset::{OrSet, Rows};
 use lasp_value::Value;

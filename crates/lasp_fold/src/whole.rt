@@ -1,12 +1,7 @@
 //! The number of a whole set.
 
 ghost use Rattle.std.specs.Prelude.{◌≡◌, ◌||◌};
-ghost use Rattle.std.specs.Option.{option_map};
-ghost use Rattle.model_sets.specs.Folds.{fold_set};
-ghost use Rattle.lasp_value.specs.Value.{val_of};
-ghost use Rattle.model_sets.specs.Loops.{is_last};
-ghost use Rattle.lasp_fns.specs.Stored.{lift_of};
-ghost use Rattle.lasp_fold.specs.Fold.{IsWithinLimits, taken_lift};
+ghost use Rattle.lasp_fold.specs.Prelude.{option_map, fold_set, val_of, is_last, lift_of, IsWithinLimits, taken_lift};
 
 use super::group::FoldGroup;
 use super::step::turned;

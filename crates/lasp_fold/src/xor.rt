@@ -1,7 +1,7 @@
 //! Numbers under the xor of their bits.
 
+ghost use Rattle.lasp_fold.specs.Prelude.{combined, inverse, is_member, taken};
 ghost use Rattle.model_graph.specs.Graph as op;
-ghost use Rattle.model_graph.specs.Fold.{combined, inverse, is_member, taken};
 ghost use Rattle.std.specs.Prelude.{pos};
 ghost use Rattle.lasp_fold.specs.GroupLaws as laws;
 

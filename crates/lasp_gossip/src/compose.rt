@@ -1,10 +1,7 @@
 //! What a replica sends.
 
 ghost use Rattle.std.specs.Prelude.{◌≡◌, IfOk, length};
-ghost use Rattle.model_messages.specs.Message.{message_of};
-ghost use Rattle.model_wire.specs.Lawful.{IsMessage};
-ghost use Rattle.lasp_graph.specs.States.{contents_of};
-ghost use Rattle.lasp_graph.specs.States.{AreSourcesOfKind};
+ghost use Rattle.lasp_gossip.specs.Prelude.{message_of, IsMessage, contents_of, AreSourcesOfKind};
 
 use lasp_graph::{Graph, States};
 use lasp_wire::{Counts, Message};

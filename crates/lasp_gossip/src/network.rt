@@ -1,9 +1,7 @@
 //! The network between replicas.
 
 ghost use Rattle.std.specs.Prelude.{◌≡◌, ◌+◌, ◌<◌, ◌≤◌, ◌^◌, [], Err, Some, IfOk, OnOk, OnErr, length, slice_get};
-ghost use Rattle.std.specs.Arc.{arc_value};
-ghost use Rattle.model_messages.specs.Spelling.{spelled};
-ghost use Rattle.lasp_gossip.specs.Network.{size_of, network, with_sent};
+ghost use Rattle.lasp_gossip.specs.Prelude.{arc_value, spelled, size_of, network, with_sent};
 ghost use Rattle.lasp_gossip.specs.declared.refused.SendRefused.TheVariants as refused;
 
 use super::refused::SendRefused;

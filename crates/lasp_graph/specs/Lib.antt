@@ -8,3 +8,4 @@ pub mod States
 pub mod Evaluated
 pub mod Delta
 pub mod Sources
+pub mod Prelude

@@ -1,7 +1,7 @@
 //! A declaration.
 
 ghost use Rattle.std.specs.Prelude.{◌≡◌, IfOk};
-ghost use Rattle.lasp_graph.specs.Decl.{decl_of};
+ghost use Rattle.lasp_graph.specs.Prelude.{decl_of};
 
 use super::kind::Kind;
 use lasp_value::Name;

@@ -1,20 +1,9 @@
 //! One process after its inputs changed: from its state before and the changed rows, its state and what it gained.
 
 ghost use Rattle.std.specs.Prelude.{◌≡◌, ◌+◌, ◌<◌, ◌≤◌, IfOk, IsFalse, length};
-ghost use Rattle.std.specs.Arc.{arc_value};
-ghost use Rattle.model_sets.specs.Rows.{join};
-ghost use Rattle.model_sets.specs.Equations.{changed};
-ghost use Rattle.model_states.specs.Content.{of_set, size_of, row_limit, IsContentAtMost};
-ghost use Rattle.model_states.specs.Threshold.{set};
-ghost use Rattle.model_graph.specs.Graph.{kind_at, is_source};
-ghost use Rattle.model_graph.specs.Increment.{IsChange};
-ghost use Rattle.model_graph.specs.Width.{HasWidth};
-ghost use Rattle.model_readings.specs.Lawful.{FitsAll};
+ghost use Rattle.lasp_graph.specs.Prelude.{arc_value, join, changed, of_set, size_of, row_limit, IsContentAtMost, set, kind_at, is_source, IsChange, HasWidth, FitsAll, content_of, number_of, library_of, process, Becomes, seen, derived_shape, number_by, second_of, IsStateOf, IsStateBefore, IsForMemory, gained};
 ghost use Rattle.lasp_fns.specs.Steps as counted;
-ghost use Rattle.lasp_state.specs.State.{content_of, shape_of, number_of};
-ghost use Rattle.lasp_graph.specs.Library.{library_of};
-ghost use Rattle.lasp_graph.specs.Evaluated.{process, Becomes, seen, derived_shape, number_by, second_of};
-ghost use Rattle.lasp_graph.specs.Delta.{IsStateOf, IsStateBefore, IsForMemory, gained};
+ghost use Rattle.lasp_state.specs.State.{shape_of};
 
 use super::graph::Graph;
 use super::increment::{Gain, eval_gain};

@@ -1,20 +1,8 @@
 //! Plain evaluation: the states of all variables from those of the sources, declaration by declaration, from scratch.
 
 ghost use Rattle.std.specs.Prelude.{◌≡◌, ◌<◌, ◌≤◌, length, IfOk, IsFalse};
-ghost use Rattle.std.specs.Arc.{arc_value};
-ghost use Rattle.model_states.specs.Content.{size_of, row_limit};
-ghost use Rattle.model_states.specs.Threshold.{set};
-ghost use Rattle.model_graph.specs.Graph.{kind_at, is_source};
-ghost use Rattle.model_graph.specs.Lawful.{IsKind, sources_among};
-ghost use Rattle.model_graph.specs.Evaluation.{content_at, eval, evaluated};
-ghost use Rattle.model_graph.specs.Width.{HasWidth};
-ghost use Rattle.model_readings.specs.Lawful.{Fits, FitsAll};
-ghost use Rattle.lasp_state.specs.State.{content_of, shape_of, number_of};
-ghost use Rattle.lasp_graph.specs.Kind.{kind_of};
-ghost use Rattle.lasp_graph.specs.Library.{library_of};
-ghost use Rattle.lasp_graph.specs.States.{held_of, held_at, contents_of};
-ghost use Rattle.lasp_graph.specs.Sources.{by_variable};
-ghost use Rattle.lasp_graph.specs.Evaluated.{process, AreSmall, Becomes, Evaluates, seen, AreSets, AreNarrow, derived_shape, shape_after, KeepShapes, number_by, KeepNumbers, second_of};
+ghost use Rattle.lasp_graph.specs.Prelude.{arc_value, size_of, row_limit, set, kind_at, is_source, IsKind, sources_among, content_at, eval, evaluated, HasWidth, Fits, FitsAll, content_of, number_of, kind_of, library_of, held_of, held_at, contents_of, by_variable, process, AreSmall, Becomes, Evaluates, seen, AreSets, AreNarrow, derived_shape, shape_after, KeepShapes, number_by, KeepNumbers, second_of};
+ghost use Rattle.lasp_state.specs.State.{shape_of};
 
 use super::graph::Graph;
 use super::inputs::{EvalAll, EvalRefused, Inputs};

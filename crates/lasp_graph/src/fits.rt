@@ -1,12 +1,9 @@
 //! Whether a graph's functions are those of a library.
 
 ghost use Rattle.std.specs.Prelude.{◌≡◌, ◌↔◌, IsTrue, Some, option_copied};
+ghost use Rattle.lasp_graph.specs.Prelude.{Fits, FitsAll, lift_op_of, kind_of, library_of};
 ghost use Rattle.std.specs.Option.{option_map};
-ghost use Rattle.model_readings.specs.Lawful.{Fits, FitsAll};
-ghost use Rattle.lasp_fns.specs.Lift.{lift_op_of};
 ghost use Rattle.lasp_fns.specs.Steps as counted;
-ghost use Rattle.lasp_graph.specs.Kind.{kind_of};
-ghost use Rattle.lasp_graph.specs.Library.{library_of};
 
 use super::graph::Graph;
 use super::kind::{Kind, LiftRef, MapRef, PredRef};

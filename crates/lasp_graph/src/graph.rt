@@ -1,12 +1,7 @@
 //! The graph: declarations in order, found by their names.
 
 ghost use Rattle.std.specs.Prelude.{◌≡◌, ◌<◌, ◌++◌, ◌∷◌, [], length, slice_get, Some, IfOk, IfSome, OnOk, OnErr};
-ghost use Rattle.model_graph.specs.Graph.{kind_at};
-ghost use Rattle.model_graph.specs.Lawful.{variable_limit, width_at, width_of, widths};
-ghost use Rattle.model_readings.specs.Graph.{place_of};
-ghost use Rattle.model_readings.specs.Lawful.{AreInputs, IsGraph, IsNext};
-ghost use Rattle.lasp_graph.specs.Kind.{kind_of};
-ghost use Rattle.lasp_graph.specs.Decl.{decl_of};
+ghost use Rattle.lasp_graph.specs.Prelude.{kind_at, variable_limit, width_at, width_of, widths, place_of, AreInputs, IsGraph, IsNext, kind_of, decl_of};
 
 use super::decl::Decl;
 use super::kind::Kind;

@@ -1,28 +1,10 @@
 //! What one process gains after its inputs changed, on the sets themselves.
 
 ghost use Rattle.std.specs.Prelude.{◌≡◌, ◌+◌, ◌<◌, ◌≤◌, Err, Some, IfOk, IsFalse, length};
-ghost use Rattle.model_functions.specs.Map.{mapped};
-ghost use Rattle.model_functions.specs.Predicate.{passes};
-ghost use Rattle.model_functions.specs.Library.{operations_at};
-ghost use Rattle.model_sets.specs.Rows.{join};
-ghost use Rattle.model_sets.specs.Equations.{map_set, filter_set, product_set, intersect_set};
-ghost use Rattle.model_states.specs.Content.{of_set, size_of, row_limit};
-ghost use Rattle.model_states.specs.Threshold.{set, fold};
-ghost use Rattle.model_graph.specs.Graph.{is_source};
-ghost use Rattle.model_graph.specs.Lawful.{IsFoldOp, IsKind};
-ghost use Rattle.model_graph.specs.Fold.{fold_rows};
-ghost use Rattle.model_graph.specs.Increment.{IsChange};
-ghost use Rattle.model_readings.specs.Lawful.{Fits};
-ghost use Rattle.lasp_fns.specs.Lift.{lift_op_of};
-ghost use Rattle.lasp_fns.specs.Library.{maps_of, predicates_of, lifts_of, lift_op_at};
+ghost use Rattle.lasp_graph.specs.Prelude.{mapped, passes, operations_at, join, map_set, filter_set, product_set, intersect_set, of_set, size_of, row_limit, set, fold, is_source, IsFoldOp, IsKind, fold_rows, IsChange, Fits, lift_op_of, maps_of, predicates_of, lifts_of, lift_op_at, IsWithinLimits, IsSetOfWidth, content_of, number_of, library_of, kind_of, process, Becomes, seen, derived_shape, number_by, IsStateBefore, IsSetBefore, gained};
 ghost use Rattle.lasp_fns.specs.Steps as counted;
-ghost use Rattle.lasp_fold.specs.Fold.{IsWithinLimits};
-ghost use Rattle.lasp_setops.specs.Width.{IsSetOfWidth};
-ghost use Rattle.lasp_state.specs.State.{content_of, shape_of, number_of};
-ghost use Rattle.lasp_graph.specs.Library.{library_of};
-ghost use Rattle.lasp_graph.specs.Kind.{kind_of, fold_op_of};
-ghost use Rattle.lasp_graph.specs.Evaluated.{process, Becomes, seen, derived_shape, number_by};
-ghost use Rattle.lasp_graph.specs.Delta.{IsStateBefore, IsSetBefore, gained};
+ghost use Rattle.lasp_state.specs.State.{shape_of};
+ghost use Rattle.lasp_graph.specs.Kind.{fold_op_of};
 
 use super::evaluate::MOST_ROWS;
 use super::inputs::EvalRefused;

@@ -1,9 +1,9 @@
 //! What processes read, and how evaluation is refused.
 
 ghost use Rattle.std.specs.Prelude.{◌≡◌};
+ghost use Rattle.lasp_graph.specs.Prelude.{stopped_at};
 ghost use Rattle.lasp_graph.specs.declared.inputs.EvalRefused.TheVariants as eval_refused;
 ghost use Rattle.lasp_graph.specs.declared.inputs.EvalAll.TheVariants as eval_all;
-ghost use Rattle.lasp_graph.specs.Evaluated.{stopped_at};
 
 use lasp_state::State;
 use std::alloc::{AllocError, AllocFailed};

@@ -1,12 +1,9 @@
 //! What a variable is.
 
 ghost use Rattle.std.specs.Prelude.{◌≡◌, pos, IfOk};
-ghost use Rattle.model_graph.specs.Graph.{is_set, is_source};
-ghost use Rattle.model_graph.specs.Evaluation.{least_of};
+ghost use Rattle.lasp_graph.specs.Prelude.{is_set, is_source, least_of, kind_of, inputs_of};
 ghost use Rattle.model_graph.specs.Lawful.{shape_of};
 ghost use Rattle.lasp_state.specs.State as state;
-ghost use Rattle.lasp_graph.specs.Kind.{kind_of};
-ghost use Rattle.lasp_graph.specs.Evaluated.{inputs_of};
 
 use lasp_fns::{LiftOp, MapOps, PredOps};
 use lasp_state::State;

@@ -1,26 +1,9 @@
 //! One process on its inputs.
 
 ghost use Rattle.std.specs.Prelude.{◌≡◌, ◌<◌, ◌≤◌, Err, Some, IfOk, IsFalse, length};
-ghost use Rattle.model_functions.specs.Map.{mapped};
-ghost use Rattle.model_functions.specs.Predicate.{passes};
-ghost use Rattle.model_functions.specs.Library.{operations_at};
-ghost use Rattle.model_sets.specs.Equations.{map_set, filter_set};
-ghost use Rattle.model_states.specs.Content.{of_set, size_of, row_limit};
-ghost use Rattle.model_states.specs.Threshold.{set, fold};
-ghost use Rattle.model_graph.specs.Graph.{is_source};
-ghost use Rattle.model_graph.specs.Lawful.{IsFoldOp, IsKind};
-ghost use Rattle.model_graph.specs.Fold.{fold_rows};
-ghost use Rattle.model_graph.specs.Width.{HasWidth};
-ghost use Rattle.model_readings.specs.Lawful.{Fits};
-ghost use Rattle.lasp_fns.specs.Stored.{lift_of};
-ghost use Rattle.lasp_fns.specs.Lift.{lift_op_of};
-ghost use Rattle.lasp_fns.specs.Library.{maps_of, predicates_of, lifts_of};
-ghost use Rattle.lasp_fold.specs.Fold.{IsWithinLimits};
-ghost use Rattle.lasp_setops.specs.Width.{IsSetOfWidth};
-ghost use Rattle.lasp_state.specs.State.{content_of, shape_of, number_of};
-ghost use Rattle.lasp_graph.specs.Library.{library_of};
-ghost use Rattle.lasp_graph.specs.Kind.{kind_of, fold_op_of};
-ghost use Rattle.lasp_graph.specs.Evaluated.{process, Becomes, seen, derived_shape, number_by};
+ghost use Rattle.lasp_graph.specs.Prelude.{mapped, passes, operations_at, map_set, filter_set, of_set, size_of, row_limit, set, fold, is_source, IsFoldOp, IsKind, fold_rows, HasWidth, Fits, lift_of, lift_op_of, maps_of, predicates_of, lifts_of, IsWithinLimits, IsSetOfWidth, content_of, number_of, library_of, kind_of, process, Becomes, seen, derived_shape, number_by};
+ghost use Rattle.lasp_state.specs.State.{shape_of};
+ghost use Rattle.lasp_graph.specs.Kind.{fold_op_of};
 
 use super::inputs::EvalRefused;
 use super::kind::{FoldOp, Kind, LiftRef, MapRef, PredRef};

@@ -1,17 +1,7 @@
 //! Reading a graph: the tree of its bytes, then declaration after declaration, each against those before it.
 
 ghost use Rattle.std.specs.Prelude.{◌≡◌, ◌<◌, [], length, map, IfOk, OnOk};
-ghost use Rattle.serde_json.specs.View.{view};
-ghost use Rattle.model_graph.specs.Lawful.{variable_limit};
-ghost use Rattle.model_readings.specs.Graph.{known, set_checked, inputs_read, input_read, function_read, kind_read, decl_read, next_read, decls_read, tree_read, graph_of};
-ghost use Rattle.model_readings.specs.Lawful.{AreInputs, IsNext};
-ghost use Rattle.lasp_fns.specs.Lift.{lift_op_of};
-ghost use Rattle.lasp_fns.specs.Library.{maps_of, predicates_of, lifts_of};
-ghost use Rattle.lasp_graph.specs.Library.{library_of};
-ghost use Rattle.lasp_graph.specs.Kind.{kind_of};
-ghost use Rattle.lasp_graph.specs.Decl.{decl_of};
-ghost use Rattle.lasp_graph.specs.Written.{form_view};
-ghost use Rattle.lasp_graph.specs.Answers.{Answers, Gives, GivesAt};
+ghost use Rattle.lasp_graph.specs.Prelude.{view, variable_limit, known, set_checked, inputs_read, input_read, function_read, kind_read, decl_read, next_read, decls_read, tree_read, graph_of, AreInputs, IsNext, lift_op_of, maps_of, predicates_of, lifts_of, library_of, kind_of, decl_of, form_view, Answers, Gives, GivesAt};
 
 use super::decl::Decl;
 use super::graph::Graph;

@@ -1,9 +1,9 @@
 //! How reading is refused.
 
 ghost use Rattle.std.specs.Prelude.{◌≡◌, ◌<◌, ◌^◌};
+ghost use Rattle.lasp_graph.specs.Prelude.{why_of, refused_at};
 ghost use Rattle.lasp_graph.specs.declared.refused.DeclRefused.TheVariants as decl_refused;
 ghost use Rattle.lasp_graph.specs.declared.refused.GraphRefused.TheVariants as graph_refused;
-ghost use Rattle.lasp_graph.specs.Answers.{why_of, refused_at};
 
 use model_readings::GraphWhy;
 use std::alloc::{AllocError, AllocFailed};

@@ -1,16 +1,8 @@
 //! The states of a graph's sources: by themselves in their order, and among those of all variables.
 
 ghost use Rattle.std.specs.Prelude.{◌≡◌, ◌<◌, ◌+◌, ◌++◌, ◌∷◌, [], ℕ, List, Some, length, IfOk, OnOk, IsTrue, if◌then◌else◌};
-ghost use Rattle.std.specs.Arc.{arc_value};
-ghost use Rattle.model_states.specs.Content.{Content};
+ghost use Rattle.lasp_graph.specs.Prelude.{arc_value, Content, Decl, is_source, kind_at, sources_among, content_at, equation, inputs_of, process, AreSets, AreNarrow, kind_of, Held, held_of, held_at, by_variable, sources_of};
 ghost use Rattle.model_graph.specs.Graph as plain;
-ghost use Rattle.model_graph.specs.Graph.{Decl, is_source, kind_at};
-ghost use Rattle.model_graph.specs.Lawful.{sources_among};
-ghost use Rattle.model_graph.specs.Evaluation.{content_at, equation};
-ghost use Rattle.lasp_graph.specs.Evaluated.{inputs_of, process, AreSets, AreNarrow};
-ghost use Rattle.lasp_graph.specs.Kind.{kind_of};
-ghost use Rattle.lasp_graph.specs.States.{Held, held_of, held_at};
-ghost use Rattle.lasp_graph.specs.Sources.{by_variable, sources_of};
 
 use super::graph::Graph;
 use super::kind::Kind;

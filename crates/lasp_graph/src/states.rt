@@ -1,8 +1,7 @@
 //! The states of variables, shared.
 
 ghost use Rattle.std.specs.Prelude.{◌≡◌, ◌<◌, ◌++◌, ◌∷◌, [], length, slice_get, slice_set, Some, IfOk, OnOk, OnErr};
-ghost use Rattle.std.specs.Arc.{arc_value};
-ghost use Rattle.lasp_graph.specs.States.{held_of, held_at, grown, AreJoinable};
+ghost use Rattle.lasp_graph.specs.Prelude.{arc_value, held_of, held_at, grown, AreJoinable};
 
 use lasp_state::State;
 use std::alloc::{AllocError, Global};

@@ -1,8 +1,7 @@
 //! What stands at the places of a JSON array.
 
 ghost use Rattle.std.specs.Prelude.{◌≡◌, option_map};
-ghost use Rattle.serde_json.specs.View.{view, number_view};
-ghost use Rattle.model_readings.specs.Tree.{text_at, number_at, is_word_at, has_items};
+ghost use Rattle.lasp_graph.specs.Prelude.{view, number_view, text_at, number_at, is_word_at, has_items};
 
 use serde_json::{Number, Value as Json};
 

@@ -1,11 +1,9 @@
 //! The forms of a declaration: what stands where, before any name is looked up.
 
 ghost use Rattle.std.specs.Prelude.{◌≡◌, option_map, is_some, codes};
-ghost use Rattle.serde_json.specs.View.{view};
-ghost use Rattle.model_readings.specs.Tree.{text_at, two};
-ghost use Rattle.model_readings.specs.Graph.{form_of, written_of, source_form, names_of, modulo_by, modulo_of, fold_op_of, fold_form};
+ghost use Rattle.lasp_graph.specs.Prelude.{view, text_at, two, form_of, written_of, source_form, names_of, modulo_by, modulo_of, fold_form, form_view, written_view};
+ghost use Rattle.model_readings.specs.Graph.{fold_op_of};
 ghost use Rattle.lasp_graph.specs.Kind as kinds;
-ghost use Rattle.lasp_graph.specs.Written.{form_view, written_view};
 
 use super::kind::FoldOp;
 use super::tree::{has_items, is_word_at, number_at, text_at};

@@ -1,7 +1,7 @@
 //! One growth of a variable, as it is kept.
 
 ghost use Rattle.std.specs.Prelude.{◌≡◌};
-ghost use Rattle.lasp_history.specs.Kept.{growth};
+ghost use Rattle.lasp_history.specs.Prelude.{growth};
 
 use std::marker::Model;
 

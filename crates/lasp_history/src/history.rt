@@ -1,8 +1,7 @@
 //! The history of one variable: what it answers, and how it goes on.
 
 ghost use Rattle.std.specs.Prelude.{◌≡◌, ◌≤◌, ◌↔◌, [], Bool, true, false, IfOk, OnOk, OnErr, IsTrue, length, drop};
-ghost use Rattle.model_sets.specs.Rows.{of_rows};
-ghost use Rattle.lasp_history.specs.History.{no_history, grown, version_before, rows_before, AreBelow};
+ghost use Rattle.lasp_history.specs.Prelude.{of_rows, no_history, grown, version_before, rows_before, AreBelow};
 
 use super::growth::Growth;
 use super::news::{rows_of, set_of};

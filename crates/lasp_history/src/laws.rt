@@ -1,16 +1,7 @@
 //! What a history says of its variable. There is nothing to run here: each function's contract is a group of laws.
 
 ghost use Rattle.std.specs.Prelude.{◌≡◌, ℕ, ◌<◌, ◌≤◌, ◌↔◌, ◌++◌, ◌∷◌, [], IsTrue, List, length, take, drop};
-ghost use Rattle.model_values.specs.Row.{Row};
-ghost use Rattle.model_sets.specs.Rows.{IsAscending, of_rows, join};
-ghost use Rattle.model_sets.specs.Equations.{changed};
-ghost use Rattle.model_states.specs.Content.{IsContentAtMost};
-ghost use Rattle.model_graph.specs.Graph.{Decl, is_set, kind_at};
-ghost use Rattle.model_journal.specs.Entry.{Entry, Frame, Extend};
-ghost use Rattle.model_journal.specs.Journal.{graph, val};
-ghost use Rattle.model_journal.specs.Clean.{version};
-ghost use Rattle.model_journal.specs.Legal.{IsLegal};
-ghost use Rattle.lasp_history.specs.History.{History, no_history, grown, version_before, rows_before, IsHistory};
+ghost use Rattle.lasp_history.specs.Prelude.{Row, IsAscending, of_rows, join, changed, IsContentAtMost, Decl, is_set, kind_at, Entry, Frame, Extend, graph, val, version, IsLegal, History, no_history, grown, version_before, rows_before, IsHistory};
 
 /// The rows since any entry are exactly those by which the set changed since, and the growths are the variable's versions.
 #[tactic(auto, using(crate::proofs::HistoryLaws::histories))]

@@ -1,7 +1,7 @@
 //! Rows from lists to sets and back, shared.
 
 ghost use Rattle.std.specs.Prelude.{◌≡◌, IfOk};
-ghost use Rattle.model_sets.specs.Rows.{of_rows};
+ghost use Rattle.lasp_history.specs.Prelude.{of_rows};
 
 use lasp_orset::{Entry, OrSet};
 use std::alloc::{AllocError, Global};

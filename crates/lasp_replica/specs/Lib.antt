@@ -7,3 +7,4 @@ pub mod Update
 pub mod Finish
 pub mod Delivery
 pub mod Entries
+pub mod Prelude

@@ -1,23 +1,8 @@
 //! What a replica keeps after each entry.
 
 ghost use Rattle.std.specs.Prelude.{◌≡◌, ℕ, ◌+◌, ◌<◌, ◌≤◌, IsTrue, List, [], ◌∷◌, ◌++◌, length, map, take, slice_set, Some};
-ghost use Rattle.model_states.specs.Counts.{count_at, zeros};
-ghost use Rattle.model_states.specs.Content.{IsOrdered, IsContentAtMost};
-ghost use Rattle.model_states.specs.Update.{Op, delta};
-ghost use Rattle.model_graph.specs.Graph.{Decl, is_source, kind_at};
-ghost use Rattle.model_graph.specs.Evaluation.{equation};
-ghost use Rattle.model_graph.specs.Lawful.{IsDerived, IsGraph};
-ghost use Rattle.model_messages.specs.Message.{Message};
-ghost use Rattle.model_journal.specs.Entry.{Update, Deliver, Bind, Extend, Entry, Frame};
-ghost use Rattle.model_journal.specs.Journal.{vals, val, counts};
-ghost use Rattle.model_journal.specs.Clean.{base};
-ghost use Rattle.model_journal.specs.Legal.{IsLegal};
-ghost use Rattle.lasp_history.specs.History.{grown, no_history};
+ghost use Rattle.lasp_replica.specs.Prelude.{count_at, zeros, IsOrdered, IsContentAtMost, Op, delta, Decl, is_source, kind_at, equation, IsDerived, IsGraph, Message, Update, Deliver, Bind, Extend, Entry, Frame, vals, val, counts, base, IsLegal, grown, no_history, Held, held_at, number_by, Base, Parts, IsBase, history_at, news_of, fresh_base, fresh_state, IsKept, IsTakenIn, IsInOrder};
 ghost use Rattle.lasp_graph.specs.States as states;
-ghost use Rattle.lasp_graph.specs.States.{Held, held_at};
-ghost use Rattle.lasp_graph.specs.Evaluated.{number_by};
-ghost use Rattle.lasp_replica.specs.Parts.{Base, Parts, IsBase, history_at, news_of, fresh_base, fresh_state, IsKept};
-ghost use Rattle.lasp_replica.specs.TakenIn.{IsTakenIn, IsInOrder};
 
 /// Before the first entry every variable is least, and no process has read anything; so starts a declared variable, and the others stay.
 pub fn declarations_are_kept()

@@ -1,20 +1,7 @@
 //! What the kept parts tell of the journal.
 
 ghost use Rattle.std.specs.Prelude.{◌≡◌, ℕ, ◌<◌, ◌≤◌, ◌↔◌, IsTrue, List, [], length, take, Some};
-ghost use Rattle.model_values.specs.Row.{Row};
-ghost use Rattle.model_sets.specs.Rows.{IsAscending, IsAtMost, join};
-ghost use Rattle.model_sets.specs.Equations.{changed};
-ghost use Rattle.model_states.specs.Content.{Content, of_set, IsContentAtMost};
-ghost use Rattle.model_graph.specs.Graph.{is_set, kind_at};
-ghost use Rattle.model_graph.specs.Lawful.{IsDerived};
-ghost use Rattle.model_journal.specs.Entry.{Entry, Frame};
-ghost use Rattle.model_journal.specs.Journal.{vals, val};
-ghost use Rattle.model_journal.specs.Clean.{IsClean, applied, version};
-ghost use Rattle.model_journal.specs.Legal.{IsLegal};
-ghost use Rattle.lasp_history.specs.History.{version_before, rows_before};
-ghost use Rattle.lasp_graph.specs.States.{held_at};
-ghost use Rattle.lasp_replica.specs.Parts.{Base, Parts, base_at, history_at, first_input, second_input, IsKept};
-ghost use Rattle.lasp_replica.specs.Reading.{IsStill, rows_since, HasChanged, IsOfItsKind, IsSmallSet};
+ghost use Rattle.lasp_replica.specs.Prelude.{Row, IsAscending, IsAtMost, join, changed, Content, of_set, IsContentAtMost, is_set, kind_at, IsDerived, Entry, Frame, vals, val, IsClean, applied, version, IsLegal, version_before, rows_before, held_at, Base, Parts, base_at, history_at, first_input, second_input, IsKept, IsStill, rows_since, HasChanged, IsOfItsKind, IsSmallSet};
 
 /// A process is clean exactly where neither input grew since it was read; versions are counts of growths; and a process has what its kind makes of what it read.
 pub fn bases_tell_what_is_clean()

@@ -1,8 +1,7 @@
 //! A replica: its journal, and beside it what follows from it: the states, their histories, and what each process last read.
 
 ghost use Rattle.std.specs.Prelude.{◌≡◌, ◌<◌, ◌≤◌, [], IfOk, length, replicate};
-ghost use Rattle.std.specs.Arc.{arc_value};
-ghost use Rattle.lasp_replica.specs.Replica.{frame_of, entries_of, busy_of, IsReplica};
+ghost use Rattle.lasp_replica.specs.Prelude.{arc_value, frame_of, entries_of, busy_of, IsReplica};
 
 mod deliver;
 mod extend;

@@ -1,12 +1,8 @@
 //! Which messages have the sources of a graph.
 
 ghost use Rattle.std.specs.Prelude.{◌≡◌, ◌<◌, ◌↔◌, IsTrue, Some, length, slice_get};
-ghost use Rattle.model_graph.specs.Graph.{is_source};
-ghost use Rattle.model_messages.specs.Message.{Sent};
-ghost use Rattle.lasp_graph.specs.Decl.{decl_of};
-ghost use Rattle.lasp_graph.specs.Kind.{kind_of};
+ghost use Rattle.lasp_replica.specs.Prelude.{is_source, Sent, decl_of, kind_of, IsBeginning};
 ghost use Rattle.lasp_wire.specs.Sent as sent;
-ghost use Rattle.lasp_replica.specs.Replica.{IsBeginning};
 
 use lasp_graph::{Decl, Graph, Kind};
 use lasp_state::State;

@@ -1,12 +1,7 @@
 //! Map and filter through a library that counts its calls.
 
 ghost use Rattle.std.specs.Prelude.{◌≡◌, ◌<◌, ◌≤◌, ◌+◌, IfOk, length};
-ghost use Rattle.model_functions.specs.Map.{mapped};
-ghost use Rattle.model_functions.specs.Predicate.{passes};
-ghost use Rattle.model_sets.specs.Equations.{map_set, filter_set};
-ghost use Rattle.lasp_fns.specs.Library.{maps_of, predicates_of, map_ops_at, pred_ops_at};
-ghost use Rattle.lasp_fns.specs.Steps.{library_of, ticks_of};
-ghost use Rattle.lasp_setops.specs.Width.{IsSetOfWidth};
+ghost use Rattle.lasp_setops.specs.Prelude.{mapped, passes, map_set, filter_set, maps_of, predicates_of, map_ops_at, pred_ops_at, library_of, ticks_of, IsSetOfWidth};
 
 use crate::row::with_value;
 use lasp_fns::StepLib;

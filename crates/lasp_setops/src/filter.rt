@@ -1,10 +1,7 @@
 //! The filter of a set by a stored predicate.
 
 ghost use Rattle.std.specs.Prelude.{◌≡◌, IfOk};
-ghost use Rattle.model_functions.specs.Predicate.{passes};
-ghost use Rattle.model_sets.specs.Equations.{filter_set};
-ghost use Rattle.lasp_fns.specs.Stored.{conditions_of};
-ghost use Rattle.lasp_setops.specs.Width.{IsSetOfWidth};
+ghost use Rattle.lasp_setops.specs.Prelude.{passes, filter_set, conditions_of, IsSetOfWidth};
 
 use lasp_fns::StoredPred;
 use lasp_orset::OrSet;

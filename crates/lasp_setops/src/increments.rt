@@ -1,15 +1,7 @@
 //! Each process after its inputs changed: from the result before, the changed rows, and for two inputs the sets as they are now. The cost is that of the changed rows and of the rows that they give, and a share for each 64 to 128 rows of the result.
 
 ghost use Rattle.std.specs.Prelude.{◌≡◌, ◌<◌, ◌≤◌, ◌+◌, Err, IfOk, List, length};
-ghost use Rattle.model_values.specs.Row.{Row};
-ghost use Rattle.model_functions.specs.Map.{mapped};
-ghost use Rattle.model_functions.specs.Predicate.{passes};
-ghost use Rattle.model_sets.specs.Equations.{map_set, filter_set, union_set, product_set, intersect_set};
-ghost use Rattle.model_states.specs.Content.{row_limit};
-ghost use Rattle.lasp_fns.specs.Library.{maps_of, predicates_of, map_ops_at, pred_ops_at};
-ghost use Rattle.lasp_fns.specs.Steps.{library_of, ticks_of};
-ghost use Rattle.lasp_setops.specs.Width.{IsSetOfWidth};
-ghost use Rattle.lasp_setops.specs.Grown.{IsGrown};
+ghost use Rattle.lasp_setops.specs.Prelude.{Row, mapped, passes, map_set, filter_set, union_set, product_set, intersect_set, row_limit, maps_of, predicates_of, map_ops_at, pred_ops_at, library_of, ticks_of, IsSetOfWidth, IsGrown};
 
 use crate::counted::{filter_counted, map_counted};
 use crate::refused::SetRefused;

@@ -1,10 +1,7 @@
 //! The intersection of two sets.
 
 ghost use Rattle.std.specs.Prelude.{◌≡◌, ◌<◌, ◌≤◌, Err, IfOk, OnOk, length, flat_map};
-ghost use Rattle.model_sets.specs.Rows.{join};
-ghost use Rattle.model_sets.specs.Equations.{intersect_set};
-ghost use Rattle.lasp_setops.specs.Joined.{meetings};
-ghost use Rattle.model_states.specs.Content.{row_limit};
+ghost use Rattle.lasp_setops.specs.Prelude.{join, intersect_set, meetings, row_limit};
 
 use crate::refused::SetRefused;
 use crate::row::{add_within, met};

@@ -1,13 +1,7 @@
 //! What the processes keep, and that any rows that make the difference serve as a change. There is nothing to run here.
 
 ghost use Rattle.std.specs.Prelude.{◌≡◌, ℕ, ◌+◌, max, Bool, List};
-ghost use Rattle.model_values.specs.Value.{Val};
-ghost use Rattle.model_values.specs.Row.{Row};
-ghost use Rattle.model_functions.specs.Map.{MapOp, mapped};
-ghost use Rattle.model_sets.specs.Rows.{IsAscending, IsAtMost};
-ghost use Rattle.model_sets.specs.Equations.{map_set, filter_set, union_set, product_set, intersect_set, changed};
-ghost use Rattle.lasp_setops.specs.Width.{IsSetOfWidth};
-ghost use Rattle.lasp_setops.specs.Grown.{IsGrown};
+ghost use Rattle.lasp_setops.specs.Prelude.{Val, Row, MapOp, mapped, IsAscending, IsAtMost, map_set, filter_set, union_set, product_set, intersect_set, changed, IsSetOfWidth, IsGrown};
 
 /// The results are of the width that their inputs have: of the greater one in a union, of both together in a product and an intersection.
 #[tactic(auto, using(crate::proofs::WidthLaws::widths))]

@@ -1,10 +1,7 @@
 //! The map of a set by a stored function.
 
 ghost use Rattle.std.specs.Prelude.{◌≡◌, IfOk};
-ghost use Rattle.model_functions.specs.Map.{mapped};
-ghost use Rattle.model_sets.specs.Equations.{map_set};
-ghost use Rattle.lasp_fns.specs.Stored.{ops_of};
-ghost use Rattle.lasp_setops.specs.Width.{IsSetOfWidth};
+ghost use Rattle.lasp_setops.specs.Prelude.{mapped, map_set, ops_of, IsSetOfWidth};
 
 use crate::row::with_value;
 use lasp_fns::StoredMap;

@@ -1,9 +1,7 @@
 //! The product of two sets.
 
 ghost use Rattle.std.specs.Prelude.{◌≡◌, ◌<◌, ◌≤◌, Err, IfOk, OnOk, length, map};
-ghost use Rattle.model_sets.specs.Rows.{join};
-ghost use Rattle.model_sets.specs.Equations.{product_set, paired};
-ghost use Rattle.model_states.specs.Content.{row_limit};
+ghost use Rattle.lasp_setops.specs.Prelude.{join, product_set, paired, row_limit};
 
 use crate::refused::SetRefused;
 use crate::row::{add_within, paired};

@@ -1,12 +1,8 @@
 //! The rows that processes make of rows, and putting them into a result that may be too large.
 
 ghost use Rattle.std.specs.Prelude.{◌≡◌, ◌<◌, ◌≤◌, Err, IfOk, OnOk, length};
+ghost use Rattle.lasp_setops.specs.Prelude.{put, paired, met, row_limit, val_of, tok_of};
 ghost use Rattle.model_values.specs.Token as tok;
-ghost use Rattle.model_sets.specs.Rows.{put};
-ghost use Rattle.model_sets.specs.Equations.{paired, met};
-ghost use Rattle.model_states.specs.Content.{row_limit};
-ghost use Rattle.lasp_value.specs.Value.{val_of};
-ghost use Rattle.lasp_value.specs.Token.{tok_of};
 
 use crate::refused::SetRefused;
 use lasp_orset::{Entry, EntryRef, OrSet};

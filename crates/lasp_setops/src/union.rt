@@ -1,8 +1,7 @@
 //! The union of two sets.
 
 ghost use Rattle.std.specs.Prelude.{◌≡◌, ◌<◌, ◌≤◌, IfOk, length};
-ghost use Rattle.model_sets.specs.Rows.{join};
-ghost use Rattle.model_states.specs.Content.{row_limit};
+ghost use Rattle.lasp_setops.specs.Prelude.{join, row_limit};
 
 use crate::refused::SetRefused;
 use crate::row::check_rows;

@@ -4,3 +4,4 @@ pub mod Placed
 pub mod Read
 pub mod Sent
 pub mod Written
+pub mod Prelude

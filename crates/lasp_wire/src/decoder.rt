@@ -1,13 +1,8 @@
 //! The message that bytes are.
 
 ghost use Rattle.std.specs.Prelude.{◌≡◌, ℕ, IfOk, IfErr, Result, Ok, Err};
+ghost use Rattle.lasp_wire.specs.Prelude.{decoded, decoded_from, WireWhy, IsMessage, IsSpelledSo, IsStuck, Fails, Refuses, Tells, IsStuckAs, parts_of};
 ghost use Rattle.model_messages.specs.Message as plain;
-ghost use Rattle.model_wire.specs.Message.{decoded, decoded_from};
-ghost use Rattle.model_wire.specs.declared.wire_why.WireWhy.{WireWhy};
-ghost use Rattle.model_wire.specs.Lawful.{IsMessage, IsSpelledSo};
-ghost use Rattle.model_wire.specs.Stuck.{IsStuck};
-ghost use Rattle.lasp_wire.specs.Read.{Fails};
-ghost use Rattle.lasp_wire.specs.Decoded.{Refuses, Tells, IsStuckAs, parts_of};
 
 use super::counts::Counts;
 use super::message::Message;

@@ -1,7 +1,7 @@
 //! The bytes of a message.
 
 ghost use Rattle.std.specs.Prelude.{◌≡◌, ◌++◌, ◌∷◌, [], IfOk, OnOk, codes, flat_map, length};
-ghost use Rattle.model_messages.specs.Spelling.{number, spelled, spelled_counts, spelled_source};
+ghost use Rattle.lasp_wire.specs.Prelude.{number, spelled, spelled_counts, spelled_source};
 
 use super::counts::Counts;
 use super::message::Message;

@@ -5,8 +5,7 @@ mod states;
 mod values;
 
 ghost use Rattle.std.specs.Prelude.{◌≡◌, ◌≤◌, ◌^◌, flat_map, length, map};
-ghost use Rattle.model_messages.specs.Spelling.{spelled, spelled_source};
-ghost use Rattle.lasp_wire.specs.Sent.{sent_of};
+ghost use Rattle.lasp_wire.specs.Prelude.{spelled, spelled_source, sent_of};
 
 use self::states::state_len;
 use super::message::Message;

@@ -1,9 +1,7 @@
 //! The messages between replicas.
 
 ghost use Rattle.std.specs.Prelude.{◌≡◌, ◌<◌, [], Some, OnOk, OnErr, length, map, slice_get};
-ghost use Rattle.std.specs.Option.{option_map};
-ghost use Rattle.model_wire.specs.Lawful.{IsMessage};
-ghost use Rattle.lasp_wire.specs.Sent.{held_of, held_in, sent, sent_of, message, with_source};
+ghost use Rattle.lasp_wire.specs.Prelude.{option_map, IsMessage, held_of, held_in, sent, sent_of, message, with_source};
 
 use super::counts::Counts;
 use super::source::Source;

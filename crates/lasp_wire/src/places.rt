@@ -1,11 +1,7 @@
 //! The fields at a place of bytes, for formats that have fields of messages among their own. A place is counted in bytes from 0; a refusal names the place of the first field from there on that can't be read.
 
 ghost use Rattle.std.specs.Prelude.{◌≡◌, ℕ, ◌+◌, ◌≤◌, IfOk, drop, length};
-ghost use Rattle.std.specs.Int.{w64};
-ghost use Rattle.model_states.specs.Counts.{zeros};
-ghost use Rattle.model_wire.specs.Reader.{ranged_at, magic_at};
-ghost use Rattle.model_wire.specs.Message.{update_limit, nodes_at, sources_at};
-ghost use Rattle.lasp_wire.specs.Placed.{IsReadAt, placed_in};
+ghost use Rattle.lasp_wire.specs.Prelude.{w64, zeros, ranged_at, magic_at, update_limit, nodes_at, sources_at, IsReadAt, placed_in};
 
 use super::counts::Counts;
 use super::message::Message;

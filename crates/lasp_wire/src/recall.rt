@@ -1,10 +1,8 @@
 //! What values are by their types alone.
 
 ghost use Rattle.std.specs.Prelude.{◌≡◌, true, FitsSigned};
-ghost use Rattle.std.specs.Str.{is_utf8};
+ghost use Rattle.lasp_wire.specs.Prelude.{is_utf8, IsSpellable, val_of};
 ghost use mir.Syntax.{w64};
-ghost use Rattle.model_wire.specs.Lawful.{IsSpellable};
-ghost use Rattle.lasp_value.specs.Value.{val_of};
 
 use lasp_value::Value;
 

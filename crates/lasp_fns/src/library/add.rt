@@ -1,10 +1,7 @@
 //! How functions come into a library.
 
 ghost use Rattle.std.specs.Prelude.{◌≡◌, ◌↔◌, ◌<◌, ◌++◌, ◌∷◌, [], Err, OnOk, OnErr, IsTrue, length, false};
-ghost use Rattle.model_values.specs.Name.{is_name};
-ghost use Rattle.lasp_fns.specs.Named.{is_named};
-ghost use Rattle.lasp_fns.specs.Stored.{ops_of, conditions_of, lift_of};
-ghost use Rattle.lasp_fns.specs.Library.{maps_of, predicates_of, lifts_of};
+ghost use Rattle.lasp_fns.specs.Prelude.{is_name, is_named, ops_of, conditions_of, lift_of, maps_of, predicates_of, lifts_of};
 
 use super::Library;
 use crate::refused::LibraryRefused;

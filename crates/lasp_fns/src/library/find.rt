@@ -1,11 +1,7 @@
 //! How functions of a library are found.
 
 ghost use Rattle.std.specs.Prelude.{◌≡◌, ◌<◌, Some, length, option_copied};
-ghost use Rattle.std.specs.Option.{option_map};
-ghost use Rattle.lasp_fns.specs.Lift.{lift_op_of};
-ghost use Rattle.lasp_fns.specs.Named.{place_named, item_at};
-ghost use Rattle.lasp_fns.specs.Stored.{ops_of, conditions_of, lift_of};
-ghost use Rattle.lasp_fns.specs.Library.{maps_of, predicates_of, lifts_of};
+ghost use Rattle.lasp_fns.specs.Prelude.{option_map, lift_op_of, place_named, item_at, ops_of, conditions_of, lift_of, maps_of, predicates_of, lifts_of};
 
 use super::Library;
 use crate::lift::LiftOp;

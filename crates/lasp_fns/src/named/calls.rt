@@ -1,9 +1,7 @@
 //! How functions are added and found.
 
 ghost use Rattle.std.specs.Prelude.{◌≡◌, ◌↔◌, ◌<◌, ◌++◌, ◌∷◌, [], Err, OnOk, OnErr, IsTrue, length, false, option_copied};
-ghost use Rattle.model_values.specs.Name.{is_name};
-ghost use Rattle.lasp_fns.specs.Named.{is_named, place_named, item_at};
-ghost use Rattle.lasp_fns.specs.Kept.{named_of};
+ghost use Rattle.lasp_fns.specs.Prelude.{is_name, is_named, place_named, item_at, named_of};
 
 use super::Named;
 use crate::refused::LibraryRefused;

@@ -1,13 +1,7 @@
 //! How stored functions are made and called.
 
 ghost use Rattle.std.specs.Prelude.{◌≡◌};
-ghost use Rattle.model_values.specs.Size.{IsSized};
-ghost use Rattle.model_functions.specs.Predicate.{passes};
-ghost use Rattle.model_functions.specs.Lift.{lifted};
-ghost use Rattle.lasp_value.specs.Value.{val_of};
-ghost use Rattle.lasp_fns.specs.Lift.{lift_op_of};
-ghost use Rattle.lasp_fns.specs.Answers.{Answers};
-ghost use Rattle.lasp_fns.specs.Stored.{ops_of, conditions_of, lift_of};
+ghost use Rattle.lasp_fns.specs.Prelude.{IsSized, passes, lifted, val_of, lift_op_of, Answers, ops_of, conditions_of, lift_of};
 
 use super::{LiftFn, MapFn, PredFn, StoredLift, StoredMap, StoredPred};
 use crate::lift::LiftOp;

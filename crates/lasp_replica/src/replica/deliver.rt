@@ -1,19 +1,11 @@
 //! Deliveries of messages to a replica.
 
 ghost use Rattle.std.specs.Prelude.{◌≡◌, ◌<◌, ◌≤◌, OnOk, OnErr, IfOk, length, map};
-ghost use Rattle.std.specs.Arc.{arc_value};
+ghost use Rattle.lasp_replica.specs.Prelude.{arc_value, join_contents, of_set, size_of, row_limit, set, sent_at, brought, gained, IsSentTo, entry, content_of, held_of, held_at, contents_of, AreJoinable, told, IsReplica, Goes, Stays, IsDelivered, AreSourcesOfKind, IsLike, AreSmall, IsRefusedAt, AreJoined, IsRefused, AreRecordable, AreRecordedTo};
 ghost use Rattle.model_states.specs.Counts as plain;
-ghost use Rattle.model_states.specs.Content.{join_contents, of_set, size_of, row_limit};
-ghost use Rattle.model_states.specs.Threshold.{set};
-ghost use Rattle.model_messages.specs.Message.{sent_at, brought, gained};
-ghost use Rattle.model_runs.specs.Held.{IsSentTo};
 ghost use Rattle.model_journal.specs.Entry as model;
-ghost use Rattle.model_journal.specs.Entry.{entry};
-ghost use Rattle.lasp_state.specs.State.{content_of, shape_of};
-ghost use Rattle.lasp_graph.specs.States.{held_of, held_at, contents_of, AreJoinable};
-ghost use Rattle.lasp_replica.specs.Replica.{told, IsReplica, Goes, Stays, IsDelivered};
-ghost use Rattle.lasp_graph.specs.States.{AreSourcesOfKind};
-ghost use Rattle.lasp_replica.specs.Delivery.{IsLike, AreSmall, IsTaken, IsRefusedAt, AreJoined, IsRefused, AreRecordable, AreRecordedTo};
+ghost use Rattle.lasp_state.specs.State.{shape_of};
+ghost use Rattle.lasp_replica.specs.Delivery.{IsTaken};
 
 use super::sizes::{joined_size, news};
 use super::{MOST_ROWS, Replica};

@@ -1,13 +1,8 @@
 //! Declarations.
 
 ghost use Rattle.std.specs.Prelude.{◌≡◌, ◌<◌, ◌++◌, ◌∷◌, [], OnOk, OnErr, length};
-ghost use Rattle.std.specs.Arc.{arc_value};
-ghost use Rattle.model_graph.specs.Lawful.{variable_limit};
-ghost use Rattle.model_readings.specs.Lawful.{IsNext};
+ghost use Rattle.lasp_replica.specs.Prelude.{arc_value, variable_limit, IsNext, entry, decl_of, IsReplica, Grows, Stays};
 ghost use Rattle.model_journal.specs.Entry as model;
-ghost use Rattle.model_journal.specs.Entry.{entry};
-ghost use Rattle.lasp_graph.specs.Decl.{decl_of};
-ghost use Rattle.lasp_replica.specs.Replica.{IsReplica, Grows, Stays};
 
 use super::Replica;
 use super::least::{fresh_process, least_state};

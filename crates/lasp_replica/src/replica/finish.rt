@@ -1,20 +1,8 @@
 //! Results of jobs.
 
 ghost use Rattle.std.specs.Prelude.{◌≡◌, ◌<◌, ◌≤◌, ◌↔◌, IfOk, OnOk, OnErr, IfErr, IsTrue, IsFalse, IsSome, ◌++◌, ◌∷◌, [], length, map, take, slice_set, slice_index_or, Some, None, vec_len, vec_capacity};
-ghost use Rattle.std.specs.Arc.{arc_value};
-ghost use Rattle.model_sets.specs.Equations.{changed};
-ghost use Rattle.model_states.specs.Content.{size_of, row_limit};
-ghost use Rattle.model_states.specs.Threshold.{set};
-ghost use Rattle.model_graph.specs.Graph.{kind_at};
-ghost use Rattle.model_graph.specs.Evaluation.{equation};
-ghost use Rattle.model_graph.specs.Lawful.{IsDerived};
-ghost use Rattle.model_journal.specs.Journal.{graph, vals};
-ghost use Rattle.model_journal.specs.Clean.{base};
-ghost use Rattle.lasp_state.specs.State.{content_of, shape_of};
-ghost use Rattle.lasp_graph.specs.States.{held_at};
-ghost use Rattle.lasp_replica.specs.Replica.{frame_of, entries_of, told, seen_process, jobs_of, IsReplica, Stays};
-ghost use Rattle.lasp_replica.specs.Jobs.{IsJobOf, IsResultOf, HasBound};
-ghost use Rattle.lasp_replica.specs.Finish.{HasRows, AreNewsOf, IsAlike, HasRoom, base_on};
+ghost use Rattle.lasp_replica.specs.Prelude.{arc_value, changed, size_of, row_limit, set, kind_at, equation, IsDerived, graph, vals, base, content_of, held_at, frame_of, entries_of, told, seen_process, jobs_of, IsReplica, Stays, IsJobOf, IsResultOf, HasBound, HasRows, AreNewsOf, IsAlike, HasRoom, base_on};
+ghost use Rattle.lasp_state.specs.State.{shape_of};
 
 use super::Replica;
 use super::update::record_growth;

@@ -1,15 +1,8 @@
 //! What a replica keeps before anything happened.
 
 ghost use Rattle.std.specs.Prelude.{◌≡◌, ◌<◌, IfOk, length, map};
-ghost use Rattle.std.specs.Arc.{arc_value};
+ghost use Rattle.lasp_replica.specs.Prelude.{arc_value, decl_at, held_of, kind_of, no_history, has_two, fresh_state, fresh_base, no_set, told, jobs_of, seen_process};
 ghost use Rattle.model_states.specs.Counts as plain;
-ghost use Rattle.model_graph.specs.Graph.{decl_at};
-ghost use Rattle.lasp_graph.specs.States.{held_of};
-ghost use Rattle.lasp_graph.specs.Kind.{kind_of};
-ghost use Rattle.lasp_history.specs.History.{no_history};
-ghost use Rattle.lasp_job.specs.Asked.{has_two};
-ghost use Rattle.lasp_replica.specs.Parts.{fresh_state, fresh_base, no_set};
-ghost use Rattle.lasp_replica.specs.Replica.{told, jobs_of, seen_process};
 
 use crate::process::Process;
 use lasp_graph::{Graph, Inputs, Kind, States};

@@ -1,11 +1,7 @@
 //! Which derived variables have taken in their inputs as they are.
 
 ghost use Rattle.std.specs.Prelude.{◌≡◌, ◌≢◌, ◌<◌, ◌↔◌, IsTrue, ℕ, Some, IfSome, IfNone, length, slice_get, slice_index_or};
-ghost use Rattle.lasp_history.specs.History.{version_before};
-ghost use Rattle.std.specs.Arc.{arc_value};
-ghost use Rattle.model_journal.specs.Clean.{IsClean};
-ghost use Rattle.lasp_replica.specs.Replica.{frame_of, entries_of, busy_of, growths_at, IsReplica};
-ghost use Rattle.lasp_replica.specs.Jobs.{IsUncleanAt, IsFirstUnclean, IsFreeAt, IsFirstFree, IsNextVar, IsLacking};
+ghost use Rattle.lasp_replica.specs.Prelude.{version_before, arc_value, IsClean, frame_of, entries_of, busy_of, growths_at, IsReplica, IsUncleanAt, IsFirstUnclean, IsFreeAt, IsFirstFree, IsNextVar, IsLacking};
 
 use super::Replica;
 use crate::process::Process;

@@ -1,10 +1,8 @@
 //! How large a join would be, and what it would change, before it is made.
 
 ghost use Rattle.std.specs.Prelude.{◌≡◌, ◌≢◌, ◌↔◌, IfOk, OnOk, OnErr, IsTrue, IsFalse, length};
-ghost use Rattle.model_sets.specs.Equations.{changed};
-ghost use Rattle.model_states.specs.Content.{join_contents, size_of, IsContentAtMost};
-ghost use Rattle.lasp_state.specs.State.{content_of, shape_of};
-ghost use Rattle.lasp_replica.specs.Parts.{news_of};
+ghost use Rattle.lasp_replica.specs.Prelude.{changed, join_contents, size_of, IsContentAtMost, content_of, news_of};
+ghost use Rattle.lasp_state.specs.State.{shape_of};
 
 use lasp_orset::{OrSet, changed};
 use lasp_state::State;

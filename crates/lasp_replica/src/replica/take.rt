@@ -1,18 +1,8 @@
 //! Jobs: what an evaluation of a derived variable needs, without the replica.
 
 ghost use Rattle.std.specs.Prelude.{◌≡◌, ◌<◌, ◌≤◌, IfOk, OnOk, OnErr, IsTrue, IsFalse, Some, length, slice_get, drop, is_some};
-ghost use Rattle.std.specs.Arc.{arc_value};
-ghost use Rattle.model_sets.specs.Rows.{of_rows};
-ghost use Rattle.model_graph.specs.Graph.{is_set, is_source, kind_at};
-ghost use Rattle.model_graph.specs.Lawful.{IsDerived};
-ghost use Rattle.lasp_history.specs.History.{rows_before};
-ghost use Rattle.lasp_graph.specs.Kind.{kind_of};
-ghost use Rattle.lasp_graph.specs.States.{held_of, held_at};
-ghost use Rattle.lasp_graph.specs.Evaluated.{second_of};
-ghost use Rattle.lasp_job.specs.Asked.{has_two};
-ghost use Rattle.lasp_replica.specs.Parts.{first_input, second_input};
-ghost use Rattle.lasp_replica.specs.Replica.{entries_of, growths_at, log_at, IsReplica};
-ghost use Rattle.lasp_replica.specs.Jobs.{IsTaken, HasStarted, HasStopped, AreShared};
+ghost use Rattle.lasp_replica.specs.Prelude.{arc_value, of_rows, is_set, is_source, kind_at, IsDerived, rows_before, kind_of, held_of, held_at, second_of, has_two, first_input, second_input, entries_of, growths_at, log_at, IsReplica, HasStarted, HasStopped, AreShared};
+ghost use Rattle.lasp_replica.specs.Jobs.{IsTaken};
 
 use super::Replica;
 use super::least::has_two;

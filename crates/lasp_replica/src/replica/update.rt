@@ -1,21 +1,11 @@
 //! Updates of a replica's sources.
 
 ghost use Rattle.std.specs.Prelude.{◌≡◌, ℕ, ◌<◌, IfOk, OnOk, OnErr, Ok, Err, IsTrue, FitsSigned, length, map};
+ghost use Rattle.lasp_replica.specs.Prelude.{arc_value, kind_at, is_source, is_shape, vals, counts, entry, op_of, kind_of, contents_of, held_of, held_at, AreJoinable, AreBelow, IsInFormat, IsGain, IsPrepared, recorded, IsReplica, Goes, Stays, IsSmall, shape_for, is_for, update_refusal, IsAnswered, update_check, refused, told, kept_at};
 ghost use mir.Syntax.{w64};
-ghost use Rattle.std.specs.Arc.{arc_value};
-ghost use Rattle.model_graph.specs.Graph.{kind_at, is_source};
-ghost use Rattle.model_states.specs.Threshold.{is_shape};
 ghost use Rattle.model_graph.specs.Lawful.{shape_of};
 ghost use Rattle.model_journal.specs.Entry as model;
-ghost use Rattle.model_journal.specs.Journal.{vals, counts};
-ghost use Rattle.model_journal.specs.Entry.{entry};
 ghost use Rattle.lasp_state.specs.State as state;
-ghost use Rattle.lasp_state.specs.State.{op_of};
-ghost use Rattle.lasp_graph.specs.Kind.{kind_of};
-ghost use Rattle.lasp_graph.specs.States.{contents_of, held_of, held_at, AreJoinable};
-ghost use Rattle.lasp_history.specs.History.{AreBelow};
-ghost use Rattle.lasp_replica.specs.Update.{IsInFormat, IsGain, IsPrepared, recorded};
-ghost use Rattle.lasp_replica.specs.Replica.{IsReplica, Goes, Stays, IsSmall, shape_for, is_for, update_refusal, IsAnswered, update_check, refused, told, kept_at};
 
 use super::sizes::{joined_size, news};
 use super::{MOST_ROWS, MOST_UPDATES, Replica};

@@ -1,10 +1,7 @@
 //! The rows of a set, of which each value stands once.
 
 ghost use Rattle.std.specs.Prelude.{◌≡◌, ◌≤◌, ◌^◌, length};
-ghost use Rattle.std.specs.Option.{option_map};
-ghost use Rattle.model_messages.specs.Spelling.{spelled_rows};
-ghost use Rattle.lasp_value.specs.Value.{val_of};
-ghost use Rattle.lasp_wire.specs.Length.{head_len, row_len};
+ghost use Rattle.lasp_wire.specs.Prelude.{option_map, spelled_rows, val_of, head_len, row_len};
 
 use super::values::{token_len, value_len};
 use crate::write::is_first;

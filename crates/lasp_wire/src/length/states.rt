@@ -1,9 +1,7 @@
 //! What sources hold, with their kinds.
 
 ghost use Rattle.std.specs.Prelude.{◌≡◌, ◌≤◌, ◌^◌, length};
-ghost use Rattle.model_messages.specs.Spelling.{spelled_values, spelled_counts, spelled_top, spelled_content};
-ghost use Rattle.lasp_state.specs.State.{content_of};
-ghost use Rattle.lasp_wire.specs.Sent.{kind_of};
+ghost use Rattle.lasp_wire.specs.Prelude.{spelled_values, spelled_counts, spelled_top, spelled_content, content_of, kind_of};
 
 use super::rows::set_len;
 use super::values::value_len;

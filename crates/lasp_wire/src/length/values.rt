@@ -1,9 +1,7 @@
 //! Values and tokens.
 
 ghost use Rattle.std.specs.Prelude.{◌≡◌, ◌≤◌, ◌^◌, length};
-ghost use Rattle.model_messages.specs.Spelling.{spelled_value, spelled_token};
-ghost use Rattle.lasp_value.specs.Value.{val_of};
-ghost use Rattle.lasp_value.specs.Token.{tok_of};
+ghost use Rattle.lasp_wire.specs.Prelude.{spelled_value, spelled_token, val_of, tok_of};
 
 use lasp_value::{Token, Value};
 

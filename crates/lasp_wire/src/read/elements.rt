@@ -1,13 +1,7 @@
 //! The elements of a grow-only set, and values in ascending order.
 
 ghost use Rattle.std.specs.Prelude.{◌≡◌, None, map};
-ghost use Rattle.std.specs.Option.{option_map};
-ghost use Rattle.model_values.specs.Value.{val_cmp};
-ghost use Rattle.model_wire.specs.Reader.{list_at};
-ghost use Rattle.model_wire.specs.Value.{value_at, is_above, latest};
-ghost use Rattle.model_wire.specs.Message.{value_after_at, elements_at};
-ghost use Rattle.lasp_value.specs.Value.{val_of};
-ghost use Rattle.lasp_wire.specs.Read.{Gives, last_of};
+ghost use Rattle.lasp_wire.specs.Prelude.{option_map, val_cmp, list_at, value_at, is_above, latest, value_after_at, elements_at, val_of, Gives, last_of};
 
 use super::numbers::u32_in;
 use super::values::value_in;

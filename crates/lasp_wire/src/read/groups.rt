@@ -1,11 +1,7 @@
 //! The rows of a set in version 2, where each value stands once before its tokens.
 
 ghost use Rattle.std.specs.Prelude.{◌≡◌, ◌≤◌, ◌<◌, ◌+◌, ◌++◌, IfOk, OnOk, length, None};
-ghost use Rattle.std.specs.Option.{option_map};
-ghost use Rattle.model_wire.specs.Reader.{list_at, made};
-ghost use Rattle.model_wire.specs.Message.{row_of, rows_of_group, rows_of, after_group, group_at, groups_at, grouped_rows_at};
-ghost use Rattle.lasp_value.specs.Value.{val_of};
-ghost use Rattle.lasp_wire.specs.Read.{Gives, mark_of, last_value_of, before_of, group_of};
+ghost use Rattle.lasp_wire.specs.Prelude.{option_map, list_at, made, row_of, rows_of_group, rows_of, after_group, group_at, groups_at, grouped_rows_at, val_of, Gives, mark_of, last_value_of, before_of, group_of};
 
 use super::elements::value_after;
 use super::numbers::u32_in;

@@ -1,10 +1,7 @@
 //! Whole messages.
 
 ghost use Rattle.std.specs.Prelude.{◌≡◌, map};
-ghost use Rattle.model_wire.specs.Reader.{magic_at};
-ghost use Rattle.model_wire.specs.Message.{body_at, version_at, message_at, read_message};
-ghost use Rattle.lasp_wire.specs.Read.{Gives};
-ghost use Rattle.lasp_wire.specs.Decoded.{parts_of};
+ghost use Rattle.lasp_wire.specs.Prelude.{magic_at, body_at, version_at, message_at, read_message, Gives, parts_of};
 
 use super::numbers::u8_at;
 use super::sequence::counts_in;

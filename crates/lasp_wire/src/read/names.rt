@@ -1,10 +1,7 @@
 //! The names of sources.
 
 ghost use Rattle.std.specs.Prelude.{◌≡◌, IfOk, if◌then◌else◌, Some, None};
-ghost use Rattle.std.specs.Option.{option_map};
-ghost use Rattle.model_values.specs.Name.{is_name};
-ghost use Rattle.model_wire.specs.Message.{name_at};
-ghost use Rattle.lasp_wire.specs.Read.{Gives};
+ghost use Rattle.lasp_wire.specs.Prelude.{option_map, is_name, name_at, Gives};
 
 use super::numbers::{bytes_at, u8_in};
 use super::values::utf8_of;

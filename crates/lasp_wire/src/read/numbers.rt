@@ -1,10 +1,7 @@
 //! Numbers, and bytes that tell which of some forms follows.
 
 ghost use Rattle.std.specs.Prelude.{◌≡◌, ◌≤◌, IfOk, length};
-ghost use Rattle.std.specs.Int.{w8, w16, w32, w64};
-ghost use Rattle.model_wire.specs.Reader.{bytes_at, number_at, ranged_at, kind_at, between};
-ghost use Rattle.model_wire.specs.Value.{signed_at};
-ghost use Rattle.lasp_wire.specs.Read.{Gives};
+ghost use Rattle.lasp_wire.specs.Prelude.{w8, w16, w32, w64, bytes_at, number_at, ranged_at, kind_at, between, signed_at, Gives};
 
 use crate::refused::ReadError;
 use model_wire::WireWhy;

@@ -1,11 +1,7 @@
 //! The rows of a set in version 1, each with its value.
 
 ghost use Rattle.std.specs.Prelude.{◌≡◌, ◌≤◌, None};
-ghost use Rattle.model_values.specs.Row.{row_cmp};
-ghost use Rattle.model_wire.specs.Reader.{list_at};
-ghost use Rattle.model_wire.specs.Value.{row_at, is_above, latest};
-ghost use Rattle.model_wire.specs.Message.{row_after_at, single_rows_at};
-ghost use Rattle.lasp_wire.specs.Read.{Gives, last_of};
+ghost use Rattle.lasp_wire.specs.Prelude.{row_cmp, list_at, row_at, is_above, latest, row_after_at, single_rows_at, Gives, last_of};
 
 use super::numbers::u32_in;
 use super::tokens::mark_in;

@@ -1,9 +1,7 @@
 //! Sequences of numbers.
 
 ghost use Rattle.std.specs.Prelude.{◌≡◌, ◌≤◌, IfOk, length};
-ghost use Rattle.model_wire.specs.Reader.{list_at};
-ghost use Rattle.model_wire.specs.Message.{limited_at, nothing_more, numbers_at, counts_at};
-ghost use Rattle.lasp_wire.specs.Read.{Gives};
+ghost use Rattle.lasp_wire.specs.Prelude.{list_at, limited_at, nothing_more, numbers_at, counts_at, Gives};
 
 use super::numbers::{u8_in, u64_in};
 use crate::refused::ReadError;

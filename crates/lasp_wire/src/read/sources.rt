@@ -1,10 +1,7 @@
 //! The sources of a message.
 
 ghost use Rattle.std.specs.Prelude.{◌≡◌, ◌≤◌, map};
-ghost use Rattle.model_wire.specs.Reader.{list_at};
-ghost use Rattle.model_wire.specs.Message.{source_at, sources_at, any_source_at, nothing_of_sources};
-ghost use Rattle.lasp_wire.specs.Read.{Gives};
-ghost use Rattle.lasp_wire.specs.Sent.{sent_of};
+ghost use Rattle.lasp_wire.specs.Prelude.{list_at, source_at, sources_at, any_source_at, nothing_of_sources, Gives, sent_of};
 
 use super::names::name_in;
 use super::numbers::u8_in;

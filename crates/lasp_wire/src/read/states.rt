@@ -1,15 +1,7 @@
 //! What sources hold, by their kinds.
 
 ghost use Rattle.std.specs.Prelude.{◌≡◌, ◌≤◌, ◌<◌, IfOk, length, map, if◌then◌else◌, ◌==◌};
-ghost use Rattle.model_sets.specs.Rows.{IsAscending};
-ghost use Rattle.model_sets.specs.Values.{AreAscending};
-ghost use Rattle.model_states.specs.Counts.{count_max};
-ghost use Rattle.model_wire.specs.Reader.{made};
-ghost use Rattle.model_wire.specs.Message.{rows_at, elements_at, numbers_at, top_at, held_set, held_elements, held_counts, held_top, held_behind, held_at};
-ghost use Rattle.model_wire.specs.Lawful.{AreAtMost};
-ghost use Rattle.lasp_value.specs.Value.{val_of};
-ghost use Rattle.lasp_wire.specs.Read.{Gives};
-ghost use Rattle.lasp_wire.specs.Sent.{held_of};
+ghost use Rattle.lasp_wire.specs.Prelude.{IsAscending, AreAscending, count_max, made, rows_at, elements_at, numbers_at, top_at, held_set, held_elements, held_counts, held_top, held_behind, held_at, AreAtMost, val_of, Gives, held_of};
 
 use super::elements::elements_in;
 use super::groups::grouped_rows_in;

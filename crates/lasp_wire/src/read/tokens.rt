@@ -1,10 +1,7 @@
 //! Tokens, each with whether it is dead.
 
 ghost use Rattle.std.specs.Prelude.{◌≡◌, ◌≤◌, IfOk, length, map, None};
-ghost use Rattle.model_wire.specs.Reader.{list_at};
-ghost use Rattle.model_wire.specs.Value.{token_at, is_above, mark_cmp, latest};
-ghost use Rattle.model_wire.specs.Message.{token_after_at, tokens_at};
-ghost use Rattle.lasp_wire.specs.Read.{Gives, mark_of, last_of};
+ghost use Rattle.lasp_wire.specs.Prelude.{list_at, token_at, is_above, mark_cmp, latest, token_after_at, tokens_at, Gives, mark_of, last_of};
 
 use super::numbers::{kind_in, u8_in, u64_in};
 use crate::refused::ReadError;

@@ -1,11 +1,7 @@
 //! Values, with what may still stand in them.
 
 ghost use Rattle.std.specs.Prelude.{◌≡◌, ◌≤◌, ◌+◌, suc, IfOk, length, if◌then◌else◌, Some, None};
-ghost use Rattle.std.specs.Str.{is_utf8};
-ghost use Rattle.std.specs.Option.{option_map};
-ghost use Rattle.model_wire.specs.Value.{text_at, part, part_at, value_at};
-ghost use Rattle.lasp_value.specs.Value.{val_of};
-ghost use Rattle.lasp_wire.specs.Read.{Gives};
+ghost use Rattle.lasp_wire.specs.Prelude.{is_utf8, option_map, text_at, part, part_at, value_at, val_of, Gives};
 
 use super::numbers::{bytes_at, i64_at, kind_in, u16_in};
 use crate::refused::ReadError;

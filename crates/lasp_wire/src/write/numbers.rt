@@ -1,7 +1,7 @@
 //! Numbers, their highest byte first.
 
 ghost use Rattle.std.specs.Prelude.{◌≡◌, ◌++◌, OnOk};
-ghost use Rattle.model_messages.specs.Spelling.{number, signed_number, truth};
+ghost use Rattle.lasp_wire.specs.Prelude.{number, signed_number, truth};
 
 use std::alloc::AllocError;
 

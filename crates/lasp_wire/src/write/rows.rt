@@ -1,11 +1,7 @@
 //! The rows of a set: each value once, with the number of its tokens, and then these.
 
 ghost use Rattle.std.specs.Prelude.{◌≡◌, ◌<◌, ◌≤◌, ◌++◌, suc, IfOk, OnOk, None, length, map};
-ghost use Rattle.std.specs.List.{AllByRecursion};
-ghost use Rattle.std.specs.Option.{option_map};
-ghost use Rattle.model_messages.specs.Spelling.{number, truth, spelled_value, spelled_rows};
-ghost use Rattle.lasp_value.specs.Value.{val_of};
-ghost use Rattle.lasp_wire.specs.Written.{spelled_mark, run, is_first, spelled_head, spelled_after, values_after, IsShort, AreShortRows};
+ghost use Rattle.lasp_wire.specs.Prelude.{AllByRecursion, option_map, number, truth, spelled_value, spelled_rows, val_of, spelled_mark, run, is_first, spelled_head, spelled_after, values_after, IsShort, AreShortRows};
 
 use super::numbers::{put_bool, put_u32};
 use super::values::{put_token, put_value};

@@ -1,10 +1,7 @@
 //! The sources of a message.
 
 ghost use Rattle.std.specs.Prelude.{◌≡◌, ◌≤◌, ◌++◌, OnOk, flat_map, length, map};
-ghost use Rattle.std.specs.List.{AllByRecursion};
-ghost use Rattle.model_messages.specs.Spelling.{number, spelled_source};
-ghost use Rattle.lasp_wire.specs.Sent.{sent_of};
-ghost use Rattle.lasp_wire.specs.Written.{IsShortSource};
+ghost use Rattle.lasp_wire.specs.Prelude.{AllByRecursion, number, spelled_source, sent_of, IsShortSource};
 
 use super::numbers::put_u8;
 use super::states::put_state;

@@ -1,10 +1,7 @@
 //! What sources hold, with their kinds.
 
 ghost use Rattle.std.specs.Prelude.{◌≡◌, ◌++◌, OnOk, flat_map};
-ghost use Rattle.model_messages.specs.Spelling.{number, spelled_values, spelled_counts, spelled_top, spelled_content};
-ghost use Rattle.lasp_state.specs.State.{content_of};
-ghost use Rattle.lasp_wire.specs.Sent.{kind_of};
-ghost use Rattle.lasp_wire.specs.Written.{AreShortValues, IsShortState};
+ghost use Rattle.lasp_wire.specs.Prelude.{number, spelled_values, spelled_counts, spelled_top, spelled_content, content_of, kind_of, AreShortValues, IsShortState};
 
 use super::numbers::{put_bool, put_i64, put_u32, put_u64};
 use super::rows::put_set;

@@ -1,10 +1,7 @@
 //! Values and tokens.
 
 ghost use Rattle.std.specs.Prelude.{◌≡◌, ◌≤◌, ◌++◌, OnOk, length};
-ghost use Rattle.model_values.specs.Size.{text_bytes};
-ghost use Rattle.model_messages.specs.Spelling.{number, spelled_value, spelled_token};
-ghost use Rattle.lasp_value.specs.Value.{val_of};
-ghost use Rattle.lasp_value.specs.Token.{tok_of};
+ghost use Rattle.lasp_wire.specs.Prelude.{text_bytes, number, spelled_value, spelled_token, val_of, tok_of};
 
 use super::numbers::{put_i64, put_u8, put_u16, put_u64};
 use lasp_value::{Text, Token, Value};

@@ -1,0 +1,16 @@
+-- The words that the contracts of this library are written in.
+pub use Rattle.model_values.specs.Row.{Row}
+pub use Rattle.model_values.specs.Value.{Val}
+pub use Rattle.model_sets.specs.Equations.{changed, filter_set, intersect_set, map_set, met, paired, product_set, union_set}
+pub use Rattle.model_sets.specs.Rows.{IsAscending, IsAtMost, join, put}
+pub use Rattle.model_functions.specs.Map.{MapOp, mapped}
+pub use Rattle.model_functions.specs.Predicate.{passes}
+pub use Rattle.model_states.specs.Content.{row_limit}
+pub use Rattle.lasp_value.specs.Token.{tok_of}
+pub use Rattle.lasp_value.specs.Value.{val_of}
+pub use Rattle.lasp_fns.specs.Library.{map_ops_at, maps_of, pred_ops_at, predicates_of}
+pub use Rattle.lasp_fns.specs.Steps.{library_of, ticks_of}
+pub use Rattle.lasp_fns.specs.Stored.{conditions_of, ops_of}
+pub use Rattle.lasp_setops.specs.Grown.{IsGrown}
+pub use Rattle.lasp_setops.specs.Joined.{meetings}
+pub use Rattle.lasp_setops.specs.Width.{IsSetOfWidth}
