@@ -70,3 +70,24 @@ pub trait Watched {
         ensures met { IfOk result (λ found. is_some found ≡ meets (read_of r.now).threshold (now self.new (read_of r.now).var).content) }
         ensures state { IfOk result (λ found. IfSome found (λ s. held_of (arc_value s) ≡ now self.new (read_of r.now).var)) };
 }
+
+/// A `&mut` to a replica that is read is one as well, so that a reader may be handed it and leave it behind.
+impl<W: Watched> Watched for &mut W {
+    ghost Place = { W.Place };
+
+    ghost place = { λ w. W.place w.now };
+
+    ghost misses = { λ w. W.misses w.now };
+
+    ghost looks = { λ w. W.looks w.now };
+
+    ghost now = { λ w. W.now w.now };
+
+    ghost IsFresh = { λ w. W.IsFresh w.now };
+
+    ghost IsOpen = { λ w. W.IsOpen w.now };
+
+    fn try_poll(&mut self, r: &ReadNo) -> Result<Option<Arc<State>>, Try<AllocError>> {
+        (**self).try_poll(r)
+    }
+}

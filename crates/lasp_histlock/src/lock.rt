@@ -155,6 +155,7 @@ impl<T: Kept + Drop> HistLock<T> {
         ensures pass { p.new ≡ after_rejoin other p.old }
         ensures seen { IsPrefix p.old.seen p.new.seen × IsPrefix other.seen p.new.seen }
         ensures theirs { entries_of T.names other.number p.new.seen ≡ other.own }
+        ensures frame { other.frame ≡ p.old.frame }
     {
         let board = &self.table.shared;
         let Pass { seat, entries, .. } = other;
