@@ -1,8 +1,8 @@
 -- Variables that are as plain evaluation gives them, while binds come in whatever order.
 use Rattle.std.proofs.Common.{◌≡◌, ℕ, ◌+◌, ◌≤◌, ◌<◌, ◌⊎◌, inl, inr, Bool, true, false, IsTrue, List, [], ◌∷◌, ◌++◌, length, take, Some, None, refl, sym, ap, subst, ◌∙◌, append-nil, append_assoc, arith}
 use Rattle.model_states.specs.Content.{Content, size_of, row_limit, IsContentAtMost, IsOrdered}
-use Rattle.model_states.proofs.ContentLaws.{at_most-chain, at_most-same, same-content}
-use Rattle.model_graph.specs.Graph.{Kind, Decl, is_source, kind_at}
+use Rattle.model_states.proofs.ContentLaws.{same-content}
+use Rattle.model_graph.specs.Graph.{Decl, is_source, kind_at}
 use Rattle.model_graph.specs.Evaluation.{content_at, equation, eval, first_large}
 use Rattle.model_graph.specs.Lawful.{IsDerived}
 use Rattle.model_graph.proofs.EquationLaws.{equation-alike, equation-monotone}

@@ -1,5 +1,5 @@
 -- That what a core sends is a message of the format.
-use Rattle.std.proofs.Common.{suc, ℕ, ◌≡◌, ◌+◌, ◌<◌, sym, ap, ◌∙◌, arith}
+use Rattle.std.proofs.Common.{suc, ℕ, ◌≡◌, ◌<◌, sym, ap, ◌∙◌, arith}
 use Rattle.std.specs.Prelude.{List, [], ◌∷◌, length}
 use Rattle.model_states.specs.Counts.{count_at}
 use Rattle.model_states.specs.Content.{Content}

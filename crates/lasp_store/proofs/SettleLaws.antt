@@ -1,6 +1,7 @@
 -- What a feed's turns add to a journal while it settles: results of jobs alone, its own and those of others.
-use Rattle.std.proofs.Common.{◌≡◌, ℕ, zero, suc, ◌+◌, ◌==◌, ◌≤◌, ◌<◌, Bool, true, false, List, [], ◌∷◌, ◌++◌, length, filter, cond, refl, sym, ap, subst, ◌∙◌, append-nil, append_assoc, arith}
+use Rattle.std.proofs.Common.{◌≡◌, ℕ, zero, suc, ◌+◌, ◌==◌, ◌≤◌, ◌<◌, Bool, true, false, List, [], ◌∷◌, ◌++◌, length, cond, refl, sym, ap, subst, ◌∙◌, append-nil, append_assoc, arith}
 use Rattle.std.specs.Prelude.{All, Some, None, Option, Err}
+use mathlib.Core.List.{IsPrefix}
 use Rattle.std.proofs.lemmas.List.Elements.{All-head, All-tail, filter-append}
 use Rattle.model_states.specs.Content.{Content}
 use Rattle.model_graph.specs.Graph.{Decl, is_source, kind_at}
@@ -17,7 +18,8 @@ use Rattle.model_core.specs.Core.{Core}
 use Rattle.lasp_core.specs.declared.watched.Settle.{Settle}
 use Rattle.lasp_core.specs.declared.watched.Settle.TheVariants as settle
 use Rattle.lasp_histlock.specs.Names.{LockId}
-use Rattle.lasp_store.specs.Turn.{Knows, frame_of, graph_seen, HadTurn, HasBegun}
+use Rattle.lasp_histlock.specs.Passes.{after_rejoin}
+use Rattle.lasp_store.specs.Turn.{Knows, frame_in, frame_of, graph_seen, HadTurn, HasBegun}
 use Rattle.lasp_store.specs.Settled.{IsBind, AreBinds, GoesOnByBinds, HasBound, KnowsOwn, HasSettled, IsDone, evaluation, AreEvaluatedBelow, Settles, TellsFirst}
 use Rattle.lasp_store.proofs.EvaluatedLaws.{IsKept, kept-binds, same-evaluation, evaluated-stays, evaluated-source, evaluated-clean, evaluated-bound, all-evaluated, all-small}
 
@@ -257,15 +259,24 @@ turn-bound old new e own-old own-new first mine is t = record {
   binds-first [] b all = tt
   binds-first (x ∷ a) b all = (all.0, binds-first a b all.1)
 
--- the feed that took the core out finds the graph that it has seen
+-- what others added since the feed's last turn declares nothing
+others-graph : (old new : Knows) (rest : List Entry) → KnowsOwn old → KnowsOwn new → old.number ≡ 0 → new.number ≡ old.number → new.frame ≡ old.frame → new.seen ≡ old.seen ++ rest → new.own ≡ old.own → graph_seen new ≡ graph_seen old
+others-graph old new rest own-old own-new first number frame seen own =
+    (λ i. graph (frame_in (frame i)) (r.seen i))
+    ∙ graph-append (frame_of old) old.seen rest
+    ∙ ap (λ (l : List Decl). graph_seen old ++ l) (declared-mine rest r.may ∙ ap (λ (l : List Entry). declared l) r.mine)
+    ∙ append-nil (graph_seen old) where
+      r : HasRest [] rest old new
+      r = rest-is old new rest [] own-old own-new first number seen (own ∙ sym (append-nil old.own))
+
+-- so the feed that took the core out finds the graph that it has seen
 pub begun-graph : (store : LockId) (old new : Knows) (c : Core) → KnowsOwn old → KnowsOwn new → old.number ≡ 0 → HasBegun store old new c → graph_seen new ≡ graph_seen old
 begun-graph store old new c own-old own-new first b =
-    (λ i. graph (ap (λ (p : Knows). frame_of p) b.pass i) (r.seen i))
-    ∙ graph-append (frame_of old) old.seen b.goes_on.0
-    ∙ ap (λ (l : List Decl). graph_seen old ++ l) (declared-mine b.goes_on.0 r.may ∙ ap (λ (l : List Entry). declared l) r.mine)
-    ∙ append-nil (graph_seen old) where
-      r : HasRest [] b.goes_on.0 old new
-      r = rest-is old new b.goes_on.0 [] own-old own-new first (ap (λ (p : Knows). p.number) b.pass) (b.turn.seen ∙ b.goes_on.1)
-          (ap (λ (p : Knows). p.own) b.pass ∙ sym (append-nil old.own))
+    others-graph old new b.goes_on.0 own-old own-new first (ap (λ (p : Knows). p.number) b.pass) (ap (λ (p : Knows). p.frame) b.pass) (b.turn.seen ∙ b.goes_on.1) (ap (λ (p : Knows). p.own) b.pass)
+
+-- and so does the feed that took a hand back
+pub rejoined-graph : (old new hand : Knows) → KnowsOwn old → KnowsOwn new → old.number ≡ 0 → new ≡ after_rejoin hand old → IsPrefix old.seen new.seen → graph_seen new ≡ graph_seen old
+rejoined-graph old new hand own-old own-new first is p =
+    others-graph old new p.0 own-old own-new first (ap (λ (q : Knows). q.number) is) (ap (λ (q : Knows). q.frame) is) (sym p.1) (ap (λ (q : Knows). q.own) is)
 
 pub ruleset graphs = (turn-graph)

@@ -1,6 +1,6 @@
 -- How the parts of a turn make up the turn.
-use Rattle.std.proofs.Common.{◌≡◌, ℕ, ◌≤◌, true, false, List, [], ◌∷◌, ◌++◌, length, take, Some, Result, Ok, Err, refl, sym, ap, subst, ◌∙◌, append-nil, append_assoc, ◌<◌}
-use Rattle.std.specs.Prelude.{OnOk, OnErr, IfOk, IfSome, IfNone, IsTrue, Option, None}
+use Rattle.std.proofs.Common.{◌≡◌, ℕ, ◌≤◌, Bool, true, false, List, [], ◌∷◌, ◌++◌, length, take, Some, Result, Ok, Err, refl, sym, ap, subst, ◌∙◌, append-nil, append_assoc, ◌<◌}
+use Rattle.std.specs.Prelude.{OnOk, OnErr, IfOk, IfSome, IfNone, IsTrue, Option, None, ltb, if◌then◌else◌}
 use Rattle.std.specs.List.{AllByRecursion}
 use Rattle.std.proofs.lemmas.List.Elements.{All-nil, All-cons}
 use Rattle.model_journal.specs.Entry.{Bind, Entry, Frame, entry}
@@ -12,8 +12,8 @@ use Rattle.model_core.specs.Core.{Core, IsCore, Read, is_met, entered, released}
 use Rattle.model_core.proofs.CoreLaws.{released-met}
 use Rattle.model_core.proofs.BaseLaws.{take-first, graph-longer, kind-later}
 use Rattle.lasp_histlock.specs.Names.{LockId}
-use Rattle.lasp_histlock.specs.History.{added}
-use Rattle.lasp_histlock.specs.Passes.{after_miss, after_take, after_give}
+use Rattle.lasp_histlock.specs.History.{added, longer}
+use Rattle.lasp_histlock.specs.Passes.{after_miss, after_give, after_rejoin}
 use Rattle.lasp_job.specs.declared.job.Job.{Job}
 use Rattle.model_states.specs.Threshold.{Threshold, suits}
 use Rattle.model_graph.specs.Lawful.{shape_of}
@@ -172,6 +172,23 @@ turn-seated store old new more lock t = record {
   framed = t.framed;
   legal = t.legal;
 }
+
+-- the longer of two lists is one of them
+longer-either : (P : List Entry → Type 0) (a b : List Entry) → P a → P b → P (longer a b)
+longer-either P a b p q = choose (ltb (length a) (length b)) where
+  choose : (is : Bool) → P (if is then b else a)
+  choose true = q
+  choose false = p
+
+-- a pass that takes another one back stays free, and knows a legal list where both do
+pub rejoined-seated : (store : LockId) (old new hand : Knows) → new ≡ after_rejoin hand old → hand.frame ≡ old.frame → IsSeated store old → IsSeated store hand → IsSeated store new
+rejoined-seated store old new hand is same old-free hand-free =
+    subst (λ (p : Knows). IsSeated store p) (sym is) (record {
+      lock = old-free.lock;
+      idle = old-free.idle;
+      framed = old-free.framed;
+      legal = longer-either (λ (l : List Entry). IsLegal (frame_of old) l) old.seen hand.seen old-free.legal (subst (λ (X : Frame). IsLegal X hand.seen) (ap frame_in same) hand-free.legal);
+    })
 
 pub ruleset turns = (turn-frame, turn-seen, turn-declared, turn-kind, turn-seated)
 

@@ -1,5 +1,5 @@
 -- What a pass knows of a store, and what one turn makes of it.
-use Rattle.std.specs.Prelude.{◌≡◌, ℕ, ◌≤◌, true, false, List, [], ◌∷◌, ◌++◌, All, length, take, Option, Some, None}
+use Rattle.std.specs.Prelude.{◌≡◌, ℕ, ◌≤◌, true, false, List, [], ◌++◌, All, length, take, Option, Some, None}
 use Rattle.model_states.specs.Content.{Content}
 use Rattle.model_graph.specs.Graph.{Decl}
 use Rattle.model_journal.specs.Entry.{Entry, Frame}

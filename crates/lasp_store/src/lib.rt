@@ -22,6 +22,8 @@ mod reads;
 mod seated;
 mod settle;
 mod store;
+#[cfg(test)]
+mod tests;
 mod turn;
 
 pub use laws::{feeds_tell_the_graph, turns_go_on};

@@ -1,9 +1,9 @@
 //! Reads of a store. They wait in its core, so that the entry that meets one releases it, whoever makes that.
 
-ghost use Rattle.std.specs.Prelude.{◌≡◌, ◌↔◌, ◌+◌, [], false, length, IfOk, IfSome, OnOk, IsTrue, is_some};
+ghost use Rattle.std.specs.Prelude.{◌≡◌, ◌↔◌, ◌+◌, [], false, IfOk, IfSome, OnOk, IsTrue, is_some};
 ghost use Rattle.model_states.specs.Threshold.{suits, meets};
 ghost use Rattle.std.specs.Arc.{arc_value};
-ghost use Rattle.model_core.specs.Core.{Read, is_met};
+ghost use Rattle.model_core.specs.Core.{is_met};
 ghost use Rattle.lasp_histlock.specs.Passes.{after_miss};
 ghost use Rattle.lasp_state.specs.Threshold.{threshold_of};
 ghost use Rattle.lasp_graph.specs.States.{held_of};

@@ -1,6 +1,6 @@
 //! Settling a store by its feed, whatever others do meanwhile.
 
-ghost use Rattle.std.specs.Prelude.{◌≡◌, ◌+◌, ◌<◌, ◌≤◌, ◌∷◌, ◌++◌, [], false, length, IfErr, OnErr, IfOk, IfSome, IfNone, OnOk};
+ghost use Rattle.std.specs.Prelude.{◌≡◌, ◌+◌, ◌<◌, [], false, length, IfErr, IfOk, IfSome, IfNone, OnOk};
 ghost use Rattle.model_graph.specs.Evaluation.{first_large};
 ghost use Rattle.model_readings.specs.Lawful.{FitsAll};
 ghost use Rattle.model_journal.specs.Journal.{graph, vals};
@@ -9,7 +9,6 @@ ghost use Rattle.lasp_fns.specs.Steps as counted;
 ghost use Rattle.lasp_graph.specs.Library.{library_of};
 ghost use Rattle.model_journal.specs.Entry.{Bind, entry};
 ghost use Rattle.model_graph.specs.Lawful.{IsDerived};
-ghost use Rattle.lasp_core.specs.Listed.{EndsWith};
 ghost use Rattle.lasp_replica.specs.Jobs.{IsJobOf, IsJobNow, IsResultOf};
 ghost use Rattle.lasp_store.specs.Turn.{IsStill, IsInTurn, HasEnded, IsSeated, frame_of, graph_seen};
 ghost use Rattle.lasp_store.specs.Settled.{evaluation, AreEvaluatedBelow, HasSettled, IsDone, Settles, TellsFirst, HasBound};

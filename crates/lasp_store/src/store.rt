@@ -7,7 +7,7 @@ ghost use Rattle.model_journal.specs.Callers.{MayMake, made_by};
 ghost use Rattle.lasp_histlock.specs.History.{added};
 ghost use Rattle.lasp_histlock.specs.Steps.{SomeOut};
 ghost use Rattle.lasp_histlock.specs.Passes.{first_pass, new_pass, after_look, after_split, after_rejoin};
-ghost use Rattle.lasp_store.specs.Turn.{IsSeated};
+ghost use Rattle.lasp_store.specs.Turn.{IsSeated, graph_seen};
 
 use lasp_core::Core;
 use lasp_graph::Graph;
@@ -75,8 +75,13 @@ impl Store {
         ensures pass { f.new ≡ after_rejoin h f.old }
         ensures seen { IsPrefix f.old.seen f.new.seen × IsPrefix h.seen f.new.seen }
         ensures theirs { made_by h.number f.new.seen ≡ h.own }
+        ensures frame { h.frame ≡ f.old.frame }
+        ensures seated { IsSeated self.now f.old → IsSeated self.now h → IsSeated self.now f.new }
+        ensures graph { graph_seen f.new ≡ graph_seen f.old }
     {
-        self.lock.rejoin(f, h)
+        f.known();
+        self.lock.rejoin(f, h);
+        f.known();
     }
 
     /// How many entries the journal has, at this call's one load. It never waits, whoever has the core.

@@ -1,7 +1,6 @@
 //! One turn: the core is taken out for one call, and given back with what the call added.
 
-ghost use Rattle.std.specs.Prelude.{◌≡◌, ◌↔◌, ◌+◌, ◌++◌, false, List, IfSome, IfNone, IsNone};
-ghost use Rattle.model_journal.specs.Entry as model;
+ghost use Rattle.std.specs.Prelude.{◌≡◌, false, IfSome, IfNone};
 ghost use Rattle.lasp_histlock.specs.Passes.{after_miss};
 ghost use Rattle.lasp_store.specs.Turn.{HasBegun, HasTried, MayEnd, HasGiven};
 

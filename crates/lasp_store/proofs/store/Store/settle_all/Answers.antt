@@ -1,11 +1,11 @@
-use Rattle.std.proofs.Common.{◌≡◌, ◌+◌, ◌<◌, ◌≤◌, ℕ, List, length, refl, sym, ap, subst, ◌∙◌, arith}
+use Rattle.std.proofs.Common.{◌≤◌, List, length, sym, ap, subst, ◌∙◌, arith}
 use Rattle.model_graph.specs.Graph.{Decl}
 use Rattle.model_graph.specs.Evaluation.{first_large}
 use Rattle.model_readings.specs.Lawful.{FitsAll}
 use Rattle.lasp_fns.specs.Steps as counted
 use Rattle.lasp_graph.specs.Library.{library_of}
 use Rattle.lasp_store.specs.Turn.{frame_of, graph_seen}
-use Rattle.lasp_store.specs.Settled.{HasSettled, AreEvaluatedBelow, evaluation}
+use Rattle.lasp_store.specs.Settled.{evaluation}
 use Rattle.lasp_store.proofs.SettleLaws.{settled-both, settled-number, graph-settled, peer-settled, all-settled, none-large, told-settles}
 use Rattle.lasp_store.proofs.store.Store.settle_all.Goals as goal
 

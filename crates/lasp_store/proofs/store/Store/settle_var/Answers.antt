@@ -1,4 +1,4 @@
-use Rattle.std.proofs.Common.{◌≡◌, ◌+◌, ◌≤◌, ℕ, List, Option, sym, subst, ◌∙◌, ap, arith}
+use Rattle.std.proofs.Common.{◌+◌, ℕ, List, Option, sym, subst, ◌∙◌, arith}
 use Rattle.std.specs.Prelude.{IfSome, IfNone}
 use Rattle.model_graph.specs.Graph.{Decl}
 use Rattle.model_readings.specs.Lawful.{FitsAll}
@@ -6,7 +6,7 @@ use Rattle.lasp_fns.specs.Steps as counted
 use Rattle.lasp_graph.specs.Library.{library_of}
 use Rattle.lasp_job.specs.declared.job.Job.{Job}
 use Rattle.lasp_replica.specs.Jobs.{IsJobNow}
-use Rattle.lasp_store.specs.Turn.{frame_of, graph_seen}
+use Rattle.lasp_store.specs.Turn.{frame_of}
 use Rattle.lasp_store.specs.Settled.{IsDone, AreEvaluatedBelow}
 use Rattle.lasp_store.proofs.TurnLaws.{on-ok}
 use Rattle.lasp_store.proofs.SettleLaws.{evaluated-done, evaluated-settled, graph-settled, settled-both, settled-number}
