@@ -1,0 +1,88 @@
+-- What a call leaves of a pass that may make every call of its tests.
+use Rattle.std.proofs.Common.{◌≡◌, ℕ, ◌≤◌, false, List, [], ◌∷◌, ◌++◌, length, Result, Ok, Err, sym, ap, subst, ◌∙◌, append-nil, arith}
+use Rattle.std.specs.Prelude.{OnOk, OnErr, IfOk}
+use Rattle.model_graph.specs.Graph.{Decl}
+use Rattle.model_journal.specs.Entry.{Entry, Frame}
+use Rattle.model_journal.specs.Journal.{graph, declared}
+use Rattle.lasp_histlock.specs.Names.{LockId}
+use Rattle.lasp_histlock.specs.Passes.{PassView, first_pass, new_pass, after_miss}
+use Rattle.lasp_core.specs.Watched.{IsBusy}
+use Rattle.lasp_core.specs.declared.watched.Try.{Try}
+use Rattle.lasp_core.specs.declared.watched.Try.TheVariants.{Busy, Refused}
+use Rattle.lasp_store.specs.Tried.{IfRefused}
+use Rattle.lasp_store.specs.Turn.{Knows, HadTurn, TriedTurn, IsSeated, graph_seen}
+use Rattle.lasp_store.specs.Settled.{KnowsOwn}
+use Rattle.lasp_store.proofs.TurnLaws.{turn-seated, turn-declared}
+use Rattle.lasp_store.proofs.SettleLaws.{turn-graph}
+use Rattle.tests_store.specs.Kept.{IsFeed, IsHand}
+
+-- ---- feeds
+
+-- the feed of a new store
+pub feed-opened : {E : Type 0} (r : Result (LockId × Knows) E) (g : List Decl) (me nodes : ℕ) → IfOk r (λ made. made.1 ≡ first_pass made.0 (record { opening = g; replica = me; nodes = nodes })) → IfOk r (λ made. IsSeated made.0 made.1)
+    → IfOk r (λ made. IsFeed made.0 g made.1)
+feed-opened (Ok made) g me nodes is seated = record {
+  seated = seated;
+  first = ap (λ (p : Knows). p.number) is;
+  graph = ap (λ (p : Knows). graph_seen p) is;
+}
+feed-opened (Err why) g me nodes is seated = tt
+
+-- a turn in which the feed declares these variables
+pub feed-turn : (store : LockId) (g longer : List Decl) (more : List Entry) (old new : Knows) → KnowsOwn old → KnowsOwn new → longer ≡ g ++ declared more → IsFeed store g old → HadTurn more old new → IsFeed store longer new
+feed-turn store g longer more old new own-old own-new is feed t = record {
+  seated = turn-seated store old new more feed.seated.lock t;
+  first = ap (λ (p : Knows). p.number) t.pass ∙ feed.first;
+  graph = turn-graph old new more own-old own-new feed.first t ∙ ap (λ (ds : List Decl). ds ++ declared more) feed.graph ∙ sym is;
+}
+
+-- one in which it declares none
+pub feed-same : (store : LockId) (g : List Decl) (more : List Entry) (old new : Knows) → KnowsOwn old → KnowsOwn new → declared more ≡ [] → IsFeed store g old → HadTurn more old new → IsFeed store g new
+feed-same store g more old new own-old own-new is feed t =
+    feed-turn store g g more old new own-old own-new (sym (ap (λ (ds : List Decl). g ++ ds) is ∙ append-nil g)) feed t
+
+-- a call that adds an entry, or is refused
+pub feed-done : {A E : Type 0} (store : LockId) (g : List Decl) (e : Entry) (old new : Knows) (r : Result A E) → KnowsOwn old → KnowsOwn new → declared (e ∷ []) ≡ [] → IsFeed store g old
+    → OnOk r (HadTurn (e ∷ []) old new) → OnErr r (HadTurn [] old new) → IsFeed store g new
+feed-done store g e old new (Ok a) own-old own-new is feed ok err = feed-same store g (e ∷ []) old new own-old own-new is feed ok
+feed-done store g e old new (Err why) own-old own-new is feed ok err = feed-same store g [] old new own-old own-new (λ i. []) feed err
+
+feed-missed : (store : LockId) (g : List Decl) (old : Knows) → IsFeed store g old → IsFeed store g (after_miss old)
+feed-missed store g old feed = record {
+  seated = record { lock = feed.seated.lock; idle = feed.seated.idle; framed = feed.seated.framed; legal = feed.seated.legal };
+  first = feed.first;
+  graph = feed.graph;
+}
+
+-- a call that tries once
+pub feed-tried : {A E : Type 0} (store : LockId) (g : List Decl) (more : List Entry) (old new : Knows) (r : Result A (Try E)) → KnowsOwn old → KnowsOwn new → declared more ≡ [] → IsFeed store g old
+    → (IsBusy r → new ≡ after_miss old) → OnOk r (TriedTurn more old new) → IfRefused r (λ why. TriedTurn [] old new) → IsFeed store g new
+feed-tried store g more old new (Ok a) own-old own-new is feed busy ok refused = feed-same store g more old new own-old own-new is feed ok.turn
+feed-tried store g more old new (Err Busy) own-old own-new is feed busy ok refused = subst (λ (p : Knows). IsFeed store g p) (sym (busy tt)) (feed-missed store g old feed)
+feed-tried store g more old new (Err (Refused why)) own-old own-new is feed busy ok refused = feed-same store g [] old new own-old own-new (λ i. []) feed refused.turn
+
+-- ---- hands
+
+pub hand_turn : (store : LockId) (many : ℕ) (more : List Entry) (old new : Knows) → IsHand store many old → HadTurn more old new → IsHand store many new
+hand_turn store many more old new hand t = record {
+  seated = turn-seated store old new more hand.seated.lock t;
+  many_are = omega (arith, hand.many_are, turn-declared more old new t);
+}
+
+-- a call that tries once
+pub hand_tried : {A E : Type 0} (store : LockId) (many : ℕ) (old new : Knows) (r : Result A (Try E)) → IsHand store many old → (IsBusy r → new ≡ after_miss old) → OnOk r (TriedTurn [] old new) → IfRefused r (λ why. TriedTurn [] old new) → IsHand store many new
+hand_tried store many old new (Ok a) hand busy ok refused = hand_turn store many [] old new hand ok.turn
+hand_tried store many old new (Err Busy) hand busy ok refused = subst (λ (p : Knows). IsHand store many p) (sym (busy tt)) (record {
+  seated = record { lock = hand.seated.lock; idle = hand.seated.idle; framed = hand.seated.framed; legal = hand.seated.legal };
+  many_are = hand.many_are;
+})
+hand_tried store many old new (Err (Refused why)) hand busy ok refused = hand_turn store many [] old new hand refused.turn
+
+-- the hand that is split from a feed
+pub hand_split : (store : LockId) (g : List Decl) (f : Knows) → IsFeed store g f → IsHand store (length g) (new_pass f)
+hand_split store g f feed = record {
+  seated = record { lock = feed.seated.lock; idle = λ i. false; framed = feed.seated.framed; legal = feed.seated.legal };
+  many_are = let long = ap (λ (ds : List Decl). length ds) feed.graph in omega (arith, long);
+}
+
+pub ruleset hands = (hand_turn, hand_tried)

@@ -1,0 +1,134 @@
+//! A stored function that stays in its call until another thread has used the store.
+
+ghost use Rattle.std.specs.Prelude.{◌<◌};
+ghost use Rattle.std.specs.Arc.{arc_value};
+ghost use Rattle.model_readings.specs.Lawful.{FitsAll};
+ghost use Rattle.model_values.specs.Size.{IsSized};
+ghost use Rattle.lasp_value.specs.Value.{val_of};
+ghost use Rattle.lasp_fns.specs.Answers.{Answers};
+ghost use Rattle.lasp_graph.specs.Library.{library_of};
+ghost use Rattle.tests_store.specs.Kept.{IsFeed, IsHand};
+
+use crate::feeding::{Doing, graph_of, opened, update};
+use crate::wrong::Wrong;
+use lasp_fns::{Library, MapOp, MapOps, StoredMap, apply_map};
+use lasp_graph::Graph;
+use lasp_store::{Feed, Hand, Store, turns_go_on};
+use lasp_value::Value;
+use std::alloc::{AllocError, Global};
+use std::sync::atomic::{AtomicBool, Ordering};
+use std::sync::{Arc, Wait};
+use std::test::Fail;
+use std::thread::{Threads, join, yield_now};
+
+/// How often either party looks for the other at most.
+const MOST: u32 = 10_000_000;
+
+/// Where a stored function and a hand meet.
+#[derive(Drop)]
+struct Meeting {
+    // the function is in its call
+    is_inside: AtomicBool,
+    // the hand has used the store meanwhile
+    is_served: AtomicBool,
+    // the function saw that before it left
+    was_served: AtomicBool,
+}
+
+impl Meeting {
+    fn new() -> Meeting {
+        Meeting {
+            is_inside: AtomicBool::new(false),
+            is_served: AtomicBool::new(false),
+            was_served: AtomicBool::new(false),
+        }
+    }
+
+    /// Stays until the hand was served, but not for long.
+    fn stay(&self) {
+        self.is_inside.store(true, Ordering::SeqCst);
+        for _ in 0..MOST {
+            if self.is_served.load(Ordering::SeqCst) {
+                self.was_served.store(true, Ordering::SeqCst);
+                return;
+            }
+            yield_now();
+        }
+    }
+}
+
+/// A map function in which a hand is waited for.
+fn waiting_abs(alloc: Global, meeting: &Arc<Meeting>) -> Result<StoredMap, AllocError> {
+    let mut steps = MapOps::new(alloc);
+    steps.push(MapOp::Abs)?;
+    let mine = steps.try_clone()?;
+    let place = Arc::try_clone(meeting)?;
+    let f = move |v: &Value| -> Result<Value, AllocError>
+        requires { IsSized (val_of v.now) }
+        ensures { Answers mine (val_of v.entry.now) result }
+    {
+        place.stay();
+        apply_map(alloc, &mine, v)
+    };
+    Ok(StoredMap::new(steps, Box::new(alloc, f)?))
+}
+
+/// Looks at a variable once the function is in its call, as soon as the store isn't busy.
+fn look_meanwhile(store: &Store, h: &mut Hand, meeting: &Meeting)
+    requires { IsHand store.now 1 h.old }
+{
+    turns_go_on();
+    for _ in 0..MOST {
+        if meeting.is_inside.load(Ordering::SeqCst) && store.try_look(h, 0).is_ok() {
+            meeting.is_served.store(true, Ordering::SeqCst);
+            return;
+        }
+        yield_now();
+    }
+}
+
+/// Settles a store while a hand looks at it.
+fn settle_beside<R: Threads + Wait + Sync>(
+    rt: &R,
+    alloc: Global,
+    store: &Store,
+    mut f: Feed,
+    mut hand: Hand,
+    graph: &Arc<Graph>,
+    lib: &Library,
+    meeting: &Meeting,
+) -> bool
+    requires feed { IsFeed store.now (arc_value graph.now) f }
+    requires hand { IsHand store.now 1 hand }
+    requires fits { FitsAll (library_of lib.now) (arc_value graph.now) }
+{
+    let (is_settled, _) = join(
+        rt,
+        move || store.settle_all(rt, alloc, &mut f, lib).is_ok(),
+        move || look_meanwhile(store, &mut hand, meeting),
+    );
+    is_settled
+}
+
+/// Whether a hand was served while a variable was evaluated for `settle_all`.
+fn is_served<R: Threads + Wait + Sync>(rt: &R, alloc: Global) -> Result<bool, Wrong> {
+    let meeting = Arc::new(alloc, Meeting::new())?;
+    let mut lib = Library::new(alloc);
+    lib.add_map("abs", waiting_abs(alloc, &meeting)?)?;
+    let graph = graph_of(alloc, r#"[["a","orset"],["m","map","a","abs"]]"#, &lib)?;
+    if graph.len() == 0 {
+        return Err(Wrong);
+    }
+    let (store, mut f) = opened(alloc, &graph, 0)?;
+    update(rt, &store, &mut f, &graph, 0, Doing::Add, 5)?;
+    let hand = store.split_hand(&mut f)?;
+    let is_settled = settle_beside(rt, alloc, &store, f, hand, &graph, &lib, &meeting);
+    Ok(is_settled && meeting.was_served.load(Ordering::SeqCst))
+}
+
+#[test]
+fn the_core_is_free_while_a_variable_is_evaluated(rt: HostRuntime) -> Result<(), Fail> {
+    let is = is_served(&rt, rt.alloc()).map_err(|_| "a call was refused")?;
+    assert!(rt; is);
+    Ok(())
+}

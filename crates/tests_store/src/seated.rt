@@ -1,0 +1,85 @@
+//! A hand at its store, as workers and readers ask it, which know it by a trait alone.
+
+ghost use Rattle.std.specs.Prelude.{◌≡◌, ◌<◌, Some, IfOk};
+ghost use Rattle.std.specs.Arc.{arc_value};
+ghost use Rattle.lasp_core.specs.Core.{IsOpen};
+ghost use Rattle.lasp_core.specs.Reads.{read_of};
+ghost use Rattle.lasp_store.specs.Turn.{frame_of};
+ghost use Rattle.tests_store.specs.Kept.{IsFeed, IsHand};
+
+use crate::asking::open;
+use crate::feeding::{Doing, graph_of, opened, update};
+use crate::wrong::Wrong;
+use lasp_core::{ReadNo, Watched};
+use lasp_fns::Library;
+use lasp_graph::Graph;
+use lasp_store::{Feed, Hand, Seated, Store};
+use std::alloc::Global;
+use std::sync::{Arc, Wait};
+use std::test::Fail;
+
+/// What a reader finds that is handed a replica: the state of a read as text, where it is met.
+fn found<W: Watched + Drop>(
+    alloc: Global,
+    mut replica: W,
+    read: &ReadNo,
+) -> Result<Option<String>, Wrong>
+    requires { W.IsOpen replica (read_of read.now) }
+{
+    match replica.try_poll(read) {
+        Ok(Some(state)) => {
+            let mut told = String::new(alloc);
+            state.print_into(&mut told)?;
+            Ok(Some(told))
+        }
+        Ok(None) => Ok(None),
+        Err(_) => Err(Wrong),
+    }
+}
+
+/// What two readers find to whom a seated hand is lent, one before an update and one behind it, and the hand.
+fn read_twice<'a, R: Wait>(
+    rt: &'a R,
+    alloc: Global,
+    store: &'a Store,
+    f: &mut Feed,
+    graph: &Arc<Graph>,
+    hand: Hand,
+    read: &ReadNo,
+) -> Result<(Option<String>, Option<String>, Hand), Wrong>
+    requires feed { IsFeed store.now (arc_value graph.now) f.old }
+    requires hand { IsHand store.now 1 hand }
+    requires open { IsOpen (frame_of hand) hand.seen (read_of read.now) }
+    ensures feed { IsFeed store.now (arc_value graph.now) f.new }
+    ensures hand { IfOk result (λ told. told.2.lock ≡ store.now) }
+{
+    let mut seated = Seated::new(store, hand, rt);
+    let before = found(alloc, &mut seated, read);
+    let updated = update(rt, store, f, graph, 0, Doing::Inc, 7);
+    let after = found(alloc, &mut seated, read);
+    let hand = seated.into_hand();
+    updated?;
+    Ok((before?, after?, hand))
+}
+
+/// Whether a hand that was lent to readers comes back, and they found the state once it was met.
+fn is_lent<R: Wait>(rt: &R, alloc: Global) -> Result<bool, Wrong> {
+    let graph = graph_of(alloc, r#"[["c","counter"]]"#, &Library::new(alloc))?;
+    if graph.len() == 0 {
+        return Err(Wrong);
+    }
+    let (store, mut f) = opened(alloc, &graph, 0)?;
+    let mut hand = store.split_hand(&mut f)?;
+    let read = open(rt, &store, &mut hand, 0, 1, 5)?;
+    let (before, after, hand) = read_twice(rt, alloc, &store, &mut f, &graph, hand, &read)?;
+    store.rejoin(&mut f, hand);
+    let is_seven = after.is_some_and(|told| told.as_str() == "7");
+    Ok(before.is_none() && is_seven && store.close(f).is_some())
+}
+
+#[test]
+fn a_hand_that_is_lent_to_readers_comes_back(rt: HostRuntime) -> Result<(), Fail> {
+    let is = is_lent(&rt, rt.alloc()).map_err(|_| "a call was refused")?;
+    assert!(rt; is);
+    Ok(())
+}
