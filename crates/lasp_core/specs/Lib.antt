@@ -4,3 +4,4 @@ pub mod Core
 pub mod Listed
 pub mod Evaluated
 pub mod Watched
+pub mod Prelude

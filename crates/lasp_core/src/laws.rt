@@ -1,23 +1,8 @@
 //! What callers need of jobs and reads that others outrun, and what the entries tell of jobs and states. There is nothing to run here: each contract is a group of laws.
 
 ghost use Rattle.std.specs.Prelude.{◌≡◌, ℕ, ◌<◌, ◌≤◌, List, length, ◌++◌, take};
-ghost use Rattle.std.specs.Arc.{arc_value};
+ghost use Rattle.lasp_core.specs.Prelude.{arc_value, size_of, row_limit, kind_at, equation, IsDerived, FitsAll, Entry, Frame, graph, vals, State, content_of, Job, Read, Core, held_of, evaluated, IsEvaluated, IsSameJob, IsOpen, rows_of, IsStateOf, state_after, IsJobOf, IsJobNow, IsResultOf, unread_rows};
 ghost use Rattle.model_functions.specs.Library as functions;
-ghost use Rattle.model_states.specs.Content.{size_of, row_limit};
-ghost use Rattle.model_graph.specs.Graph.{kind_at};
-ghost use Rattle.model_graph.specs.Evaluation.{equation};
-ghost use Rattle.model_graph.specs.Lawful.{IsDerived};
-ghost use Rattle.model_readings.specs.Lawful.{FitsAll};
-ghost use Rattle.model_journal.specs.Entry.{Entry, Frame};
-ghost use Rattle.model_journal.specs.Journal.{graph, vals};
-ghost use Rattle.lasp_state.specs.declared.state.State.{State};
-ghost use Rattle.lasp_state.specs.State.{content_of};
-ghost use Rattle.lasp_job.specs.declared.job.Job.{Job};
-ghost use Rattle.model_core.specs.Core.{Read, Core};
-ghost use Rattle.lasp_graph.specs.States.{held_of};
-ghost use Rattle.lasp_core.specs.Evaluated.{evaluated, IsEvaluated, IsSameJob};
-ghost use Rattle.lasp_core.specs.Core.{IsOpen, rows_of, IsStateOf, state_after};
-ghost use Rattle.lasp_replica.specs.Jobs.{IsJobOf, IsJobNow, IsResultOf, unread_rows};
 
 /// A job stays a job where the entries go on, and its results stay its results: who takes a job may let others add entries before its result is handed in.
 pub fn jobs_stay()

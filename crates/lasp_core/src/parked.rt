@@ -1,11 +1,7 @@
 //! The parked reads of a replica after an entry.
 
 ghost use Rattle.std.specs.Prelude.{◌≡◌, ◌==◌, ◌+◌, ◌≤◌, ◌++◌, [], not, map, filter, vec_len, vec_capacity};
-ghost use Rattle.std.specs.List.{AllByRecursion};
-ghost use Rattle.model_core.specs.Core.{is_met};
-ghost use Rattle.lasp_core.specs.Reads.{read_of};
-ghost use Rattle.lasp_replica.specs.Replica.{frame_of, entries_of, IsReplica};
-ghost use Rattle.lasp_core.specs.Core.{IsWatched};
+ghost use Rattle.lasp_core.specs.Prelude.{AllByRecursion, is_met, read_of, frame_of, entries_of, IsReplica, IsWatched};
 
 use crate::read::ReadNo;
 use lasp_replica::Replica;

@@ -1,10 +1,8 @@
 //! Reads that wait for a threshold, and those that a call released.
 
 ghost use Rattle.std.specs.Prelude.{◌≡◌, ◌<◌, ◌++◌, ◌∷◌, [], length, map, slice_get, Some, IfOk, IsTrue};
-ghost use Rattle.std.specs.Arc.{arc_value};
-ghost use Rattle.model_states.specs.Threshold.{suits, meets};
-ghost use Rattle.lasp_state.specs.State.{content_of, shape_of};
-ghost use Rattle.lasp_core.specs.Reads.{read_of};
+ghost use Rattle.lasp_core.specs.Prelude.{arc_value, suits, meets, content_of, read_of};
+ghost use Rattle.lasp_state.specs.State.{shape_of};
 
 use lasp_state::{State, Threshold};
 use std::alloc::{AllocError, Global};

@@ -1,32 +1,13 @@
 //! The core of a replica, as callers see it.
 
 ghost use Rattle.std.specs.Prelude.{◌≡◌, ◌<◌, ◌≤◌, ◌^◌, ◌↔◌, [], IfOk, IfErr, OnOk, OnErr, IfSome, IfNone, IsTrue, is_some, length, take, slice_get, Some, vec_capacity, ℕ};
-ghost use Rattle.std.specs.Arc.{arc_value};
-ghost use Rattle.model_states.specs.Counts.{count_at};
-ghost use Rattle.model_states.specs.Content.{IsContentAtMost};
-ghost use Rattle.model_states.specs.Threshold.{suits, meets};
-ghost use Rattle.model_graph.specs.Graph.{kind_at};
-ghost use Rattle.model_graph.specs.Evaluation.{equation, eval};
-ghost use Rattle.model_graph.specs.Order.{ContentsAtMost};
-ghost use Rattle.model_graph.specs.Lawful.{IsDerived, shape_of, variable_limit};
+ghost use Rattle.lasp_core.specs.Prelude.{arc_value, count_at, IsContentAtMost, suits, meets, kind_at, equation, eval, ContentsAtMost, IsDerived, variable_limit, IsClean, base, entry, entered, op_of, threshold_of, decl_of, contents_of, held_at, number_by, read_of, entry_of, IsSmall, IsSuited, update_refusal, IsAnswered, IsDelivered, IsUnclean, IsFirst, IsNext, Lacks, IsJobOf, IsJobNow, IsResultOf, fresh_core, IsOpen, opened_read, opened, closed, rows_of, taken, returned, IsSettled, declared, IsStateOf, AreOfKind, AreAscending, AreInOrder};
+ghost use Rattle.model_graph.specs.Lawful.{shape_of};
 ghost use Rattle.model_readings.specs.Lawful.{IsNext as MayFollow};
 ghost use Rattle.model_journal.specs.Entry as model;
 ghost use Rattle.model_journal.specs.Journal as journal;
-ghost use Rattle.model_journal.specs.Clean.{IsClean, base};
-ghost use Rattle.model_journal.specs.Entry.{entry};
 ghost use Rattle.model_core.specs.Core as plain;
-ghost use Rattle.model_core.specs.Core.{entered};
 ghost use Rattle.lasp_state.specs.State as state;
-ghost use Rattle.lasp_state.specs.State.{op_of};
-ghost use Rattle.lasp_state.specs.Threshold.{threshold_of};
-ghost use Rattle.lasp_graph.specs.Decl.{decl_of};
-ghost use Rattle.lasp_graph.specs.States.{contents_of, held_at};
-ghost use Rattle.lasp_graph.specs.Evaluated.{number_by};
-ghost use Rattle.lasp_core.specs.Reads.{read_of};
-ghost use Rattle.lasp_replica.specs.Entries.{entry_of};
-ghost use Rattle.lasp_replica.specs.Replica.{IsSmall, IsSuited, update_refusal, IsAnswered, IsDelivered};
-ghost use Rattle.lasp_replica.specs.Jobs.{IsUnclean, IsFirst, IsNext, Lacks, IsJobOf, IsJobNow, IsResultOf};
-ghost use Rattle.lasp_core.specs.Core.{fresh_core, IsOpen, opened_read, opened, closed, rows_of, taken, returned, IsSettled, declared, IsStateOf, AreOfKind, AreAscending, AreInOrder};
 
 use crate::parked::{remove_read, split_met};
 use crate::read::{ReadNo, Released};

@@ -1,13 +1,7 @@
 //! What replicas do: updates, and messages.
 
 ghost use Rattle.std.specs.Prelude.{◌≡◌, ◌<◌, OnOk, OnErr, length, slice_set};
-ghost use Rattle.model_states.specs.Counts.{count_at};
-ghost use Rattle.model_states.specs.Update.{Add, Remove};
-ghost use Rattle.model_world.specs.World.{Update, Post, Take};
-ghost use Rattle.model_dots.specs.Dots.{count_limit, join_dots, add_dot, remove_dots};
-ghost use Rattle.model_dot_worlds.specs.DotWorld.{dots_at, dot_act};
-ghost use Rattle.lasp_value.specs.Value.{val_of};
-ghost use Rattle.lasp_dots.specs.declared.refused.DotRefused.TheVariants.{Memory};
+ghost use Rattle.lasp_dot_run.specs.Prelude.{count_at, Add, Remove, Update, Post, Take, count_limit, join_dots, add_dot, remove_dots, dots_at, dot_act, val_of, Memory};
 
 use super::replicas::DotReplicas;
 use lasp_dots::{DotRefused, DotSet};

@@ -1,10 +1,7 @@
 //! One command of a script.
 
 ghost use Rattle.std.specs.Prelude.{◌≡◌, ◌≤◌, ◌<◌, ◌++◌, OnOk, length, string_bytes};
-ghost use Rattle.model_dot_worlds.specs.DotReport.{dot_print};
-ghost use Rattle.model_dot_worlds.specs.DotWorld.{dot_acts, dot_each};
-ghost use Rattle.lasp_script.specs.Command.{command_of};
-ghost use Rattle.lasp_dot_run.specs.Commands.{CanDo};
+ghost use Rattle.lasp_dot_run.specs.Prelude.{dot_print, dot_acts, dot_each, command_of, CanDo};
 
 use super::replicas::DotReplicas;
 use super::text::push_print;

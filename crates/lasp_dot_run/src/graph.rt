@@ -1,7 +1,7 @@
 //! The graph of such a script.
 
 ghost use Rattle.std.specs.Prelude.{◌≡◌, IfOk, codes};
-ghost use Rattle.model_dot_worlds.specs.DotWorld.{one_set};
+ghost use Rattle.lasp_dot_run.specs.Prelude.{one_set};
 
 use lasp_graph::{Decl, Graph, Kind};
 use lasp_value::Name;

@@ -1,14 +1,7 @@
 //! A whole script.
 
 ghost use Rattle.std.specs.Prelude.{◌≡◌, ◌≤◌, ◌<◌, ◌++◌, ℕ, IfOk, OnOk, Ok, length, string_bytes};
-ghost use Rattle.model_world.specs.Lawful.{IsLawful, IsWithinLimits, AreLawful};
-ghost use Rattle.model_world.specs.Report.{report_of};
-ghost use Rattle.model_world.specs.World.{Run, ended, peer_at};
-ghost use Rattle.model_dot_worlds.specs.DotReport.{live_lines, dot_text, dot_output};
-ghost use Rattle.model_dot_worlds.specs.DotWorld.{one_set, dots_at, StandsFor, dot_start, dot_play, AreDotCommands};
-ghost use Rattle.model_dot_worlds.specs.Sizes.{CountAtMost};
-ghost use Rattle.model_dot_worlds.specs.Unlimited.{IsUnlimited};
-ghost use Rattle.lasp_dot_run.specs.Commands.{stage_at};
+ghost use Rattle.lasp_dot_run.specs.Prelude.{IsLawful, IsWithinLimits, AreLawful, report_of, Run, ended, peer_at, live_lines, dot_text, dot_output, one_set, dots_at, StandsFor, dot_start, dot_play, AreDotCommands, CountAtMost, IsUnlimited, stage_at};
 
 use super::command::do_command;
 use super::replicas::DotReplicas;

@@ -1,9 +1,7 @@
 //! The replicas, and what they sent.
 
 ghost use Rattle.std.specs.Prelude.{◌≡◌, ◌≤◌, ◌<◌, IfOk, length, replicate, slice_get, Some};
-ghost use Rattle.model_dots.specs.Dots.{no_dots};
-ghost use Rattle.model_dot_worlds.specs.DotWorld.{dots_at, dot_start};
-ghost use Rattle.lasp_dot_run.specs.Replicas.{AreWide};
+ghost use Rattle.lasp_dot_run.specs.Prelude.{no_dots, dots_at, dot_start, AreWide};
 
 use lasp_dots::DotSet;
 use std::alloc::{AllocError, Global};

@@ -1,7 +1,7 @@
 //! What each replica knows and keeps at the end.
 
 ghost use Rattle.std.specs.Prelude.{◌≡◌, ◌++◌, OnOk, string_bytes};
-ghost use Rattle.model_dot_worlds.specs.DotReport.{dot_known, dot_sizes};
+ghost use Rattle.lasp_dot_run.specs.Prelude.{dot_known, dot_sizes};
 
 use super::replicas::DotReplicas;
 use super::text::{push_known, push_size};

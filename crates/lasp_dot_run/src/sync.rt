@@ -1,9 +1,7 @@
 //! A sync: every node sends, and then each takes the messages of all others.
 
 ghost use Rattle.std.specs.Prelude.{◌≡◌, ◌<◌, ◌≤◌, ◌+◌, OnOk, length, map, flat_map};
-ghost use Rattle.std.specs.List.{range_with_len};
-ghost use Rattle.model_world.specs.World.{takes, sync_acts, Post};
-ghost use Rattle.model_dot_worlds.specs.DotWorld.{dot_each};
+ghost use Rattle.lasp_dot_run.specs.Prelude.{range_with_len, takes, sync_acts, Post, dot_each};
 
 use super::replicas::DotReplicas;
 use std::alloc::AllocError;

@@ -1,10 +1,7 @@
 //! The lines of what such replicas print.
 
 ghost use Rattle.std.specs.Prelude.{◌≡◌, ◌++◌, ◌∷◌, [], OnOk, length, string_bytes, codes, map};
-ghost use Rattle.std.specs.Fmt.{decimal};
-ghost use Rattle.model_values.specs.Text.{shown_values};
-ghost use Rattle.model_sets.specs.Values.{visible};
-ghost use Rattle.model_world.specs.Line.{line, line_rest, known_line};
+ghost use Rattle.lasp_dot_run.specs.Prelude.{decimal, shown_values, visible, line, line_rest, known_line};
 
 use lasp_dots::DotSet;
 use lasp_value::{Values, print_into};

@@ -1,8 +1,7 @@
 //! Which commands such replicas know.
 
 ghost use Rattle.std.specs.Prelude.{◌≡◌, ◌<◌, length};
-ghost use Rattle.model_dot_worlds.specs.Words.{is_dot_command, first_other};
-ghost use Rattle.lasp_script.specs.Command.{command_of};
+ghost use Rattle.lasp_dot_run.specs.Prelude.{is_dot_command, first_other, command_of};
 
 use lasp_script::{Command, Script};
 

@@ -1,8 +1,7 @@
 //! Pairs that come and go.
 
 ghost use Rattle.std.specs.Prelude.{◌≡◌, OnOk, OnErr, not, filter};
-ghost use Rattle.model_sets.specs.Rows.{mark, IsAscending, put, is_of};
-ghost use Rattle.lasp_value.specs.Value.{val_of};
+ghost use Rattle.lasp_dots.specs.Prelude.{mark, IsAscending, put, is_of, val_of};
 
 use super::dot::Dot;
 use super::edges::{Begin, End};

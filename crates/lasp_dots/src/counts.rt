@@ -1,7 +1,7 @@
 //! The loops over counts.
 
 ghost use Rattle.std.specs.Prelude.{◌≡◌, ◌↔◌, IsTrue, length};
-ghost use Rattle.model_states.specs.Counts.{AreCountsAtMost, larger};
+ghost use Rattle.lasp_dots.specs.Prelude.{AreCountsAtMost, larger};
 
 /// Raises each count to the other one where that is larger.
 pub(crate) fn raise(counts: &mut Vec<u64>, others: &[u64])

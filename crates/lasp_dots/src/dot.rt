@@ -1,13 +1,7 @@
 //! One live pair of a set as it is kept.
 
 ghost use Rattle.std.specs.Prelude.{◌≡◌, false, IfOk};
-ghost use Rattle.model_values.specs.Value.{val_cmp};
-ghost use Rattle.model_values.specs.Row.{key_cmp};
-ghost use Rattle.model_sets.specs.Rows.{is_of};
-ghost use Rattle.model_states.specs.Counts.{count_at};
-ghost use Rattle.model_dots.specs.Dots.{is_counted};
-ghost use Rattle.lasp_value.specs.Value.{val_of};
-ghost use Rattle.lasp_value.specs.Token.{tok_of};
+ghost use Rattle.lasp_dots.specs.Prelude.{val_cmp, key_cmp, is_of, count_at, is_counted, val_of, tok_of};
 
 use lasp_log::Share;
 use lasp_value::{Token, Value};

@@ -1,7 +1,6 @@
 //! Where a pair, and where the pairs of a value, stand among ascending pairs.
 
-ghost use Rattle.lasp_value.specs.Value.{val_of};
-ghost use Rattle.lasp_dots.specs.Places.{is_below, is_before, is_within};
+ghost use Rattle.lasp_dots.specs.Prelude.{val_of, is_below, is_before, is_within};
 
 use super::dot::Dot;
 use lasp_pieces::Edge;

@@ -1,7 +1,7 @@
 //! Sets as a lattice.
 
 ghost use Rattle.std.specs.Prelude.{length};
-ghost use Rattle.model_dots.specs.Dots.{IsState, HaveSameNodes, no_dots, join_dots, IsAtMost};
+ghost use Rattle.lasp_dots.specs.Prelude.{IsState, HaveSameNodes, no_dots, join_dots, IsAtMost};
 ghost use Rattle.std.proofs.Common.{refl, sym, ◌∙◌};
 ghost use Rattle.model_dots.proofs.DotLaws as laws;
 

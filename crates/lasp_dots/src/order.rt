@@ -1,9 +1,7 @@
 //! The order and the join of sets.
 
 ghost use Rattle.std.specs.Prelude.{◌≡◌, ◌≢◌, ◌↔◌, IfOk, OnOk, OnErr, IsTrue};
-ghost use Rattle.std.specs.List.{list_all};
-ghost use Rattle.model_sets.specs.Rows.{IsAscending};
-ghost use Rattle.model_dots.specs.Dots.{HaveSameNodes, join_dots, IsAtMost, outlives};
+ghost use Rattle.lasp_dots.specs.Prelude.{list_all, IsAscending, HaveSameNodes, join_dots, IsAtMost, outlives};
 
 use super::counts::{are_at_most, raise};
 use super::dot::Dot;

@@ -1,12 +1,7 @@
 //! What a set shows, and its pairs and counts.
 
 ghost use Rattle.std.specs.Prelude.{◌≡◌, ◌<◌, ◌↔◌, IfOk, IsTrue, Some, false, length, slice_get};
-ghost use Rattle.std.specs.Option.{option_map};
-ghost use Rattle.model_sets.specs.Values.{IsHeld, visible};
-ghost use Rattle.model_sets.specs.Loops.{is_last};
-ghost use Rattle.model_states.specs.Counts.{count_at};
-ghost use Rattle.lasp_value.specs.Value.{val_of};
-ghost use Rattle.lasp_value.specs.Token.{tok_of};
+ghost use Rattle.lasp_dots.specs.Prelude.{option_map, IsHeld, visible, is_last, count_at, val_of, tok_of};
 
 use super::search::has_value;
 use super::set::DotSet;

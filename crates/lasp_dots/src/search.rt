@@ -1,9 +1,7 @@
 //! Searches among ascending pairs.
 
 ghost use Rattle.std.specs.Prelude.{◌≡◌, nat_lt};
-ghost use Rattle.std.specs.List.{list_any};
-ghost use Rattle.model_sets.specs.Rows.{mark, IsAscending, is_of};
-ghost use Rattle.lasp_value.specs.Value.{val_of};
+ghost use Rattle.lasp_dots.specs.Prelude.{list_any, mark, IsAscending, is_of, val_of};
 
 use super::dot::Dot;
 use super::edges::Begin;

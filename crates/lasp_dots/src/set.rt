@@ -1,10 +1,7 @@
 //! The set: the least one, what an add and a remove do, and the join.
 
 ghost use Rattle.std.specs.Prelude.{◌≡◌, ◌≤◌, ◌<◌, ◌↔◌, ◌+◌, IfOk, OnOk, OnErr, Err, length};
-ghost use Rattle.model_states.specs.Counts.{count_at};
-ghost use Rattle.model_dots.specs.Dots.{count_limit, IsState, no_dots, add_dot, remove_dots};
-ghost use Rattle.lasp_value.specs.Value.{val_of};
-ghost use Rattle.lasp_dots.specs.declared.refused.DotRefused.TheVariants.{CountFull};
+ghost use Rattle.lasp_dots.specs.Prelude.{count_at, count_limit, IsState, no_dots, add_dot, remove_dots, val_of, CountFull};
 
 use super::changes::{put_in, take_out};
 use super::dot::Dot;

@@ -1,8 +1,7 @@
 //! The pairs of two sets side by side.
 
 ghost use Rattle.std.specs.Prelude.{◌≡◌, ◌++◌, [], IfOk, OnOk, not, filter};
-ghost use Rattle.model_dots.specs.Dots.{is_counted};
-ghost use Rattle.model_dots.specs.Loops.{uncounted, weave};
+ghost use Rattle.lasp_dots.specs.Prelude.{is_counted, uncounted, weave};
 
 use super::dot::Dot;
 use lasp_log::Share;

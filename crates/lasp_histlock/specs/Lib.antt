@@ -7,3 +7,4 @@ pub mod Steps
 pub mod Content
 pub mod Taken
 pub mod Passes
+pub mod Prelude

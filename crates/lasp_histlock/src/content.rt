@@ -1,6 +1,6 @@
 //! What lies in the lock's slot while the lock is free.
 ghost use Rattle.std.specs.Prelude.{◌≡◌, List, [], ◌∷◌, Some};
-ghost use Rattle.lasp_histlock.specs.Content.{IsCarrier};
+ghost use Rattle.lasp_histlock.specs.Prelude.{IsCarrier};
 
 use crate::kept::Kept;
 use crate::rule::{Known, Seat};

@@ -1,9 +1,7 @@
 //! The lock and its calls.
 ghost use Rattle.std.specs.Prelude.{◌≡◌, ◌≢◌, ◌⊎◌, ◌↔◌, ◌+◌, ◌<◌, ◌≤◌, true, false, [], ◌++◌, All, length, Some, IfOk, IfSome, IfNone, IsNone, IsOkAnd};
+ghost use Rattle.lasp_histlock.specs.Prelude.{entries_of, Allowed, added, SomeOut, first_pass, new_pass, after_miss, after_take, after_give, after_look, after_split, after_rejoin};
 ghost use mathlib.Core.List.{IsPrefix};
-ghost use Rattle.lasp_histlock.specs.History.{entries_of, Allowed, added};
-ghost use Rattle.lasp_histlock.specs.Steps.{SomeOut};
-ghost use Rattle.lasp_histlock.specs.Passes.{first_pass, new_pass, after_miss, after_take, after_give, after_look, after_split, after_rejoin};
 
 use crate::held::Held;
 use crate::kept::Kept;

@@ -1,6 +1,6 @@
 //! A pass: what one caller knows of the history.
 ghost use Rattle.std.specs.Prelude.{◌≡◌, All};
-ghost use Rattle.lasp_histlock.specs.History.{entries_of, Allowed};
+ghost use Rattle.lasp_histlock.specs.Prelude.{entries_of, Allowed};
 
 use crate::kept::Kept;
 use crate::rule::Seat;

@@ -1,6 +1,5 @@
 //! The table of a lock: word 0 is 1 while somebody has the turn, word 1 is the number of entries, and the one slot holds the content.
-ghost use Rattle.lasp_histlock.specs.Rule.{Keeps};
-ghost use Rattle.lasp_histlock.specs.Views.{founder};
+ghost use Rattle.lasp_histlock.specs.Prelude.{Keeps, founder};
 
 use crate::content::Content;
 use crate::kept::Kept;

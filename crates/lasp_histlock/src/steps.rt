@@ -1,10 +1,6 @@
 //! The steps on the table, one function each. A seat and a board that come together are of one table.
 ghost use Rattle.std.specs.Prelude.{◌≡◌, ◌+◌, ◌<◌, ◌≤◌, ◌^◌, true, false, [], None, Some, MatchBool, length};
-ghost use Rattle.lasp_histlock.specs.Names.{name_of};
-ghost use Rattle.lasp_histlock.specs.History.{Made};
-ghost use Rattle.lasp_histlock.specs.Views.{founder, landed, turned_to, missed, placed, looked, recalled, grown};
-ghost use Rattle.lasp_histlock.specs.Rule.{IsReady};
-ghost use Rattle.lasp_histlock.specs.Steps.{SomeOut, Told};
+ghost use Rattle.lasp_histlock.specs.Prelude.{name_of, Made, founder, landed, turned_to, missed, placed, looked, recalled, grown, IsReady, SomeOut, Told};
 
 use crate::content::Content;
 use crate::kept::Kept;

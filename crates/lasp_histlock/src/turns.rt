@@ -1,10 +1,7 @@
 //! A turn, made of steps.
 ghost use Rattle.std.specs.Prelude.{◌≡◌, ◌+◌, ◌<◌, ◌≤◌, ◌^◌, ◌++◌, All, [], Some, length};
+ghost use Rattle.lasp_histlock.specs.Prelude.{name_of, Made, Allowed, entries_of, grown, HasTurn, HasContent, begun, settled};
 ghost use mathlib.Core.List.{IsPrefix};
-ghost use Rattle.lasp_histlock.specs.Names.{name_of};
-ghost use Rattle.lasp_histlock.specs.History.{Made, Allowed, entries_of};
-ghost use Rattle.lasp_histlock.specs.Views.{grown};
-ghost use Rattle.lasp_histlock.specs.Taken.{HasTurn, HasContent, begun, settled};
 
 use crate::content::Content;
 use crate::kept::Kept;

@@ -1,9 +1,8 @@
 //! What a replica core sends.
 
 ghost use Rattle.std.specs.Prelude.{◌≡◌, IfOk};
-ghost use Rattle.model_world.specs.World.{message_at};
+ghost use Rattle.lasp_node.specs.Prelude.{message_at, peer_of};
 ghost use Rattle.model_journal.specs.Journal as journal;
-ghost use Rattle.model_core.specs.Peer.{peer_of};
 
 use lasp_core::Core;
 use lasp_wire::Message;

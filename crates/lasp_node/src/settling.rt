@@ -1,16 +1,9 @@
 //! Settling a core: its jobs are done until none is left.
 
 ghost use Rattle.std.specs.Prelude.{◌≡◌, ◌<◌, ◌≤◌, ◌+◌, ◌++◌, ◌∷◌, [], length, OnOk};
-ghost use Rattle.model_graph.specs.Evaluation.{eval, first_large};
-ghost use Rattle.model_readings.specs.Lawful.{FitsAll};
-ghost use Rattle.model_journal.specs.Entry.{Bind, entry};
+ghost use Rattle.lasp_node.specs.Prelude.{eval, first_large, FitsAll, Bind, entry, library_of, Settles, IsSettled, IsJobNow, greatest_count, counted_up, IsIdle, IsIdleBut, AreCleanBelow, HasBoundIn, HasBound, rows_since, TellsFirst};
 ghost use Rattle.model_journal.specs.Journal as journal;
 ghost use Rattle.lasp_fns.specs.Steps as counted;
-ghost use Rattle.lasp_graph.specs.Library.{library_of};
-ghost use Rattle.lasp_drive.specs.Node.{Settles};
-ghost use Rattle.lasp_core.specs.Core.{IsSettled};
-ghost use Rattle.lasp_replica.specs.Jobs.{IsJobNow, greatest_count, counted_up};
-ghost use Rattle.lasp_node.specs.Settling.{IsIdle, IsIdleBut, AreCleanBelow, HasBoundIn, HasBound, rows_since, TellsFirst};
 
 use lasp_core::Core;
 use lasp_drive::NodeStop;

@@ -1,3 +1,4 @@
 pub mod Functions
 pub mod Tables
 pub mod Call
+pub mod Prelude

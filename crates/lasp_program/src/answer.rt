@@ -1,16 +1,7 @@
 //! The answer to the program's words over the library of its functions.
 
 ghost use Rattle.std.specs.Prelude.{◌≡◌, IfOk, OnErr, map};
-ghost use Rattle.model_values.specs.Size.{IsSized};
-ghost use Rattle.model_functions.specs.Predicate.{passes};
-ghost use Rattle.model_functions.specs.Lift.{lifted};
-ghost use Rattle.model_program.specs.Call.{reading_of, writing_of, IsAnswered};
-ghost use Rattle.lasp_value.specs.Value.{val_of};
-ghost use Rattle.lasp_fns.specs.Lift.{lift_op_of};
-ghost use Rattle.lasp_fns.specs.Answers.{Answers};
-ghost use Rattle.lasp_run.specs.Words.{words_of};
-ghost use Rattle.lasp_program.specs.Functions.{program_maps, program_predicates, program_lifts, program_library};
-ghost use Rattle.lasp_program.specs.Tables.{map_entry, predicate_entry, lift_entry};
+ghost use Rattle.lasp_program.specs.Prelude.{IsSized, passes, lifted, reading_of, writing_of, IsAnswered, val_of, lift_op_of, Answers, words_of, program_maps, program_predicates, program_lifts, program_library, map_entry, predicate_entry, lift_entry};
 
 use crate::functions::{Condition, LIFTS, MAPS, PREDICATES};
 use crate::library::{add_lift, add_map, add_predicate};

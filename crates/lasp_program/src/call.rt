@@ -1,9 +1,7 @@
 //! A call with words of any bytes.
 
 ghost use Rattle.std.specs.Prelude.{◌≡◌, ◌⊎◌, IfOk, OnErr};
-ghost use Rattle.model_program.specs.Call.{reading_of, writing_of, AreTexts, IsAnswered, IsUsage};
-ghost use Rattle.lasp_program.specs.Functions.{program_library};
-ghost use Rattle.lasp_program.specs.Call.{bytes_of, TextsOrNone};
+ghost use Rattle.lasp_program.specs.Prelude.{reading_of, writing_of, AreTexts, IsAnswered, IsUsage, program_library, bytes_of, TextsOrNone};
 
 use crate::answer::answer_words;
 use lasp_edge::{Files, Sink};

@@ -1,17 +1,7 @@
 //! How the functions of the tables come into a library.
 
 ghost use Rattle.std.specs.Prelude.{◌≡◌, ◌≢◌, ◌↔◌, ◌<◌, ◌++◌, ◌∷◌, [], Err, IsOk, OnOk, IsTrue, length, false, map};
-ghost use Rattle.model_values.specs.Size.{IsSized};
-ghost use Rattle.model_functions.specs.Predicate.{passes};
-ghost use Rattle.model_functions.specs.Lift.{lifted};
-ghost use Rattle.model_values.specs.Name.{is_name};
-ghost use Rattle.lasp_value.specs.Value.{val_of};
-ghost use Rattle.lasp_fns.specs.Answers.{Answers};
-ghost use Rattle.lasp_fns.specs.Library.{maps_of, predicates_of, lifts_of};
-ghost use Rattle.lasp_fns.specs.Lift.{lift_op_of};
-ghost use Rattle.lasp_fns.specs.Map.{map_op_of};
-ghost use Rattle.lasp_fns.specs.Named.{is_named};
-ghost use Rattle.lasp_program.specs.Tables.{condition_view};
+ghost use Rattle.lasp_program.specs.Prelude.{IsSized, passes, lifted, is_name, val_of, Answers, maps_of, predicates_of, lifts_of, lift_op_of, map_op_of, is_named, condition_view};
 
 use crate::functions::Condition;
 use crate::operations::{conditions_of, steps_of};

@@ -1,9 +1,7 @@
 //! The operations of the table's functions, as a library keeps them.
 
 ghost use Rattle.std.specs.Prelude.{◌≡◌, IfOk, map};
-ghost use Rattle.lasp_fns.specs.Map.{map_op_of};
-ghost use Rattle.lasp_fns.specs.Predicate.{pred_op_of};
-ghost use Rattle.lasp_program.specs.Tables.{condition_view};
+ghost use Rattle.lasp_program.specs.Prelude.{map_op_of, pred_op_of, condition_view};
 
 use crate::functions::Condition;
 use lasp_fns::{MapOp, MapOps, PredOp, PredOps};

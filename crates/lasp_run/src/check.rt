@@ -1,17 +1,7 @@
 //! `check`: what a graph's variables are, as a text.
 
 ghost use Rattle.std.specs.Prelude.{◌≡◌, ◌<◌, ◌++◌, ◌∷◌, [], length, OnOk, IfOk, Ok, string_bytes};
-ghost use Rattle.std.specs.Fmt.{decimal};
-ghost use Rattle.model_graph.specs.Lawful.{widths, width_at};
-ghost use Rattle.model_world.specs.Line.{line};
-ghost use Rattle.model_program.specs.Check.{kind_word, check_line, check_text};
-ghost use Rattle.model_program.specs.Follows.{Gives, Follows};
-ghost use Rattle.model_program.specs.Program.{checking};
-ghost use Rattle.model_program.specs.Call.{AreUnchanged, AreLater, seen};
-ghost use Rattle.lasp_graph.specs.Kind.{kind_of};
-ghost use Rattle.lasp_graph.specs.Decl.{decl_of};
-ghost use Rattle.lasp_graph.specs.Library.{library_of};
-ghost use Rattle.lasp_run.specs.Words.{words_of, answered};
+ghost use Rattle.lasp_run.specs.Prelude.{decimal, widths, width_at, line, kind_word, check_line, check_text, Gives, Follows, checking, AreUnchanged, AreLater, seen, kind_of, decl_of, library_of, words_of, answered};
 
 use crate::open::open_graph;
 use lasp_edge::Files;

@@ -1,16 +1,7 @@
 //! `dots`: a script over one set, on replicas that keep no tombstones.
 
 ghost use Rattle.std.specs.Prelude.{◌≡◌, ◌<◌, length, IfOk};
-ghost use Rattle.model_graph.specs.Chain.{refusing};
-ghost use Rattle.model_scripts.specs.Script.{script_of};
-ghost use Rattle.model_dot_worlds.specs.DotWorld.{one_set};
-ghost use Rattle.model_program.specs.Call.{AreUnchanged, AreLater, seen};
-ghost use Rattle.model_program.specs.Dots.{dots_answer};
-ghost use Rattle.model_program.specs.Follows.{Gives, Follows, Performs};
-ghost use Rattle.model_program.specs.Program.{script_refused, dots_scripting, running_dots};
-ghost use Rattle.lasp_graph.specs.Library.{library_of};
-ghost use Rattle.lasp_drive.specs.Run.{IsRunnable};
-ghost use Rattle.lasp_run.specs.Words.{words_of, answered};
+ghost use Rattle.lasp_run.specs.Prelude.{refusing, script_of, one_set, AreUnchanged, AreLater, seen, dots_answer, Gives, Follows, Performs, script_refused, dots_scripting, running_dots, library_of, IsRunnable, words_of, answered};
 
 use crate::open::{read_file, script_from};
 use lasp_dot_run::{first_other, one_set, run_dots};

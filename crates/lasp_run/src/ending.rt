@@ -1,9 +1,7 @@
 //! How a call ends: its text on `out`, or its one line on `err`, and its status.
 
 ghost use Rattle.std.specs.Prelude.{◌≤◌};
-ghost use Rattle.lasp_run.specs.Words.{words_of, answered};
-ghost use Rattle.model_program.specs.Ends.{Ends};
-ghost use Rattle.model_program.specs.Call.{writing_of};
+ghost use Rattle.lasp_run.specs.Prelude.{words_of, answered, Ends, writing_of};
 
 mod line;
 mod status;

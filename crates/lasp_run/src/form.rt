@@ -1,9 +1,7 @@
 //! Which of the listed forms the words have.
 
 ghost use Rattle.std.specs.Prelude.{◌≡◌, ◌<◌, ℕ, length};
-ghost use Rattle.lasp_run.specs.Words.{words_of};
-ghost use Rattle.model_program.specs.Program.{form, node_word, export_form, workers_word, with_workers, load_form, threaded_form};
-ghost use Rattle.model_program.specs.declared.threaded.Threaded.TheVariants.{Run, Trace, Live, Load};
+ghost use Rattle.lasp_run.specs.Prelude.{words_of, form, node_word, export_form, workers_word, with_workers, load_form, threaded_form, Run, Trace, Live, Load};
 
 use crate::number::number_in;
 use model_program::{Form, Threaded};

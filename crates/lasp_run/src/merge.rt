@@ -1,16 +1,7 @@
 //! `merge`: the graph, the messages of files, joined one after the other, and what the variables show of all of them.
 
 ghost use Rattle.std.specs.Prelude.{◌<◌, ◌+◌, ◌-◌, Some, None, IfOk, length};
-ghost use Rattle.std.specs.Arc.{arc_value};
-ghost use Rattle.model_readings.specs.Lawful.{FitsAll};
-ghost use Rattle.model_program.specs.Plan.{Says, exactly};
-ghost use Rattle.model_program.specs.Follows.{Performs, Follows};
-ghost use Rattle.model_program.specs.Merge.{merging_file, merging_more, merging_files, merge_answer};
-ghost use Rattle.model_program.specs.Program.{merging};
-ghost use Rattle.model_program.specs.Call.{AreUnchanged, AreLater, seen};
-ghost use Rattle.lasp_graph.specs.Library.{library_of};
-ghost use Rattle.lasp_run.specs.Merge.{peer_by, IsReplica, ComesTo};
-ghost use Rattle.lasp_run.specs.Words.{words_of, answered};
+ghost use Rattle.lasp_run.specs.Prelude.{arc_value, FitsAll, Says, exactly, Performs, Follows, merging_file, merging_more, merging_files, merge_answer, merging, AreUnchanged, AreLater, seen, library_of, peer_by, IsReplica, ComesTo, words_of, answered};
 
 mod join;
 mod text;

@@ -1,10 +1,7 @@
 //! The names of variables, with those that a script declares.
 
 ghost use Rattle.std.specs.Prelude.{◌≡◌, ◌<◌, [], ◌∷◌, length, IfOk, IfSome, IfNone};
-ghost use Rattle.model_graph.specs.Graph.{name_at};
-ghost use Rattle.model_scripts.specs.Progress.{grown_by, grown};
-ghost use Rattle.lasp_graph.specs.Decl.{decl_of};
-ghost use Rattle.lasp_script.specs.Command.{command_of};
+ghost use Rattle.lasp_run.specs.Prelude.{name_at, grown_by, grown, decl_of, command_of};
 
 use lasp_graph::{Decl, Graph};
 use lasp_script::{Command, Script};

@@ -1,7 +1,7 @@
 //! Numbers among the words.
 
 ghost use Rattle.std.specs.Prelude.{◌≡◌, ◌≤◌, IfSome};
-ghost use Rattle.model_program.specs.Program.{spelled_in, number_in};
+ghost use Rattle.lasp_run.specs.Prelude.{spelled_in, number_in};
 
 use itoa::Buffer;
 

@@ -1,19 +1,7 @@
 //! The parts of the program that read files: the graph, and the script against it.
 
 ghost use Rattle.std.specs.Prelude.{◌≡◌, ◌<◌, length, IfOk};
-ghost use Rattle.std.specs.Arc.{arc_value};
-ghost use Rattle.model_graph.specs.Chain.{refusing};
-ghost use Rattle.model_readings.specs.Graph.{graph_of};
-ghost use Rattle.model_readings.specs.Lawful.{FitsAll};
-ghost use Rattle.model_scripts.specs.Script.{script_of};
-ghost use Rattle.model_program.specs.Plan.{reading, word_at};
-ghost use Rattle.model_program.specs.Follows.{Gives, Performs};
-ghost use Rattle.model_program.specs.Program.{graph_refused, script_refused, opening, scripting};
-ghost use Rattle.model_program.specs.Call.{AreUnchanged, AreLater, seen};
-ghost use Rattle.lasp_graph.specs.Library.{library_of};
-ghost use Rattle.lasp_drive.specs.Run.{IsRunnable};
-ghost use Rattle.lasp_run.specs.Run.{opened_of, opening_run};
-ghost use Rattle.lasp_run.specs.Words.{words_of};
+ghost use Rattle.lasp_run.specs.Prelude.{arc_value, refusing, graph_of, FitsAll, script_of, reading, word_at, Gives, Performs, graph_refused, script_refused, opening, scripting, AreUnchanged, AreLater, seen, library_of, IsRunnable, opened_of, opening_run, words_of};
 
 use lasp_edge::{Fetch, Files};
 use lasp_fns::Library;

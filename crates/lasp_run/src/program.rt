@@ -1,11 +1,7 @@
 //! The program on one thread.
 
 ghost use Rattle.std.specs.Prelude.{◌≡◌};
-ghost use Rattle.model_program.specs.Call.{AreUnchanged, AreLater, seen, reading_of, writing_of, IsAnswered};
-ghost use Rattle.model_program.specs.Follows.{Follows};
-ghost use Rattle.model_program.specs.Program.{form, plan, IsUsageForm};
-ghost use Rattle.lasp_graph.specs.Library.{library_of};
-ghost use Rattle.lasp_run.specs.Words.{words_of, answered};
+ghost use Rattle.lasp_run.specs.Prelude.{AreUnchanged, AreLater, seen, reading_of, writing_of, IsAnswered, Follows, form, plan, IsUsageForm, library_of, words_of, answered};
 
 use crate::check::run_check;
 use crate::dots::answer_dots;

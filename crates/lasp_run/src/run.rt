@@ -1,18 +1,7 @@
 //! `plain` and `export`: the graph, the script, its run, and a text of the run's last world.
 
 ghost use Rattle.std.specs.Prelude.{◌<◌, length};
-ghost use Rattle.std.specs.Arc.{arc_value};
-ghost use Rattle.model_world.specs.Lawful.{IsLawful};
-ghost use Rattle.model_world.specs.Report.{report_of};
-ghost use Rattle.model_world.specs.World.{ended};
-ghost use Rattle.model_program.specs.Follows.{Gives, Follows};
-ghost use Rattle.model_program.specs.Program.{running, run_answer, exporting, export_answer};
-ghost use Rattle.model_program.specs.Call.{AreUnchanged, AreLater, seen};
-ghost use Rattle.lasp_drive.specs.Acts.{Halts};
-ghost use Rattle.lasp_drive.specs.Run.{IsRunnable};
-ghost use Rattle.lasp_graph.specs.Library.{library_of};
-ghost use Rattle.lasp_run.specs.Run.{IsStop};
-ghost use Rattle.lasp_run.specs.Words.{words_of, answered};
+ghost use Rattle.lasp_run.specs.Prelude.{arc_value, IsLawful, report_of, ended, Gives, Follows, running, run_answer, exporting, export_answer, AreUnchanged, AreLater, seen, Halts, IsRunnable, library_of, IsStop, words_of, answered};
 
 use crate::name::declared_name;
 use crate::open::open_run;

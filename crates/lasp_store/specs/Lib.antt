@@ -1,3 +1,4 @@
 pub mod Turn
 pub mod Tried
 pub mod Settled
+pub mod Prelude

@@ -1,23 +1,9 @@
 //! What the feed does: updates, deliveries, declarations, and what it sends.
 
 ghost use Rattle.std.specs.Prelude.{◌≡◌, ◌↔◌, ◌+◌, ◌<◌, ◌∷◌, [], false, length, IfOk, OnOk, OnErr, IsTrue};
-ghost use Rattle.std.specs.List.{AllByRecursion};
-ghost use Rattle.std.specs.Arc.{arc_value};
-ghost use Rattle.model_graph.specs.Graph.{kind_at, is_source};
-ghost use Rattle.model_graph.specs.Lawful.{variable_limit};
+ghost use Rattle.lasp_store.specs.Prelude.{AllByRecursion, arc_value, kind_at, is_source, variable_limit, entry, is_met, after_miss, op_of, decl_of, held_of, IsSmall, update_refusal, IsAnswered, IsDelivered, AreAscending, state_after, IsBusy, HadTurn, TriedTurn, IsInTurn, HasEnded, frame_of, graph_at, vals_at, counts_at, graph_seen, Tried, IfRefused};
 ghost use Rattle.model_readings.specs.Lawful.{IsNext as MayFollow};
 ghost use Rattle.model_journal.specs.Entry as model;
-ghost use Rattle.model_journal.specs.Entry.{entry};
-ghost use Rattle.model_core.specs.Core.{is_met};
-ghost use Rattle.lasp_histlock.specs.Passes.{after_miss};
-ghost use Rattle.lasp_state.specs.State.{op_of};
-ghost use Rattle.lasp_graph.specs.Decl.{decl_of};
-ghost use Rattle.lasp_graph.specs.States.{held_of};
-ghost use Rattle.lasp_replica.specs.Replica.{IsSmall, update_refusal, IsAnswered, IsDelivered};
-ghost use Rattle.lasp_core.specs.Core.{AreAscending, state_after};
-ghost use Rattle.lasp_core.specs.Watched.{IsBusy};
-ghost use Rattle.lasp_store.specs.Turn.{HadTurn, TriedTurn, IsInTurn, HasEnded, frame_of, graph_at, vals_at, counts_at, graph_seen};
-ghost use Rattle.lasp_store.specs.Tried.{Tried, IfRefused};
 
 use crate::store::{Feed, Store};
 use lasp_core::{Core, DeliverRefused, Released, Try, UpdateRefused};

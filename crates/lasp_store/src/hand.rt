@@ -1,20 +1,8 @@
 //! What every pass does: it looks at variables, takes jobs and hands their results in.
 
 ghost use Rattle.std.specs.Prelude.{◌≡◌, ◌↔◌, ◌+◌, ◌<◌, ◌∷◌, [], false, length, IfOk, IfErr, IfSome, IfNone, OnOk, OnErr, IsTrue};
-ghost use Rattle.std.specs.List.{AllByRecursion};
-ghost use Rattle.std.specs.Arc.{arc_value};
-ghost use Rattle.model_graph.specs.Lawful.{IsDerived};
+ghost use Rattle.lasp_store.specs.Prelude.{AllByRecursion, arc_value, IsDerived, entry, is_met, after_miss, held_of, IsUnclean, IsFirst, Lacks, IsJobOf, IsJobNow, IsResultOf, AreAscending, state_after, AreClean, IsBusy, HadTurn, TriedTurn, IsInTurn, HasEnded, frame_of, graph_seen, IfRefused};
 ghost use Rattle.model_journal.specs.Entry as model;
-ghost use Rattle.model_journal.specs.Entry.{entry};
-ghost use Rattle.model_core.specs.Core.{is_met};
-ghost use Rattle.lasp_histlock.specs.Passes.{after_miss};
-ghost use Rattle.lasp_graph.specs.States.{held_of};
-ghost use Rattle.lasp_replica.specs.Jobs.{IsUnclean, IsFirst, Lacks, IsJobOf, IsJobNow, IsResultOf};
-ghost use Rattle.lasp_core.specs.Core.{AreAscending, state_after};
-ghost use Rattle.lasp_core.specs.Listed.{AreClean};
-ghost use Rattle.lasp_core.specs.Watched.{IsBusy};
-ghost use Rattle.lasp_store.specs.Turn.{HadTurn, TriedTurn, IsInTurn, HasEnded, frame_of, graph_seen};
-ghost use Rattle.lasp_store.specs.Tried.{IfRefused};
 
 use crate::store::{Hand, Store};
 use lasp_core::{

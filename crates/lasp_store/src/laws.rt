@@ -1,13 +1,7 @@
 //! What callers need of turns. There is nothing to run here: the contract is a group of laws.
 
 ghost use Rattle.std.specs.Prelude.{◌≡◌, ℕ, ◌<◌, ◌≤◌, ◌++◌, List, length};
-ghost use Rattle.model_graph.specs.Graph.{kind_at};
-ghost use Rattle.model_journal.specs.Entry.{Entry};
-ghost use Rattle.model_journal.specs.Journal.{declared};
-ghost use Rattle.lasp_core.specs.Listed.{GoesOn};
-ghost use Rattle.lasp_store.specs.Turn.{Knows, HadTurn, IsSeated, frame_of, graph_seen};
-ghost use Rattle.lasp_histlock.specs.Names.{LockId};
-ghost use Rattle.lasp_store.specs.Settled.{KnowsOwn};
+ghost use Rattle.lasp_store.specs.Prelude.{kind_at, Entry, declared, GoesOn, Knows, HadTurn, IsSeated, frame_of, graph_seen, LockId, KnowsOwn};
 
 /// A turn leaves what a pass knows of its replica, and the list that it has seen goes on and is legal. So a variable that it has seen declared stays declared, and of its kind.
 #[tactic(auto, using(crate::proofs::TurnLaws::turns))]

@@ -1,10 +1,8 @@
 //! What a store sends.
 
 ghost use Rattle.std.specs.Prelude.{◌≡◌, [], false, IfOk};
-ghost use Rattle.model_world.specs.World.{message_at};
+ghost use Rattle.lasp_store.specs.Prelude.{message_at, peer_of, HadTurn, IsInTurn, HasEnded, frame_of, graph_seen};
 ghost use Rattle.model_journal.specs.Journal as journal;
-ghost use Rattle.model_core.specs.Peer.{peer_of};
-ghost use Rattle.lasp_store.specs.Turn.{HadTurn, IsInTurn, HasEnded, frame_of, graph_seen};
 
 use crate::store::{Feed, Store};
 use lasp_core::Core;

@@ -1,17 +1,7 @@
 //! Reads of a store. They wait in its core, so that the entry that meets one releases it, whoever makes that.
 
 ghost use Rattle.std.specs.Prelude.{◌≡◌, ◌↔◌, ◌+◌, [], false, IfOk, IfSome, OnOk, IsTrue, is_some};
-ghost use Rattle.model_states.specs.Threshold.{suits, meets};
-ghost use Rattle.std.specs.Arc.{arc_value};
-ghost use Rattle.model_core.specs.Core.{is_met};
-ghost use Rattle.lasp_histlock.specs.Passes.{after_miss};
-ghost use Rattle.lasp_state.specs.Threshold.{threshold_of};
-ghost use Rattle.lasp_graph.specs.States.{held_of};
-ghost use Rattle.lasp_core.specs.Core.{IsOpen, state_after};
-ghost use Rattle.lasp_core.specs.Reads.{read_of};
-ghost use Rattle.lasp_core.specs.Watched.{IsBusy};
-ghost use Rattle.lasp_store.specs.Turn.{HadTurn, TriedTurn, IsInTurn, HasEnded, frame_of};
-ghost use Rattle.lasp_store.specs.Tried.{IfRefused};
+ghost use Rattle.lasp_store.specs.Prelude.{suits, meets, arc_value, is_met, after_miss, threshold_of, held_of, IsOpen, state_after, read_of, IsBusy, HadTurn, TriedTurn, IsInTurn, HasEnded, frame_of, IfRefused};
 
 use crate::store::{Hand, Store};
 use lasp_core::{Core, ReadNo, Try, reads_stay_open};

@@ -1,7 +1,7 @@
 //! A hand at its store, as workers and readers ask it.
 
 ghost use Rattle.std.specs.Prelude.{◌≡◌};
-ghost use Rattle.lasp_store.specs.Turn.{IsSeated};
+ghost use Rattle.lasp_store.specs.Prelude.{IsSeated};
 
 use crate::store::{Hand, Store};
 use lasp_core::{Jobs, ReadNo, Released, Try, Watched, reads_stay_open};

@@ -1,17 +1,8 @@
 //! Settling a store by its feed, whatever others do meanwhile.
 
 ghost use Rattle.std.specs.Prelude.{◌≡◌, ◌+◌, ◌<◌, [], false, length, IfErr, IfOk, IfSome, IfNone, OnOk};
-ghost use Rattle.model_graph.specs.Evaluation.{first_large};
-ghost use Rattle.model_readings.specs.Lawful.{FitsAll};
-ghost use Rattle.model_journal.specs.Journal.{graph, vals};
-ghost use Rattle.model_core.specs.Peer.{peer_of};
+ghost use Rattle.lasp_store.specs.Prelude.{first_large, FitsAll, graph, vals, peer_of, library_of, Bind, entry, IsDerived, IsJobOf, IsJobNow, IsResultOf, IsStill, IsInTurn, HasEnded, IsSeated, frame_of, graph_seen, evaluation, AreEvaluatedBelow, HasSettled, IsDone, Settles, TellsFirst, HasBound};
 ghost use Rattle.lasp_fns.specs.Steps as counted;
-ghost use Rattle.lasp_graph.specs.Library.{library_of};
-ghost use Rattle.model_journal.specs.Entry.{Bind, entry};
-ghost use Rattle.model_graph.specs.Lawful.{IsDerived};
-ghost use Rattle.lasp_replica.specs.Jobs.{IsJobOf, IsJobNow, IsResultOf};
-ghost use Rattle.lasp_store.specs.Turn.{IsStill, IsInTurn, HasEnded, IsSeated, frame_of, graph_seen};
-ghost use Rattle.lasp_store.specs.Settled.{evaluation, AreEvaluatedBelow, HasSettled, IsDone, Settles, TellsFirst, HasBound};
 
 use crate::store::{Feed, Store};
 use lasp_core::{Core, Settle, evaluated_jobs_have_results, variables_stay};

@@ -1,13 +1,8 @@
 //! A store and its passes.
 
 ghost use Rattle.std.specs.Prelude.{◌≡◌, ◌≢◌, ◌⊎◌, ◌<◌, ◌≤◌, ◌++◌, true, false, All, length, Some, IfOk, IfSome, IfNone, IsNone, IsOkAnd};
-ghost use Rattle.std.specs.Arc.{arc_value};
+ghost use Rattle.lasp_store.specs.Prelude.{arc_value, MayMake, made_by, added, SomeOut, first_pass, new_pass, after_look, after_split, after_rejoin, IsSeated, graph_seen};
 ghost use mathlib.Core.List.{IsPrefix};
-ghost use Rattle.model_journal.specs.Callers.{MayMake, made_by};
-ghost use Rattle.lasp_histlock.specs.History.{added};
-ghost use Rattle.lasp_histlock.specs.Steps.{SomeOut};
-ghost use Rattle.lasp_histlock.specs.Passes.{first_pass, new_pass, after_look, after_split, after_rejoin};
-ghost use Rattle.lasp_store.specs.Turn.{IsSeated, graph_seen};
 
 use lasp_core::Core;
 use lasp_graph::Graph;

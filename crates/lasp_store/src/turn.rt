@@ -1,8 +1,7 @@
 //! One turn: the core is taken out for one call, and given back with what the call added.
 
 ghost use Rattle.std.specs.Prelude.{◌≡◌, false, IfSome, IfNone};
-ghost use Rattle.lasp_histlock.specs.Passes.{after_miss};
-ghost use Rattle.lasp_store.specs.Turn.{HasBegun, HasTried, MayEnd, HasGiven};
+ghost use Rattle.lasp_store.specs.Prelude.{after_miss, HasBegun, HasTried, MayEnd, HasGiven};
 
 use crate::store::{Hand, Store};
 use lasp_core::Core;

@@ -1,9 +1,7 @@
 //! Lines of words on a sink. No memory is taken.
 
 ghost use Rattle.std.specs.Prelude.{◌≡◌, ◌≤◌, ◌∷◌, [], List, ℕ, map, ◌++◌, OnOk, OnErr};
-ghost use Rattle.model_values.specs.Faults.{Rose};
-ghost use Rattle.model_values.specs.Told.{Appends, AppendsPrefix};
-ghost use Rattle.model_world.specs.Line.{line, line_rest};
+ghost use Rattle.lasp_run.specs.Prelude.{Rose, Appends, AppendsPrefix, line, line_rest};
 
 use lasp_edge::{Failed, Sink};
 

@@ -1,7 +1,7 @@
 //! The status of each failure.
 
 ghost use Rattle.std.specs.Prelude.{◌≡◌};
-ghost use Rattle.model_program.specs.Line.{status_of, refusal_status};
+ghost use Rattle.lasp_run.specs.Prelude.{status_of, refusal_status};
 
 use model_program::{Failure, Refusal};
 

@@ -1,13 +1,7 @@
 //! The one line on `err`. No memory is taken, and a fault there changes no status.
 
 ghost use Rattle.std.specs.Prelude.{◌≡◌, ◌≤◌, ◌∷◌, [], map, codes, slice_index_or};
-ghost use Rattle.std.specs.Fmt.{decimal};
-ghost use Rattle.lasp_run.specs.Words.{words_of};
-ghost use Rattle.model_world.specs.Line.{line};
-ghost use Rattle.model_program.specs.Plan.{word_at};
-ghost use Rattle.model_program.specs.Line.{graph_why_text, script_why_text, wire_why_text, state_why_text, refusal_words, line_of};
-ghost use Rattle.model_program.specs.Ends.{Tells};
-ghost use Rattle.model_program.specs.Call.{writing_of};
+ghost use Rattle.lasp_run.specs.Prelude.{decimal, words_of, line, word_at, graph_why_text, script_why_text, wire_why_text, state_why_text, refusal_words, line_of, Tells, writing_of};
 
 use crate::ending::line::put_line;
 use itoa::Buffer;

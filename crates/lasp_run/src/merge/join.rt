@@ -1,15 +1,8 @@
 //! The message of a file, joined into the node that has those of the files before it.
 
 ghost use Rattle.std.specs.Prelude.{◌≡◌, ◌<◌, ◌+◌, Some, None, IfOk, length};
-ghost use Rattle.std.specs.Arc.{arc_value};
-ghost use Rattle.model_graph.specs.Chain.{refusing};
-ghost use Rattle.model_graph.specs.Graph.{name_at};
-ghost use Rattle.model_wire.specs.Lawful.{IsMessage};
-ghost use Rattle.model_wire.specs.Message.{decoded};
-ghost use Rattle.model_program.specs.Follows.{Gives};
-ghost use Rattle.model_program.specs.Merge.{state_refused, may_take, message_joined, file_joined};
+ghost use Rattle.lasp_run.specs.Prelude.{arc_value, refusing, name_at, IsMessage, decoded, Gives, state_refused, may_take, message_joined, file_joined, peer_by, IsReplica, IsRefusal};
 ghost use Rattle.model_program.specs.declared.refusal.Refusal.TheVariants as refusal;
-ghost use Rattle.lasp_run.specs.Merge.{peer_by, IsReplica, IsRefusal};
 
 use lasp_core::begins;
 use lasp_drive::{FreshNode, Node, NodeStop};

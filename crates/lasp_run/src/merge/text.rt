@@ -1,15 +1,7 @@
 //! What the variables show of all files.
 
 ghost use Rattle.std.specs.Prelude.{◌≡◌, ◌++◌, ◌∷◌, [], IfOk, OnOk, string_bytes, map};
-ghost use Rattle.std.specs.Fmt.{decimal};
-ghost use Rattle.model_world.specs.Line.{line};
-ghost use Rattle.model_world.specs.World.{shown_at};
-ghost use Rattle.model_readings.specs.Lawful.{FitsAll};
-ghost use Rattle.model_program.specs.Follows.{Gives};
-ghost use Rattle.model_program.specs.Merge.{value_lines, counts_line, merge_text, merge_answer};
-ghost use Rattle.lasp_graph.specs.Library.{library_of};
-ghost use Rattle.lasp_state.specs.State.{shown_state};
-ghost use Rattle.lasp_run.specs.Merge.{IsReplica};
+ghost use Rattle.lasp_run.specs.Prelude.{decimal, line, shown_at, FitsAll, Gives, value_lines, counts_line, merge_text, merge_answer, library_of, shown_state, IsReplica};
 
 use crate::merge::join::too_large;
 use lasp_drive::{Node, NodeStop, push_counts, push_state};
