@@ -11,6 +11,7 @@ use std::test::Fail;
 /// Some replicas, all messages that were sent, and who took which.
 #[derive(Drop)]
 struct World {
+    nodes: u8,
     replicas: Vec<Beside>,
     sent: Vec<Beside>,
     mail: Mail,
@@ -25,6 +26,7 @@ impl World {
             replicas.push(Beside::new(alloc, nodes)?)?;
         }
         Ok(World {
+            nodes,
             replicas,
             sent: Vec::new(alloc),
             mail: Mail::new(alloc),
@@ -33,12 +35,11 @@ impl World {
 
     /// Some replica adds, removes, sends or takes any message, and is then looked at, the only one that changed.
     fn step(&mut self, alloc: Global, dice: &mut Dice) -> Result<(), Wrong> {
-        let nodes = self.replicas.len() as u64;
-        if nodes == 0 {
+        if self.nodes == 0 {
             return Err(Wrong::NoNode);
         }
-        let node = (dice.roll(5) % nodes) as u8;
-        let p = node as usize;
+        let node = dice.roll(u64::from(self.nodes)) as u8;
+        let p = usize::from(node);
         if p >= self.replicas.len() {
             return Err(Wrong::NoNode);
         }
