@@ -1,11 +1,11 @@
 -- From an answer to its cause: over told contents each answer has one.
 use Rattle.std.proofs.Common.{refl, sym, ap, subst, ◌∙◌, arith}
 use Rattle.std.specs.Prelude.{◌≡◌, ◌<◌, ◌≤◌, ◌⊎◌, ℕ, zero, suc, ◌+◌, ◌-◌, ◌++◌, ◌&&◌, nat_lt, Bool, true, false, if◌then◌else◌, List, [], ◌∷◌, length, Option, Some, None, option_and_then, Result, Ok, Err}
-use Rattle.std.proofs.lemmas.Bool.{ltb-true, ltb-false, le-ltb, lt-ltb, and_parts}
+use Rattle.std.proofs.lemmas.Bool.{ltb-true, ltb-false, and_parts}
 use Rattle.std.proofs.lemmas.Option.{same_Some}
 use mathlib.Core.Logic.{inl, inr}
 use Rattle.model_functions.specs.Library.{Library}
-use Rattle.model_graph.specs.Chain.{◌>>=◌, check}
+use Rattle.model_graph.specs.Chain.{◌>>=◌}
 use Rattle.model_graph.specs.Evaluation.{first_large}
 use Rattle.model_graph.specs.Graph.{Decl, name_at}
 use Rattle.model_messages.specs.Message.{Message}
@@ -23,15 +23,15 @@ use Rattle.model_program.specs.Plan.{word_at, file_limit}
 use Rattle.model_program.specs.Program.{node_word}
 use Rattle.model_program.specs.Told.{IsFileTold}
 use Rattle.model_program.specs.declared.refusal.Refusal.TheVariants as shared
-use Rattle.model_site.specs.Cause.{IsFileRefused, file_long, HasCause, usage, graph_long, graph_bad, script_long, script_bad, no_such_node, not_local, state_refused, file_refused, update_refused, variable_large, written}
-use Rattle.model_site.specs.Plan.{Answer, Plan, Says, Reads, checked, given, within, reading, told_answer}
-use Rattle.model_site.specs.Program.{graph_file, state_file, script_file, first_file, site_of, graph_refused, script_refused, opening, scripting, local_refused, is_for, stating, filing, site_answer, filing_more, taking_in, scripted, plan_of, plan}
-use Rattle.model_site.specs.Site.{own, first_other, AreOwn, state_taken, file_taken, done_by, update_done, updates_done, shown_checked, large_refused}
-use Rattle.model_site.specs.Told.{IsGraphTold, IsScriptTold, IsOpened, IsSite, heard, IsTaken, AreTaken, nothing, state, more, IsBefore}
+use Rattle.model_site.specs.Cause.{file_long, HasCause, usage, graph_long, graph_bad, script_long, script_bad, no_such_node, not_local, state_refused, file_refused, update_refused, variable_large, written}
+use Rattle.model_site.specs.Plan.{Answer, Plan, Says, checked, given, within, reading, told_answer}
+use Rattle.model_site.specs.Program.{graph_file, state_file, script_file, first_file, site_of, graph_refused, script_refused, local_refused, is_for, site_answer, filing_more, taking_in, scripted, plan_of, plan}
+use Rattle.model_site.specs.Site.{own, first_other, state_taken, file_taken, done_by, updates_done, shown_checked, large_refused}
+use Rattle.model_site.specs.Told.{IsGraphTold, IsOpened, IsSite, heard, AreTaken, nothing, state, more}
 use Rattle.model_site.specs.declared.site_refusal.SiteRefusal.{SiteRefusal}
 use Rattle.model_site.specs.declared.site_refusal.SiteRefusal.TheVariants.{Shared, NotLocal}
-use Rattle.model_site.proofs.PlanLaws.{choice, within-short, within-long}
-use Rattle.model_site.proofs.SiteLaws.{own-is, none-other, some-other, check-refused, check-passed, large-found, large-passed, ok-same, file-refused, file-passed, AreRefused, updates-refused, update-refused}
+use Rattle.model_site.proofs.PlanLaws.{choice}
+use Rattle.model_site.proofs.SiteLaws.{own-is, none-other, some-other, check-refused, check-passed, file-refused, file-passed, AreRefused, updates-refused, update-refused}
 
 -- ---- one step of a plan
 
@@ -165,7 +165,7 @@ module _ (lib : Library) (content : List ℕ → Option (List ℕ)) (words : Lis
           subst Caused is (state_refused site (not-empty (b ∷ bytes) file.told (omega arith)) (file-refused content words p g state_file (fresh_peer g s.nodes) (b ∷ bytes) file e refused))
       go_on b bytes file (inr (next, passed, h)) =
           let it = file-passed content words p g state_file (fresh_peer g s.nodes) (b ∷ bytes) file next passed in
-          files-cause files first_file (it.0 ∷ []) a (state it.1) all (subst (λ (x : Peer). told content words (filing_more p g s first_file files x) ≡ Some a) it.2 h)
+          files-cause files first_file (it.0 ∷ []) a (state (not-empty (b ∷ bytes) file.told (omega arith)) it.1) all (subst (λ (x : Peer). told content words (filing_more p g s first_file files x) ≡ Some a) it.2 h)
 
       chosen : (bytes : List ℕ) → IsFileTold content words state_file bytes → told content words (given (state_taken p g state_file (fresh_peer g s.nodes) bytes) (λ r. filing_more p g s first_file files r)) ≡ Some a → Caused a
       chosen [] file h = files-cause files first_file [] a (nothing file) all h

@@ -3,13 +3,14 @@ use Rattle.std.proofs.Common.{refl, sym, ap, subst, ◌∙◌, arith}
 use Rattle.std.specs.Prelude.{◌≡◌, ◌<◌, ◌≤◌, ℕ, List, length, Option, Result, Ok, Err, if◌then◌else◌, Bool}
 use mathlib.Core.Logic.{inl, inr}
 use Rattle.std.proofs.lemmas.Bool.{le-ltb, lt-ltb}
+use Rattle.model_graph.specs.Chain.{refusing}
 use Rattle.model_values.specs.Faults.{Rose}
 use Rattle.model_values.specs.Told.{Sees}
 use Rattle.model_program.specs.Follows.{View, IsPartOf}
 use Rattle.model_program.specs.Plan.{file_limit, word_at}
 use Rattle.model_program.specs.declared.refusal.Refusal.TheVariants.{TooLong}
-use Rattle.model_site.specs.Follows.{Gives, Follows, Part, Passes, Stops, Performs}
-use Rattle.model_site.specs.Plan.{Plan, Says, Reads, given, within, reading}
+use Rattle.model_site.specs.Follows.{Fails, Gives, Follows, Part, Passes, Stops, Performs}
+use Rattle.model_site.specs.Plan.{Plan, Says, Reads, checked, given, within, reading}
 use Rattle.model_site.specs.declared.site_refusal.SiteRefusal.{SiteRefusal}
 use Rattle.model_site.specs.declared.site_refusal.SiteRefusal.TheVariants.{Shared}
 use Rattle.model_site.specs.declared.site_failure.SiteFailure.{SiteFailure}
@@ -29,6 +30,33 @@ part-of-part u v w h k = record {
   after = λ name. omega (arith, h.after name, k.after name);
 }
 
+rose-wider : (a b c d : ℕ) → a ≤ b → c ≤ d → Rose b c → Rose a d
+rose-wider a b c d h k rose = omega (arith, h, k, rose)
+
+-- what a part of a call followed, the call followed
+fails-wider : (words : List (List ℕ)) (v w : View) (f : ℕ) (r : Result (List ℕ) SiteFailure) → IsPartOf v w → Fails words v f r → Fails words w f r
+fails-wider words v w f (Ok bytes) part h = h
+fails-wider words v w f (Err (Refused e)) part h = h
+fails-wider words v w f (Err (ReadFault e)) part h =
+    (h.0, h.1, rose-wider (w.before (word_at words f)) (v.before (word_at words f)) (v.after (word_at words f)) (w.after (word_at words f)) (part.before (word_at words f)) (part.after (word_at words f)) h.2)
+fails-wider words v w f (Err Memory) part h = tt
+
+pub follows-wider : (words : List (List ℕ)) (v w : View) (p : Plan) (r : Result (List ℕ) SiteFailure) → IsPartOf v w → Follows words v p r → Follows words w p r
+unfolding Follows
+follows-wider words v w (Says answer) r part h = h
+follows-wider words v w (Reads f next) r part (inl fails) = inl (fails-wider words v w f r part fails)
+follows-wider words v w (Reads f next) r part (inr (bytes, sees, rest)) =
+    inr (bytes, subst (λ (told : Option (List ℕ)). Sees told bytes) (part.content (word_at words f)) sees, follows-wider words v w (next bytes) r part rest)
+
+-- a part was done by one call, and what comes after it by a later one, both within a third
+pub follows-then : {B : Type 0} (words : List (List ℕ)) (u v w : View) (part : Part B) (b : B) (next : B → Plan) (r : Result (List ℕ) SiteFailure) → IsPartOf u w → IsPartOf v w
+    → Passes words u part b → Follows words v (next b) r → Follows words w (part next) r
+follows-then words u v w part b next r early late passes rest = passes w early next r (follows-wider words v w (next b) r late rest)
+
+-- a part ended the call
+pub follows-stop : {B : Type 0} (words : List (List ℕ)) (v : View) (part : Part B) (next : B → Plan) (failure : SiteFailure) → Stops words v part failure → Follows words v (part next) (Err failure)
+follows-stop words v part next failure stops = stops v (part-itself v) next
+
 -- ---- one file
 
 -- memory may be wanting at any place
@@ -36,9 +64,6 @@ pub follows-memory : (words : List (List ℕ)) (v : View) (p : Plan) → Follows
 unfolding Follows
 follows-memory words v (Says answer) = tt
 follows-memory words v (Reads f next) = inl tt
-
-rose-wider : (a b c d : ℕ) → a ≤ b → c ≤ d → Rose b c → Rose a d
-rose-wider a b c d h k rose = omega (arith, h, k, rose)
 
 abbrev pub choice : ℕ → List ℕ → Bool → Result (List ℕ) SiteRefusal
 choice f bytes long = if long then Err (Shared (TooLong f)) else Ok bytes
@@ -104,3 +129,28 @@ performs-given shown words v f bytes reader (Ok a) passes gives = passes-given w
 performs-given shown words v f bytes reader (Err (Refused e)) passes gives = stops-given words v f bytes reader e passes gives
 performs-given shown words v f bytes reader (Err (ReadFault e)) passes gives = absurd gives
 performs-given shown words v f bytes reader (Err Memory) passes gives = stops-memory words v (λ (next : _ → Plan). reading f (λ read. given (reader read) next))
+
+-- after a read, the bytes are read as something, a refusal of which is said otherwise
+checked-given : {B E : Type 0} (refuse : E → SiteRefusal) (read : Result B E) (next : B → Plan) → checked refuse read next ≡ given (refusing refuse read) next
+checked-given refuse (Ok x) next = refl
+checked-given refuse (Err e) next = refl
+
+pub passes-checked : {B E : Type 0} (words : List (List ℕ)) (v : View) (f : ℕ) (bytes : List ℕ) (refuse : E → SiteRefusal) (reader : List ℕ → Result B E) (b : B)
+    → Passes words v (reading f) bytes → refusing refuse (reader bytes) ≡ Ok b → Passes words v (λ (next : B → Plan). reading f (λ read. checked refuse (reader read) next)) b
+passes-checked {B} words v f bytes refuse reader b passes e w part next r h =
+    passes w part (λ read. checked refuse (reader read) next) r
+    (subst (λ (p : Plan). Follows words w p r) (sym (checked-given refuse (reader bytes) next)) (subst (λ (read : Result B SiteRefusal). Follows words w (given read next) r) (sym e) h))
+
+pub stops-checked : {B E : Type 0} (words : List (List ℕ)) (v : View) (f : ℕ) (bytes : List ℕ) (refuse : E → SiteRefusal) (reader : List ℕ → Result B E) (e : SiteRefusal)
+    → Passes words v (reading f) bytes → refusing refuse (reader bytes) ≡ Err e → Stops words v (λ (next : B → Plan). reading f (λ read. checked refuse (reader read) next)) (Refused e)
+stops-checked {B} words v f bytes refuse reader e passes is w part next =
+    passes w part (λ read. checked refuse (reader read) next) (Err (Refused e))
+    (subst (λ (p : Plan). Follows words w p (Err (Refused e))) (sym (checked-given refuse (reader bytes) next))
+    (subst (λ (read : Result B SiteRefusal). Follows words w (given read next) (Err (Refused e))) (sym is) (follows-says words w (Err e) (Err (Refused e)) refl)))
+
+pub performs-checked : {A B E : Type 0} (shown : A → B) (words : List (List ℕ)) (v : View) (f : ℕ) (bytes : List ℕ) (refuse : E → SiteRefusal) (reader : List ℕ → Result B E) (result : Result A SiteFailure)
+    → Passes words v (reading f) bytes → Gives shown (refusing refuse (reader bytes)) result → Performs shown words v (λ (next : B → Plan). reading f (λ read. checked refuse (reader read) next)) result
+performs-checked shown words v f bytes refuse reader (Ok a) passes gives = passes-checked words v f bytes refuse reader (shown a) passes gives
+performs-checked shown words v f bytes refuse reader (Err (Refused e)) passes gives = stops-checked words v f bytes refuse reader e passes gives
+performs-checked shown words v f bytes refuse reader (Err (ReadFault e)) passes gives = absurd gives
+performs-checked shown words v f bytes refuse reader (Err Memory) passes gives = stops-memory words v (λ (next : _ → Plan). reading f (λ read. checked refuse (reader read) next))

@@ -1,7 +1,7 @@
 -- Which commands are a site's own, and how states and updates are refused.
 use Rattle.std.proofs.Common.{refl, sym, ap, subst, ◌∙◌, arith}
-use Rattle.std.specs.Prelude.{◌≡◌, ◌<◌, ◌≤◌, ◌⊎◌, ◌==◌, ◌++◌, ℕ, zero, suc, ◌+◌, Bool, true, false, nat_lt, nat_le, if◌then◌else◌, List, [], ◌∷◌, length, Option, Some, None, is_some, Result, Ok, Err}
-use Rattle.std.proofs.lemmas.Bool.{eqb-true, eq-eqb, ltb-true, ltb-false, leb-true, leb-false}
+use Rattle.std.specs.Prelude.{◌≡◌, ◌⊎◌, ◌==◌, ◌++◌, ℕ, suc, ◌+◌, Bool, true, false, nat_lt, nat_le, if◌then◌else◌, List, [], ◌∷◌, length, Option, Some, None, is_some, Result, Ok, Err}
+use Rattle.std.proofs.lemmas.Bool.{eqb-true, eq-eqb, ltb-true, ltb-false, leb-false}
 use mathlib.Core.Logic.{inl, inr}
 use Rattle.model_states.specs.Content.{size_of, row_limit}
 use Rattle.model_states.specs.Counts.{count_at}
@@ -16,7 +16,7 @@ use Rattle.model_world.specs.Command as command
 use Rattle.model_world.specs.Command.{Command}
 use Rattle.model_world.specs.World.{Peer, updated, delivered}
 use Rattle.model_program.specs.Merge.{may_take}
-use Rattle.model_program.specs.Told.{IsFileTold, IsOfGraph}
+use Rattle.model_program.specs.Told.{IsFileTold}
 use Rattle.model_program.specs.declared.refusal.Refusal.TheVariants as shared
 use Rattle.model_program.specs.declared.state_why.StateWhy.TheVariants.{WrongGraph}
 use Rattle.model_program.proofs.MergeLaws.{take-Decides}
@@ -24,7 +24,7 @@ use Rattle.model_site.specs.Cause.{IsFileRefused, no_message, wrong_graph, sourc
 use Rattle.model_site.specs.Site.{own_where, own, first_other, IsOwn, adds, removes, inserts, counts, raises, AreOwn, IsFirstOther, state_refused, large_refused, message_taken, file_taken, update_limit, update_done, done_by, updates_done}
 use Rattle.model_site.specs.Told.{IsTaken}
 use Rattle.model_site.specs.declared.site_refusal.SiteRefusal.{SiteRefusal}
-use Rattle.model_site.specs.declared.site_refusal.SiteRefusal.TheVariants.{Shared, NotLocal, FileTooLarge, UpdatesFull}
+use Rattle.model_site.specs.declared.site_refusal.SiteRefusal.TheVariants.{Shared, FileTooLarge, UpdatesFull}
 
 -- ---- a site's own commands
 

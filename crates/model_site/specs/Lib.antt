@@ -8,3 +8,4 @@ pub mod Told
 pub mod World
 pub mod Cause
 pub mod Call
+pub mod History

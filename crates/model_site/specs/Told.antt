@@ -54,7 +54,7 @@ pub record IsTaken (content : List ℕ → Option (List ℕ)) (words : List (Lis
 -- these are the messages of the state, unless it has no bytes, and of the files before file f, each taken in by the replica that took in those before it
 pub data AreTaken (content : List ℕ → Option (List ℕ)) (words : List (List ℕ)) (g : List Decl) (nodes : ℕ) : ℕ → List Message → Type 0 where
   nothing : IsFileTold content words state_file [] → AreTaken content words g nodes first_file []
-  state : {m : Message} → IsTaken content words g state_file (heard g nodes []) m → AreTaken content words g nodes first_file (m ∷ [])
+  state : {m : Message} → ¬ IsFileTold content words state_file [] → IsTaken content words g state_file (heard g nodes []) m → AreTaken content words g nodes first_file (m ∷ [])
   more : {f : ℕ} {ms : List Message} {m : Message} → AreTaken content words g nodes f ms → IsTaken content words g f (heard g nodes ms) m → AreTaken content words g nodes (f + 1) (ms ++ m ∷ [])
 
 -- replica p, which was so before the first of its commands, is so before this one, which has this number

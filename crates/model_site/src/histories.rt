@@ -1,0 +1,24 @@
+//! What who runs sites can rely on, whatever they exchange, however often and in whatever order. Each site goes on from its own last state, and no two share a number.
+
+ghost use Rattle.std.specs.Prelude.{◌≡◌, ◌<◌, ℕ, List};
+ghost use Rattle.model_states.specs.Counts.{count_at, AreCountsAtMost};
+ghost use Rattle.model_graph.specs.Graph.{Decl};
+ghost use Rattle.model_world.specs.World.{delivered, shown_at, sent_number};
+ghost use Rattle.model_site.specs.History.{SiteCall, Sites, AreCalled, updates_by, replica_of, told_by};
+
+/// Sites whose counts are equal hold the same and show the same, and so do two states with equal counts, whoever wrote them and when. No update is lost:
+/// a site counts each update that it made, and one that counts what a state counts has all that the state has, so that taking it in changes nothing.
+#[tactic(auto, using(crate::proofs::HistoryLaws::histories))]
+pub fn sites_agree_and_lose_nothing()
+    ensures sites { (g : List Decl) (nodes : ℕ) (calls : List SiteCall) (sites : Sites) → AreCalled g nodes calls sites → (p q : ℕ) → p < nodes → q < nodes
+        → (replica_of g nodes sites p).counts ≡ (replica_of g nodes sites q).counts → replica_of g nodes sites p ≡ replica_of g nodes sites q }
+    ensures shown { (g : List Decl) (nodes : ℕ) (calls : List SiteCall) (sites : Sites) → AreCalled g nodes calls sites → (p q : ℕ) → p < nodes → q < nodes
+        → (replica_of g nodes sites p).counts ≡ (replica_of g nodes sites q).counts → shown_at g (replica_of g nodes sites p) ≡ shown_at g (replica_of g nodes sites q) }
+    ensures states { (g : List Decl) (nodes : ℕ) (calls : List SiteCall) (sites : Sites) → AreCalled g nodes calls sites → (i j : ℕ)
+        → (sent_number sites.written i).counts ≡ (sent_number sites.written j).counts → told_by g nodes (sent_number sites.written i) ≡ told_by g nodes (sent_number sites.written j) }
+    ensures counted { (g : List Decl) (nodes : ℕ) (calls : List SiteCall) (sites : Sites) → AreCalled g nodes calls sites → (p : ℕ) → p < nodes
+        → count_at (replica_of g nodes sites p).counts p ≡ updates_by p calls }
+    ensures kept { (g : List Decl) (nodes : ℕ) (calls : List SiteCall) (sites : Sites) → AreCalled g nodes calls sites → (p i : ℕ) → p < nodes
+        → AreCountsAtMost (sent_number sites.written i).counts (replica_of g nodes sites p).counts
+        → delivered g (sent_number sites.written i) (replica_of g nodes sites p) ≡ replica_of g nodes sites p }
+{}
