@@ -1,11 +1,11 @@
 -- What a call leaves of a pass that may make every call of its tests.
-use Rattle.std.proofs.Common.{◌≡◌, ℕ, ◌≤◌, false, List, [], ◌∷◌, ◌++◌, length, Result, Ok, Err, sym, ap, subst, ◌∙◌, append-nil, arith}
-use Rattle.std.specs.Prelude.{OnOk, OnErr, IfOk}
+use Rattle.std.proofs.Common.{◌≡◌, ℕ, List, [], ◌∷◌, ◌++◌, length, Ok, Err, refl, sym, ap, subst, ◌∙◌, append-nil, arith}
+use Rattle.std.specs.Prelude.{Result, OnOk, OnErr, IfOk, IsOkAnd}
 use Rattle.model_graph.specs.Graph.{Decl}
-use Rattle.model_journal.specs.Entry.{Entry, Frame}
-use Rattle.model_journal.specs.Journal.{graph, declared}
+use Rattle.model_journal.specs.Entry.{Entry}
+use Rattle.model_journal.specs.Journal.{declared}
 use Rattle.lasp_histlock.specs.Names.{LockId}
-use Rattle.lasp_histlock.specs.Passes.{PassView, first_pass, new_pass, after_miss}
+use Rattle.lasp_histlock.specs.Passes.{first_pass, new_pass, after_miss, after_split}
 use Rattle.lasp_core.specs.Watched.{IsBusy}
 use Rattle.lasp_core.specs.declared.watched.Try.{Try}
 use Rattle.lasp_core.specs.declared.watched.Try.TheVariants.{Busy, Refused}
@@ -45,7 +45,7 @@ feed-same store g more old new own-old own-new is feed t =
 pub feed-done : {A E : Type 0} (store : LockId) (g : List Decl) (e : Entry) (old new : Knows) (r : Result A E) → KnowsOwn old → KnowsOwn new → declared (e ∷ []) ≡ [] → IsFeed store g old
     → OnOk r (HadTurn (e ∷ []) old new) → OnErr r (HadTurn [] old new) → IsFeed store g new
 feed-done store g e old new (Ok a) own-old own-new is feed ok err = feed-same store g (e ∷ []) old new own-old own-new is feed ok
-feed-done store g e old new (Err why) own-old own-new is feed ok err = feed-same store g [] old new own-old own-new (λ i. []) feed err
+feed-done store g e old new (Err why) own-old own-new is feed ok err = feed-same store g [] old new own-old own-new refl feed err
 
 feed-missed : (store : LockId) (g : List Decl) (old : Knows) → IsFeed store g old → IsFeed store g (after_miss old)
 feed-missed store g old feed = record {
@@ -59,7 +59,7 @@ pub feed-tried : {A E : Type 0} (store : LockId) (g : List Decl) (more : List En
     → (IsBusy r → new ≡ after_miss old) → OnOk r (TriedTurn more old new) → IfRefused r (λ why. TriedTurn [] old new) → IsFeed store g new
 feed-tried store g more old new (Ok a) own-old own-new is feed busy ok refused = feed-same store g more old new own-old own-new is feed ok.turn
 feed-tried store g more old new (Err Busy) own-old own-new is feed busy ok refused = subst (λ (p : Knows). IsFeed store g p) (sym (busy tt)) (feed-missed store g old feed)
-feed-tried store g more old new (Err (Refused why)) own-old own-new is feed busy ok refused = feed-same store g [] old new own-old own-new (λ i. []) feed refused.turn
+feed-tried store g more old new (Err (Refused why)) own-old own-new is feed busy ok refused = feed-same store g [] old new own-old own-new refl feed refused.turn
 
 -- ---- hands
 
@@ -78,11 +78,20 @@ hand_tried store many old new (Err Busy) hand busy ok refused = subst (λ (p : K
 })
 hand_tried store many old new (Err (Refused why)) hand busy ok refused = hand_turn store many [] old new hand refused.turn
 
--- the hand that is split from a feed
-pub hand_split : (store : LockId) (g : List Decl) (f : Knows) → IsFeed store g f → IsHand store (length g) (new_pass f)
-hand_split store g f feed = record {
-  seated = record { lock = feed.seated.lock; idle = λ i. false; framed = feed.seated.framed; legal = feed.seated.legal };
+-- ---- a hand that is split from a feed
+
+pub feed-split : (store : LockId) (g : List Decl) (old new : Knows) → new ≡ after_split old → IsFeed store g old → IsFeed store g new
+feed-split store g old new is feed = subst (λ (p : Knows). IsFeed store g p) (sym is) (record {
+  seated = record { lock = feed.seated.lock; idle = feed.seated.idle; framed = feed.seated.framed; legal = feed.seated.legal };
+  first = feed.first;
+  graph = feed.graph;
+})
+
+pub hand-split : {E : Type 0} (store : LockId) (g : List Decl) (f : Knows) (r : Result Knows E) → IsOkAnd r (λ hand. hand ≡ new_pass f) → IsFeed store g f → IfOk r (IsHand store (length g))
+hand-split store g f (Ok hand) is feed = subst (λ (p : Knows). IsHand store (length g) p) (sym is) (record {
+  seated = record { lock = feed.seated.lock; idle = refl; framed = feed.seated.framed; legal = feed.seated.legal };
   many_are = let long = ap (λ (ds : List Decl). length ds) feed.graph in omega (arith, long);
-}
+})
+hand-split store g f (Err why) is feed = absurd is
 
 pub ruleset hands = (hand_turn, hand_tried)

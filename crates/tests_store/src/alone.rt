@@ -4,8 +4,8 @@ ghost use Rattle.std.specs.Arc.{arc_value};
 ghost use Rattle.tests_store.specs.Kept.{IsFeed};
 
 use crate::desk::Desk;
-use crate::feeding::{Doing, graph_of, opened, update};
-use crate::working::asked_again;
+use crate::feeding::{Doing, graph_of, opened, split, update};
+use crate::working::asked;
 use crate::wrong::Wrong;
 use lasp_core::Settle;
 use lasp_fns::Library;
@@ -36,21 +36,18 @@ fn add_below<R: Wait>(
     Ok(())
 }
 
-/// How settling a product ends whose factors have so many rows: with so many entries, or with the variable that is too large. Then also whether a hand does a job, and which one is next.
+/// How settling a product ends whose factors have so many rows: with so many entries, or with the variable that is too large. Then also which variable's job a hand is asked to do.
 fn product_of<R: Wait>(
     rt: &R,
     alloc: Global,
     first: u32,
     second: u32,
-) -> Result<(Result<u64, u8>, (bool, Option<u8>)), Wrong> {
+) -> Result<(Result<u64, u8>, Option<u8>), Wrong> {
     let lib = Library::new(alloc);
     let text = r#"[["a","orset"],["b","orset"],["p","product","a","b"]]"#;
     let graph = graph_of(alloc, text, &lib)?;
-    if graph.len() < 3 {
-        return Err(Wrong);
-    }
     let (store, mut f) = opened(alloc, &graph, 0)?;
-    let hand = store.split_hand(&mut f)?;
+    let hand = split(&store, &mut f, &graph)?;
     add_below(rt, &store, &mut f, &graph, 0, first)?;
     add_below(rt, &store, &mut f, &graph, 1, second)?;
     let settled = match store.settle_all(rt, alloc, &mut f, &lib) {
@@ -58,15 +55,15 @@ fn product_of<R: Wait>(
         Err(Settle::TooLarge(var)) => Err(var),
         Err(Settle::Memory) => return Err(Wrong),
     };
-    Ok((settled, asked_again(rt, alloc, &store, hand, &lib)))
+    Ok((settled, asked(rt, &store, hand)))
 }
 
 #[test]
 fn a_product_is_settled_or_told_to_be_too_large(rt: HostRuntime) -> Result<(), Fail> {
     let small = product_of(&rt, rt.alloc(), 3, 4).map_err(|_| "a call was refused")?;
-    assert!(rt; small == (Ok(8), (false, None)));
+    assert!(rt; small == (Ok(8), None));
     let large = product_of(&rt, rt.alloc(), 257, 256).map_err(|_| "a call was refused")?;
-    assert!(rt; large == (Err(2), (false, Some(2))));
+    assert!(rt; large == (Err(2), Some(2)));
     Ok(())
 }
 

@@ -4,7 +4,8 @@ ghost use Rattle.std.specs.Prelude.{◌<◌};
 
 use crate::asking::{check, close, look, open, poll, try_look, try_poll};
 use crate::feeding::{
-    Doing, deliver, graph_of, mark, message, opened, try_deliver, try_mark, try_update, update,
+    Doing, deliver, graph_of, mark, message, opened, split, try_deliver, try_mark, try_update,
+    update,
 };
 use crate::wrong::Wrong;
 use lasp_core::{ReadNo, Released, Try};
@@ -49,7 +50,7 @@ impl Desk {
     {
         let graph = graph_of(alloc, text, lib)?;
         let (store, mut feed) = opened(alloc, &graph, me)?;
-        let hand = store.split_hand(&mut feed)?;
+        let hand = split(&store, &mut feed, &graph)?;
         Ok(Desk {
             store,
             feed,

@@ -8,14 +8,14 @@ ghost use Rattle.model_readings.specs.Lawful.{FitsAll, IsNext};
 ghost use Rattle.lasp_graph.specs.Decl.{decl_of};
 ghost use Rattle.lasp_graph.specs.Library.{library_of};
 ghost use Rattle.lasp_replica.specs.Replica.{IsSmall};
-ghost use Rattle.tests_store.specs.Kept.{IsFeed};
+ghost use Rattle.tests_store.specs.Kept.{IsFeed, IsHand};
 
 use crate::wrong::Wrong;
 use lasp_core::{DeliverRefused, Released, Try, UpdateRefused};
 use lasp_fns::Library;
 use lasp_graph::{Decl, DeclRefused, Graph, read_decl, read_graph};
 use lasp_state::{Op, State};
-use lasp_store::{Feed, Store};
+use lasp_store::{Feed, Hand, Store};
 use lasp_value::Value;
 use lasp_wire::Message;
 use model_readings::read_declarations_are_lawful;
@@ -61,6 +61,18 @@ pub fn opened(alloc: Global, graph: &Arc<Graph>, me: u8) -> Result<(Store, Feed)
     Store::new(alloc, share, me, 2)
 }
 
+/// A hand that has seen the graph that the feed has.
+pub fn split(store: &Store, f: &mut Feed, graph: &Arc<Graph>) -> Result<Hand, AllocError>
+    requires feed { IsFeed store.now (arc_value graph.now) f.old }
+    ensures feed { IsFeed store.now (arc_value graph.now) f.new }
+    ensures hand { IfOk result (IsHand store.now (length (arc_value graph.now))) }
+{
+    if f.made() >= 1000 {
+        return Err(AllocError);
+    }
+    store.split_hand(f)
+}
+
 /// An update.
 pub fn update<R: Wait>(
     rt: &R,
@@ -74,9 +86,9 @@ pub fn update<R: Wait>(
     requires { IsFeed store.now (arc_value graph.now) f.old }
     ensures { IsFeed store.now (arc_value graph.now) f.new }
 {
-    let op = doing.op(n);
+    let act = doing.op(n);
     f.known();
-    let updated = store.update(rt, f, var, &op);
+    let updated = store.update(rt, f, var, &act);
     f.known();
     updated
 }
@@ -93,9 +105,9 @@ pub fn try_update(
     requires { IsFeed store.now (arc_value graph.now) f.old }
     ensures { IsFeed store.now (arc_value graph.now) f.new }
 {
-    let op = doing.op(n);
+    let act = doing.op(n);
     f.known();
-    let updated = store.try_update(f, var, &op);
+    let updated = store.try_update(f, var, &act);
     f.known();
     updated
 }
@@ -242,5 +254,26 @@ pub fn declare<R: Wait>(
     match extend(rt, store, f, graph, &decl, &longer) {
         Ok(()) => Ok(longer),
         Err(error) => Err(Wrong::from(error)),
+    }
+}
+
+/// Settles a store, where the functions of its graph are those of the library.
+pub fn settle<R: Wait>(
+    rt: &R,
+    alloc: Global,
+    store: &Store,
+    f: &mut Feed,
+    graph: &Arc<Graph>,
+    lib: &Library,
+) -> Result<(), Wrong>
+    requires { IsFeed store.now (arc_value graph.now) f.old }
+    ensures { OnOk result ((f.new.lock ≡ store.now) × (f.new.number ≡ 0)) }
+{
+    if !graph.fits(lib) {
+        return Err(Wrong);
+    }
+    match store.settle_all(rt, alloc, f, lib) {
+        Ok(_) => Ok(()),
+        Err(why) => Err(Wrong::from(why)),
     }
 }

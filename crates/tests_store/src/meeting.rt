@@ -1,19 +1,18 @@
 //! A stored function that stays in its call until another thread has used the store.
 
-ghost use Rattle.std.specs.Prelude.{◌<◌};
+ghost use Rattle.std.specs.Prelude.{◌<◌, length};
 ghost use Rattle.std.specs.Arc.{arc_value};
-ghost use Rattle.model_readings.specs.Lawful.{FitsAll};
 ghost use Rattle.model_values.specs.Size.{IsSized};
 ghost use Rattle.lasp_value.specs.Value.{val_of};
 ghost use Rattle.lasp_fns.specs.Answers.{Answers};
-ghost use Rattle.lasp_graph.specs.Library.{library_of};
 ghost use Rattle.tests_store.specs.Kept.{IsFeed, IsHand};
 
-use crate::feeding::{Doing, graph_of, opened, update};
+use crate::asking::try_look;
+use crate::feeding::{Doing, graph_of, opened, settle, split, update};
 use crate::wrong::Wrong;
 use lasp_fns::{Library, MapOp, MapOps, StoredMap, apply_map};
 use lasp_graph::Graph;
-use lasp_store::{Feed, Hand, Store, turns_go_on};
+use lasp_store::{Feed, Hand, Store};
 use lasp_value::Value;
 use std::alloc::{AllocError, Global};
 use std::sync::atomic::{AtomicBool, Ordering};
@@ -74,12 +73,12 @@ fn waiting_abs(alloc: Global, meeting: &Arc<Meeting>) -> Result<StoredMap, Alloc
 }
 
 /// Looks at a variable once the function is in its call, as soon as the store isn't busy.
-fn look_meanwhile(store: &Store, h: &mut Hand, meeting: &Meeting)
-    requires { IsHand store.now 1 h.old }
+fn look_meanwhile(store: &Store, h: &mut Hand, many: u64, meeting: &Meeting)
+    requires hand { IsHand store.now many h.old }
+    requires some { 0 < many }
 {
-    turns_go_on();
     for _ in 0..MOST {
-        if meeting.is_inside.load(Ordering::SeqCst) && store.try_look(h, 0).is_ok() {
+        if meeting.is_inside.load(Ordering::SeqCst) && try_look(store, h, 0, many).is_ok() {
             meeting.is_served.store(true, Ordering::SeqCst);
             return;
         }
@@ -87,7 +86,7 @@ fn look_meanwhile(store: &Store, h: &mut Hand, meeting: &Meeting)
     }
 }
 
-/// Settles a store while a hand looks at it.
+/// Settles a store while a hand looks at it, and tells whether it was settled.
 fn settle_beside<R: Threads + Wait + Sync>(
     rt: &R,
     alloc: Global,
@@ -99,13 +98,16 @@ fn settle_beside<R: Threads + Wait + Sync>(
     meeting: &Meeting,
 ) -> bool
     requires feed { IsFeed store.now (arc_value graph.now) f }
-    requires hand { IsHand store.now 1 hand }
-    requires fits { FitsAll (library_of lib.now) (arc_value graph.now) }
+    requires hand { IsHand store.now (length (arc_value graph.now)) hand }
 {
+    let many = graph.len();
+    if many == 0 {
+        return false;
+    }
     let (is_settled, _) = join(
         rt,
-        move || store.settle_all(rt, alloc, &mut f, lib).is_ok(),
-        move || look_meanwhile(store, &mut hand, meeting),
+        move || settle(rt, alloc, store, &mut f, graph, lib).is_ok(),
+        move || look_meanwhile(store, &mut hand, many, meeting),
     );
     is_settled
 }
@@ -116,12 +118,9 @@ fn is_served<R: Threads + Wait + Sync>(rt: &R, alloc: Global) -> Result<bool, Wr
     let mut lib = Library::new(alloc);
     lib.add_map("abs", waiting_abs(alloc, &meeting)?)?;
     let graph = graph_of(alloc, r#"[["a","orset"],["m","map","a","abs"]]"#, &lib)?;
-    if graph.len() == 0 {
-        return Err(Wrong);
-    }
     let (store, mut f) = opened(alloc, &graph, 0)?;
     update(rt, &store, &mut f, &graph, 0, Doing::Add, 5)?;
-    let hand = store.split_hand(&mut f)?;
+    let hand = split(&store, &mut f, &graph)?;
     let is_settled = settle_beside(rt, alloc, &store, f, hand, &graph, &lib, &meeting);
     Ok(is_settled && meeting.was_served.load(Ordering::SeqCst))
 }

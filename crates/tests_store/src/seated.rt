@@ -1,6 +1,6 @@
 //! A hand at its store, as workers and readers ask it, which know it by a trait alone.
 
-ghost use Rattle.std.specs.Prelude.{◌≡◌, ◌<◌, Some, IfOk};
+ghost use Rattle.std.specs.Prelude.{◌≡◌, length, ◌<◌, Some, IfOk};
 ghost use Rattle.std.specs.Arc.{arc_value};
 ghost use Rattle.lasp_core.specs.Core.{IsOpen};
 ghost use Rattle.lasp_core.specs.Reads.{read_of};
@@ -8,7 +8,7 @@ ghost use Rattle.lasp_store.specs.Turn.{frame_of};
 ghost use Rattle.tests_store.specs.Kept.{IsFeed, IsHand};
 
 use crate::asking::open;
-use crate::feeding::{Doing, graph_of, opened, update};
+use crate::feeding::{Doing, graph_of, opened, split, update};
 use crate::wrong::Wrong;
 use lasp_core::{ReadNo, Watched};
 use lasp_fns::Library;
@@ -48,7 +48,7 @@ fn read_twice<'a, R: Wait>(
     read: &ReadNo,
 ) -> Result<(Option<String>, Option<String>, Hand), Wrong>
     requires feed { IsFeed store.now (arc_value graph.now) f.old }
-    requires hand { IsHand store.now 1 hand }
+    requires hand { IsHand store.now (length (arc_value graph.now)) hand }
     requires open { IsOpen (frame_of hand) hand.seen (read_of read.now) }
     ensures feed { IsFeed store.now (arc_value graph.now) f.new }
     ensures hand { IfOk result (λ told. told.2.lock ≡ store.now) }
@@ -65,12 +65,13 @@ fn read_twice<'a, R: Wait>(
 /// Whether a hand that was lent to readers comes back, and they found the state once it was met.
 fn is_lent<R: Wait>(rt: &R, alloc: Global) -> Result<bool, Wrong> {
     let graph = graph_of(alloc, r#"[["c","counter"]]"#, &Library::new(alloc))?;
-    if graph.len() == 0 {
+    let many = graph.len();
+    if many == 0 {
         return Err(Wrong);
     }
     let (store, mut f) = opened(alloc, &graph, 0)?;
-    let mut hand = store.split_hand(&mut f)?;
-    let read = open(rt, &store, &mut hand, 0, 1, 5)?;
+    let mut hand = split(&store, &mut f, &graph)?;
+    let read = open(rt, &store, &mut hand, 0, many, 5)?;
     let (before, after, hand) = read_twice(rt, alloc, &store, &mut f, &graph, hand, &read)?;
     store.rejoin(&mut f, hand);
     let is_seven = after.is_some_and(|told| told.as_str() == "7");

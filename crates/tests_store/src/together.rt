@@ -6,8 +6,8 @@ ghost use Rattle.lasp_store.specs.Turn.{IsSeated};
 ghost use Rattle.tests_store.specs.Kept.{IsFeed};
 
 use crate::ended::{Fed, entries_of, is_evaluated};
-use crate::feeding::{Doing, declare, deliver, graph_of, message, opened, update};
-use crate::working::{Worked, work};
+use crate::feeding::{Doing, declare, deliver, graph_of, message, opened, settle, split, update};
+use crate::working::{Worked, leave, work};
 use crate::wrong::Wrong;
 use lasp_core::Core;
 use lasp_fns::Library;
@@ -101,44 +101,83 @@ fn message_of<R: Wait>(rt: &R, alloc: Global, graph: &Arc<Graph>) -> Result<Arc<
     Ok(Arc::new(alloc, message(rt, alloc, &store, &mut f, graph)?)?)
 }
 
-/// What the feed and the hands come to, each in a thread of its own.
+/// What two hands come to, each in a thread of its own.
+fn both<R: Threads + Wait + Sync>(
+    rt: &R,
+    alloc: Global,
+    store: &Store,
+    one: Hand,
+    other: Hand,
+    lib: &Library,
+    done: &AtomicU64,
+    jobs: u64,
+    stays: bool,
+) -> (Worked, Worked)
+    requires one { IsSeated store.now one }
+    requires other { IsSeated store.now other }
+    ensures one { IfSome result.0.hand (λ h. h.lock ≡ store.now) }
+    ensures other { IfSome result.1.hand (λ h. h.lock ≡ store.now) }
+{
+    if stays {
+        join(
+            rt,
+            move || work(rt, alloc, store, one, lib, done, jobs),
+            move || work(rt, alloc, store, other, lib, done, jobs),
+        )
+    } else {
+        join(
+            rt,
+            move || leave(rt, alloc, store, one, lib, done, jobs),
+            move || leave(rt, alloc, store, other, lib, done, jobs),
+        )
+    }
+}
+
+/// What the feed and the hands come to, the feed in a thread of its own.
 fn together<R: Threads + Wait + Sync>(
     rt: &R,
     alloc: Global,
     store: &Store,
     f: Feed,
-    hands: (Hand, Hand),
+    one: Hand,
+    other: Hand,
     graph: &Arc<Graph>,
     message: &Arc<Message>,
     lib: &Library,
-    jobs: u64,
+    jobs: u32,
     stays: bool,
 ) -> (Result<(Feed, Fed, Arc<Graph>), Wrong>, (Worked, Worked))
     requires feed { IsFeed store.now (arc_value graph.now) f }
-    requires one { IsSeated store.now hands.0 }
-    requires other { IsSeated store.now hands.1 }
+    requires one { IsSeated store.now one }
+    requires other { IsSeated store.now other }
     ensures feed { IfOk result.0 (λ fed. IsFeed store.now (arc_value fed.2) fed.0) }
     ensures one { IfSome result.1.0.hand (λ h. h.lock ≡ store.now) }
     ensures other { IfSome result.1.1.hand (λ h. h.lock ≡ store.now) }
 {
-    let (one, other) = hands;
     let done = AtomicU64::new(0);
     let count = &done;
+    let each = u64::from(jobs);
+    let all = 2 * each;
     join(
         rt,
-        move || feed_all(rt, alloc, store, f, graph, message, lib, count, 2 * jobs),
-        move || {
-            join(
-                rt,
-                move || work(rt, alloc, store, one, lib, count, jobs, stays),
-                move || work(rt, alloc, store, other, lib, count, jobs, stays),
-            )
-        },
+        move || feed_all(rt, alloc, store, f, graph, message, lib, count, all),
+        move || both(rt, alloc, store, one, other, lib, count, each, stays),
     )
 }
 
+/// Takes a hand back into a feed, where there is one.
+fn rejoin(store: &Store, f: &mut Feed, hand: Option<Hand>)
+    requires feed { (f.old.lock ≡ store.now) × (f.old.number ≡ 0) }
+    requires hand { IfSome hand (λ h. h.lock ≡ store.now) }
+    ensures { (f.new.lock ≡ store.now) × (f.new.number ≡ 0) }
+{
+    if let Some(hand) = hand {
+        store.rejoin(f, hand);
+    }
+}
+
 /// The core of a store that was settled, to which the hands came back that are left.
-fn settled<R: Wait>(
+fn closed<R: Wait>(
     rt: &R,
     alloc: Global,
     store: Store,
@@ -152,39 +191,37 @@ fn settled<R: Wait>(
     requires one { IfSome one (λ h. h.lock ≡ store) }
     requires other { IfSome other (λ h. h.lock ≡ store) }
 {
-    if !graph.fits(lib) {
-        return Err(Wrong);
+    settle(rt, alloc, &store, &mut f, graph, lib)?;
+    rejoin(&store, &mut f, one);
+    rejoin(&store, &mut f, other);
+    match store.close(f) {
+        Some(core) => Ok(core),
+        None => Err(Wrong),
     }
-    store.settle_all(rt, alloc, &mut f, lib)?;
-    if let Some(hand) = one {
-        store.rejoin(&mut f, hand);
-    }
-    if let Some(hand) = other {
-        store.rejoin(&mut f, hand);
-    }
-    store.close(f).ok_or(Wrong)
 }
 
 /// Whether a store on which two hands did so many jobs each while its feed went on is as plain evaluation has it, and its entries are lawful.
 fn is_as_evaluated<R: Threads + Wait + Sync>(
     rt: &R,
     alloc: Global,
-    jobs: u64,
+    jobs: u32,
     stays: bool,
 ) -> Result<bool, Wrong> {
     let lib = Library::new(alloc);
     let graph = graph_of(alloc, OPENING, &lib)?;
     let message = message_of(rt, alloc, &graph)?;
     let (store, mut f) = opened(alloc, &graph, 0)?;
-    let hands = (store.split_hand(&mut f)?, store.split_hand(&mut f)?);
+    let one = split(&store, &mut f, &graph)?;
+    let other = split(&store, &mut f, &graph)?;
     let (fed, (one, other)) = together(
-        rt, alloc, &store, f, hands, &graph, &message, &lib, jobs, stays,
+        rt, alloc, &store, f, one, other, &graph, &message, &lib, jobs, stays,
     );
     let (f, fed, longer) = fed?;
     let each = (one.jobs, other.jobs);
-    let core = settled(rt, alloc, store, f, &longer, one.hand, other.hand, &lib)?;
-    let results = entries_of(&core, fed);
-    Ok(each == (jobs, jobs) && results == Some(each) && is_evaluated(alloc, &core, &lib)?)
+    let core = closed(rt, alloc, store, f, &longer, one.hand, other.hand, &lib)?;
+    let is_lawful = entries_of(&core, fed) == Some(each);
+    let jobs = u64::from(jobs);
+    Ok(each == (jobs, jobs) && is_lawful && is_evaluated(alloc, &core, &lib)?)
 }
 
 #[test]

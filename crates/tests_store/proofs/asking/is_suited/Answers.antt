@@ -1,8 +1,8 @@
-use Rattle.std.proofs.Common.{◌≡◌, ◌<◌, ◌≤◌, ℕ, length, IsTrue, sym, ap, subst, arith}
+use Rattle.std.proofs.Common.{IsTrue, ap, subst, ◌∙◌, arith}
 use Rattle.model_states.specs.Threshold.{Shape, suits}
 use Rattle.lasp_state.specs.Threshold.{threshold_of}
+use Rattle.lasp_state.specs.State.{shape_of}
 use Rattle.lasp_graph.specs.States.{Held}
-use Rattle.lasp_store.specs.Turn.{frame_of}
 use Rattle.tests_store.proofs.Passes.{hand_turn}
 use Rattle.tests_store.proofs.asking.is_suited.Goals as goal
 
@@ -12,5 +12,5 @@ returns-in-Ok-clause-open g c is =
     let hand = hand_turn c.args.store.now c.args.many _ c.args.h.now new c.requires.hand c.look.ensures.turn in
     record {
       declared = let low = c.requires.var in let many = hand.many_are in omega (arith, low, many);
-      suits_it = subst (λ (s : Shape). IsTrue (suits (threshold_of c.args.threshold.now) s)) (ap (λ (k : Held). k.shape) c.in-Ok.ensures.state) (subst IsTrue c.suits.ensures is);
+      suits_it = subst (λ (s : Shape). IsTrue (suits (threshold_of c.args.threshold.now) s)) (ap shape_of c.deref.ensures ∙ ap (λ (k : Held). k.shape) c.in-Ok.ensures.state) (subst IsTrue c.suits.ensures is);
     }

@@ -8,6 +8,6 @@ use Rattle.tests_store.proofs.feeding.try_update.Goals as goal
 
 pub returns : goal.returns
 returns c =
-    feed-tried c.args.store.now (arc_value c.args.graph.now) (entry 0 (model.Update c.args.var (op_of c.op.result)) ∷ []) c.args.f.now c.try_update-updated.new.f c.try_update-updated.result
+    feed-tried c.args.store.now (arc_value c.args.graph.now) (entry 0 (model.Update c.args.var (op_of c.op-act.result)) ∷ []) c.args.f.now c.try_update-updated.new.f c.try_update-updated.result
     (record { own = c.known.ensures.own; allowed = c.known.ensures.allowed }) (record { own = c.known-2.ensures.own; allowed = c.known-2.ensures.allowed }) refl c.requires
     c.try_update-updated.ensures.busy c.try_update-updated.ensures.ok c.try_update-updated.ensures.refused
