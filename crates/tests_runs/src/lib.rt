@@ -1,9 +1,7 @@
-//! Tests of what a run leaves behind, which the program drops, of what errors say, and of what threads may share.
+//! Tests of what a run leaves behind, which the program drops, and of what errors say.
 #![tactic(auto)]
 
 #[cfg(test)]
 mod errors;
 #[cfg(test)]
 mod nodes;
-#[cfg(test)]
-mod threads;
