@@ -6,3 +6,5 @@ pub mod MarkLaws
 pub mod Behind
 pub mod May
 pub mod Accepted
+pub mod UsualLaws
+pub mod UsualWords

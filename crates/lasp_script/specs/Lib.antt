@@ -8,3 +8,4 @@ pub mod Updated
 pub mod Marks
 pub mod Progress
 pub mod Answers
+pub mod Usual

@@ -12,12 +12,14 @@ mod marks;
 mod part;
 mod payload;
 mod place;
+mod placed;
 mod progress;
 mod read;
 mod refused;
 mod script;
 mod step;
 mod update;
+mod usual;
 mod word;
 
 pub use command::{Command, Until};

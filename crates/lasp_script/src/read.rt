@@ -1,6 +1,7 @@
 //! Reading a script: the tree of its bytes, the number of nodes, then command after command against the graph so far.
 
-ghost use Rattle.std.specs.Prelude.{◌≡◌, [], ◌∷◌, map, IfOk};
+ghost use Rattle.std.specs.Prelude.{◌≡◌, [], ◌∷◌, Some, map, IfOk};
+ghost use Rattle.serde_json.specs.Data.{Data};
 ghost use Rattle.serde_json.specs.View.{view};
 ghost use Rattle.model_readings.specs.Lawful.{IsGraph, FitsAll};
 ghost use Rattle.model_world.specs.Lawful.{IsLawful, IsWithinLimits};
@@ -8,13 +9,16 @@ ghost use Rattle.model_scripts.specs.Progress.{opening, grown};
 ghost use Rattle.model_scripts.specs.Script.{next_read, commands_read, parts_read, tree_read, script_of};
 ghost use Rattle.lasp_graph.specs.Library.{library_of};
 ghost use Rattle.lasp_script.specs.Progress.{progress_over};
+ghost use Rattle.model_scripts.specs.Word.{word_of};
+ghost use Rattle.lasp_script.specs.Word.{word_view};
 ghost use Rattle.lasp_script.specs.Answers.{Answers, Gives};
 
 use super::progress::Progress;
 use super::refused::{CommandRefused, ScriptRefused};
 use super::script::Script;
 use super::step::read_command;
-use super::word::{nodes_of, word_of};
+use super::usual::usual_script;
+use super::word::{Word, nodes_of, word_of};
 use lasp_fns::Library;
 use lasp_graph::Graph;
 use model_scripts::ScriptWhy;
@@ -38,13 +42,24 @@ pub fn read_script(
     read_bytes(alloc, bytes, g, lib)
 }
 
-#[tactic(auto, using(crate::proofs::Bytes::trees))]
+/// Reads a script straight from its bytes where they are in usual spellings, and else by the tree.
 fn read_bytes(
     alloc: Global,
     bytes: &[u8],
     g: &Graph,
     lib: &Library,
 ) -> Result<Script, ScriptRefused>
+    ensures { Gives (λ s. s) result (script_of (library_of lib.now) g.now bytes.now) }
+{
+    match usual_script(alloc, bytes, g, lib) {
+        Some(script) => Ok(script),
+        None => read_json(alloc, bytes, g, lib),
+    }
+}
+
+/// Reads a script by the tree of its bytes.
+#[tactic(auto, using(crate::proofs::Bytes::trees))]
+fn read_json(alloc: Global, bytes: &[u8], g: &Graph, lib: &Library) -> Result<Script, ScriptRefused>
     ensures { Gives (λ s. s) result (script_of (library_of lib.now) g.now bytes.now) }
 {
     match Json::from_slice(alloc, bytes) {
@@ -130,7 +145,7 @@ fn read_commands(
 }
 
 /// Reads one command behind those before it.
-fn read_next(
+pub(crate) fn read_next(
     alloc: Global,
     j: &Json,
     g: &Graph,
@@ -143,7 +158,21 @@ fn read_next(
     let Some(word) = word_of(j) else {
         return Err(CommandRefused::Because(ScriptWhy::Shape));
     };
-    match read_command(alloc, &word, g, lib, nodes, &before) {
+    read_behind(alloc, &word, g, lib, nodes, before)
+}
+
+/// Reads the command that a word is behind those before it.
+pub(crate) fn read_behind(
+    alloc: Global,
+    word: &Word,
+    g: &Graph,
+    lib: &Library,
+    nodes: u8,
+    before: Progress,
+) -> Result<Progress, CommandRefused>
+    ensures { (d : Data) → word_of d ≡ Some (word_view word.now) → Answers (λ p. progress_over g.now p) result (next_read (library_of lib.now) nodes (progress_over g.now before) d) }
+{
+    match read_command(alloc, word, g, lib, nodes, &before) {
         Ok(command) => Ok(before.with(alloc, command, word.new_mark(), g, nodes)?),
         Err(refused) => Err(refused),
     }

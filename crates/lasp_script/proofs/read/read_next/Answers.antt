@@ -1,29 +1,11 @@
-use Rattle.std.proofs.Common.{◌≡◌, ◌∙◌, sym, ap, subst, length, List, ℕ, Option, Some, option_map, Ok}
+use Rattle.std.proofs.Common.{◌∙◌, sym, ap, option_map}
 use Rattle.serde_json.specs.View.{view}
-use Rattle.model_world.specs.Lawful.{is_mark}
-use Rattle.model_scripts.specs.Word.{Word, word_of}
-use Rattle.model_scripts.specs.Progress.{Progress}
 use Rattle.lasp_graph.specs.Library.{library_of}
-use Rattle.lasp_script.specs.Command.{command_of}
 use Rattle.lasp_script.specs.Word.{word_view}
-use Rattle.lasp_script.specs.Progress.{Left, count_among, progress_over, behind}
+use Rattle.lasp_script.specs.Progress.{progress_over}
 use Rattle.lasp_script.proofs.Table.{next-formless}
-use Rattle.lasp_script.proofs.May.{next-behind, next_refused}
 use Rattle.lasp_script.proofs.read.read_next.Goals as goal
 
 pub returns-in_default : goal.returns-in_default
 returns-in_default g c =
     next-formless (library_of c.args.lib.now) c.args.nodes (progress_over c.args.g.now c.args.before) (view c.args.j.now) (sym c.word_of.ensures ∙ ap (option_map word_view) c.in_default.is)
-
-pub returns-in_ok-with-in-Ok : goal.returns-in_ok-with-in-Ok
-returns-in_ok-with-in-Ok g c =
-    let w : Word = word_view c.in-Some.word in
-    let form : word_of (view c.args.j.now) ≡ Some w = sym c.in-Some.ensures in
-    let counted : length c.args.before.marks ≡ count_among is_mark c.args.before.commands = subst (λ (l : Left). length l.marks ≡ count_among is_mark l.commands) c.before-2.view_is c.before-2.invariant.marked in
-    let p : Progress = progress_over c.args.g.now c.args.before in
-    next-behind (library_of c.args.lib.now) c.args.nodes c.args.g.now c.args.before counted (view c.args.j.now) w (command_of c.in-Ok.command) form c.in-Ok.ensures.exact
-    ∙ ap (λ (q : Progress). Ok q) (ap (λ (name : Option (List ℕ)). behind c.args.nodes p (command_of c.in-Ok.command) name) (sym c.new_mark.ensures) ∙ sym c.in_ok-with-in-Ok.ensures)
-
-pub returns-in-Err : goal.returns-in-Err
-returns-in-Err g c =
-    next_refused (library_of c.args.lib.now) c.args.nodes (progress_over c.args.g.now c.args.before) (view c.args.j.now) (word_view c.in-Some.word) c.in-Err.refused (sym c.in-Some.ensures) c.in-Err.ensures.exact
