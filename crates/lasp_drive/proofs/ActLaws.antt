@@ -14,7 +14,7 @@ use Rattle.model_runs.proofs.MatchLaws.{append-nothing}
 use Rattle.model_runs.proofs.SoundLaws.{sound-later}
 use Rattle.lasp_drive.specs.Node.{NodeView}
 use Rattle.lasp_drive.specs.Nodes.{calls_of}
-use Rattle.lasp_drive.specs.Waiting.{GoOnByReads}
+use Rattle.lasp_drive.specs.Waiting.{opened_by, counted_on, GoOnByReads}
 use Rattle.lasp_drive.specs.Calls.{calls_at, GoOnByCalls}
 use Rattle.lasp_drive.specs.Driver.{DriverView, run_of, stage_of, Stands}
 use Rattle.lasp_drive.specs.Acts.{Halts, staged, all_staged, asks, all_asks, Acted, ActsSeen, StopsWithin}
@@ -22,7 +22,7 @@ use Rattle.lasp_drive.specs.declared.halt.Halt.{Halt}
 use Rattle.lasp_drive.specs.declared.halt.Halt.TheVariants as halt
 use Rattle.lasp_drive.proofs.NodeLaws.{same-set}
 use Rattle.lasp_drive.proofs.WaitLaws.{all-later}
-use Rattle.lasp_drive.proofs.CallLaws.{calls-one, calls-then, calls-append, calls-more, part-before, part-behind, within-none}
+use Rattle.lasp_drive.proofs.CallLaws.{counted-none, counted-twice, calls-one, calls-then, calls-append, calls-more, part-before, part-behind, within-none}
 
 -- ---- stops
 
@@ -65,7 +65,7 @@ acted-one c next d e a ready size stage done calls opened = record {
   stage = stage;
   run = ap (λ (r : Result Run Stop). r >>= (λ n. each c n [])) done;
   calls = calls-one d.nodes e.nodes c (run_of d) (run_of e) a done calls;
-  opened = λ q low. omega (arith, opened q low);
+  opened = λ q low. opened q low ∙ ap (λ (k : ℕ). counted_on k (opened_by d.nodes q)) (let alone : asks q a ≡ asks q a + 0 = omega arith in alone);
 }
 
 pub halts-one : (c : ℕ) (run : Run) (a : Act) (why : Halt) → Halts (act c run a) why → Halts (each c run (a ∷ [])) why
@@ -94,7 +94,7 @@ acted-none c d ready = record {
   stage = refl;
   run = refl;
   calls = λ q low. sym (append-nothing _);
-  opened = λ q low. omega arith;
+  opened = λ q low. sym (counted-none (opened_by d.nodes q));
 }
 
 then-assoc : (c : ℕ) (r : Result Run Stop) (xs ys : List Act) → ((n : Run) → each c n (xs ++ ys) ≡ each c n xs >>= (λ m. each c m ys)) → r >>= (λ n. each c n (xs ++ ys)) ≡ (r >>= (λ n. each c n xs)) >>= (λ m. each c m ys)
@@ -120,7 +120,9 @@ acted-then c m next d e f xs ys first second = record {
   stage = second.stage ∙ ap (λ (s : Stage). all_staged s ys) first.stage ∙ sym (staged-append (stage_of d) xs ys);
   run = each-append c (run_of d) xs ys ∙ ap (λ (r : Result Run Stop). r >>= (λ n. each c n ys)) first.run ∙ second.run;
   calls = calls-then d.nodes e.nodes f.nodes c (run_of d) (run_of e) xs ys first.size first.run first.calls second.calls;
-  opened = λ q low. omega (arith, second.opened q (omega (arith, low, first.size)), first.opened q low, asks-append q xs ys);
+  opened = λ q low.
+      second.opened q (omega (arith, low, first.size)) ∙ ap (counted_on (all_asks q ys)) (first.opened q low) ∙ counted-twice (all_asks q xs) (all_asks q ys) (opened_by d.nodes q)
+      ∙ ap (λ (k : ℕ). counted_on k (opened_by d.nodes q)) (sym (asks-append q xs ys));
 }
 
 -- of the acts behind those that were done, the driver stopped at one

@@ -1,6 +1,7 @@
 -- Laws of the calls of a run's nodes, and of how many reads they opened.
 use Rattle.std.proofs.Common.{zero, suc, ◌⊎◌, inl, inr, refl, sym, ap, subst, ◌∙◌, arith, take, drop}
-use Rattle.std.specs.Prelude.{◌≡◌, ◌≢◌, ℕ, ◌+◌, ◌<◌, ◌==◌, Bool, if◌then◌else◌, List, [], ◌∷◌, ◌++◌, map, length, replicate, slice_get, slice_set, slice_index_or, Some, Result, Ok, Err}
+use Rattle.std.specs.Prelude.{◌≡◌, ◌≢◌, ℕ, ◌+◌, ◌<◌, ◌==◌, Bool, if◌then◌else◌, List, [], ◌∷◌, ◌++◌, map, length, replicate, slice_get, slice_set, slice_index_or, Option, Some, None, IfSome, Result, Ok, Err}
+use Rattle.std.specs.Option.{option_map}
 use Rattle.std.proofs.lemmas.List.{length-map}
 use Rattle.std.proofs.lemmas.Bool.{eq-eqb, ne_eqb}
 use Rattle.std.proofs.lemmas.Option.{slice_get_within}
@@ -13,11 +14,11 @@ use Rattle.model_journal.specs.Entry as model
 use Rattle.model_journal.specs.Entry.{Entry}
 use Rattle.model_runs.specs.Calls.{fed, call_of, when_done, calls_of_acts}
 use Rattle.model_runs.proofs.MatchLaws.{append-nothing, append-again}
-use Rattle.lasp_drive.specs.Node.{NodeView}
+use Rattle.lasp_drive.specs.Node.{NodeView, HaveNoReads}
 use Rattle.lasp_drive.specs.Nodes.{calls_of}
-use Rattle.lasp_drive.specs.Calls.{calls_at, GoOnByCalls, IsPart, GotFirst, GoesOnWithin}
+use Rattle.lasp_drive.specs.Calls.{calls_at, GoOnByCalls, GotFirst, GoesOnWithin}
 use Rattle.lasp_drive.specs.Reads.{Reads, no_reads}
-use Rattle.lasp_drive.specs.Waiting.{opened_counts, opened_by, GoOnByReads}
+use Rattle.lasp_drive.specs.Waiting.{opened_count, opened_counts, opened_by, counted_on, GoOnByReads}
 use Rattle.lasp_drive.proofs.NodeLaws.{mapped-or}
 
 -- ---- one call of a node
@@ -147,12 +148,22 @@ part-behind old mid new some more all first both got = record {
 
 -- ---- how many reads were opened
 
+-- none more
+pub counted-none : (o : Option ℕ) → counted_on 0 o ≡ o
+counted-none None = refl
+counted-none (Some n) = ap (λ (k : ℕ). Some k) (let none : n + 0 ≡ n = omega arith in none)
+
+-- some more, and then others
+pub counted-twice : (j k : ℕ) (o : Option ℕ) → counted_on k (counted_on j o) ≡ counted_on (j + k) o
+counted-twice j k None = refl
+counted-twice j k (Some n) = ap (λ (m : ℕ). Some m) (let both : (n + j) + k ≡ n + (j + k) = omega arith in both)
+
 -- none was
 pub counts-stay : (old new : List NodeView) → opened_counts new ≡ opened_counts old → GoOnByReads old new (λ q. 0)
-counts-stay old new same q low = omega (arith, ap (λ (cs : List ℕ). slice_index_or cs q 0) same)
+counts-stay old new same q low = ap (λ (cs : List (Option ℕ)). slice_index_or cs q None) same ∙ sym (counted-none (opened_by old q))
 
-pub count-here : (nodes : List NodeView) (p : ℕ) (n : NodeView) → slice_get nodes p ≡ Some n → opened_by nodes p ≡ n.reads.opened
-count-here nodes p n at = mapped-or (λ (n : NodeView). n.reads.opened) nodes p n 0 at
+count-here : (nodes : List NodeView) (p : ℕ) (n : NodeView) → slice_get nodes p ≡ Some n → opened_by nodes p ≡ opened_count n
+count-here nodes p n at = mapped-or opened_count nodes p n None at
 
 same-or-apart : (p q : ℕ) → (p ≡ q) ⊎ (p ≡ q → ⊥)
 same-or-apart zero zero = inl refl
@@ -163,7 +174,7 @@ same-or-apart (suc p) (suc q) = next (same-or-apart p q) where
   next (inl same) = inl (ap (λ (k : ℕ). suc k) same)
   next (inr apart) = inr (λ h. apart (omega (arith, h)))
 
-count-there : (nodes : List NodeView) (p : ℕ) (new : NodeView) → p < length nodes → opened_by (slice_set nodes p new) p ≡ new.reads.opened
+count-there : (nodes : List NodeView) (p : ℕ) (new : NodeView) → p < length nodes → opened_by (slice_set nodes p new) p ≡ opened_count new
 count-there [] p new within = absurd (omega (arith, within))
 count-there (m ∷ nodes) zero new within = refl
 count-there (m ∷ nodes) (suc p) new within = count-there nodes p new (omega (arith, within))
@@ -176,23 +187,26 @@ count-elsewhere (m ∷ nodes) (suc p) new zero apart = refl
 count-elsewhere (m ∷ nodes) (suc p) new (suc q) apart = count-elsewhere nodes p new q (λ h. apart (ap (λ (k : ℕ). suc k) h))
 
 -- one node opened one
-pub one-opened : (nodes : List NodeView) (p : ℕ) (n new : NodeView) → slice_get nodes p ≡ Some n → new.reads.opened ≡ n.reads.opened + 1 → GoOnByReads nodes (slice_set nodes p new) (λ q. if p == q then 1 else 0)
+pub one-opened : (nodes : List NodeView) (p : ℕ) (n new : NodeView) → slice_get nodes p ≡ Some n → opened_count new ≡ counted_on 1 (opened_count n) → GoOnByReads nodes (slice_set nodes p new) (λ q. if p == q then 1 else 0)
 one-opened nodes p n new at more q low = choose (same-or-apart p q) where
-  choose : (p ≡ q) ⊎ (p ≡ q → ⊥) → opened_by (slice_set nodes p new) q ≡ opened_by nodes q + (if p == q then 1 else 0)
+  choose : (p ≡ q) ⊎ (p ≡ q → ⊥) → opened_by (slice_set nodes p new) q ≡ counted_on (if p == q then 1 else 0) (opened_by nodes q)
   choose (inl same) =
       ap (λ (k : ℕ). opened_by (slice_set nodes p new) k) (sym same) ∙ count-there nodes p new (slice_get_within nodes p n at) ∙ more
-      ∙ ap (λ (k : ℕ). k + 1) (sym (count-here nodes p n at)) ∙ ap (λ (k : ℕ). opened_by nodes k + 1) same ∙ ap (λ (b : Bool). opened_by nodes q + (if b then 1 else 0)) (sym (eq-eqb p q same))
+      ∙ ap (counted_on 1) (sym (count-here nodes p n at)) ∙ ap (λ (k : ℕ). counted_on 1 (opened_by nodes k)) same ∙ ap (λ (b : Bool). counted_on (if b then 1 else 0) (opened_by nodes q)) (sym (eq-eqb p q same))
   choose (inr apart) =
-      count-elsewhere nodes p new q apart ∙ (let none : opened_by nodes q ≡ opened_by nodes q + 0 = omega arith in none) ∙ ap (λ (b : Bool). opened_by nodes q + (if b then 1 else 0)) (sym (ne_eqb p q apart))
+      count-elsewhere nodes p new q apart ∙ sym (counted-none (opened_by nodes q)) ∙ ap (λ (b : Bool). counted_on (if b then 1 else 0) (opened_by nodes q)) (sym (ne_eqb p q apart))
 
 -- nodes that had opened none
-pub opened-alone : (old new : List NodeView) (many : ℕ) (all : ℕ → ℕ) → map (λ (n : NodeView). n.reads) old ≡ replicate many no_reads → length old ≡ many → GoOnByReads old new all → (p : ℕ) → p < many → opened_by new p ≡ all p
-opened-alone old new many all fresh size went p low = omega (arith, went p (omega (arith, low, size)), none many old p fresh) where
-  none : (many : ℕ) (nodes : List NodeView) (p : ℕ) → map (λ (n : NodeView). n.reads) nodes ≡ replicate many no_reads → opened_by nodes p ≡ 0
-  none many [] p fresh = refl
-  none zero (m ∷ nodes) p fresh = absurd cc
-  none (suc many) (m ∷ nodes) zero fresh = let first : m.reads ≡ no_reads = cc in ap (λ (s : Reads). s.opened) first
-  none (suc many) (m ∷ nodes) (suc p) fresh = none many nodes p (let rest : map (λ (n : NodeView). n.reads) nodes ≡ replicate many no_reads = cc in rest)
+pub opened-alone : (old new : List NodeView) (many : ℕ) (all : ℕ → ℕ) → HaveNoReads old → length old ≡ many → GoOnByReads old new all → (p : ℕ) → p < many → IfSome (opened_by new p) (λ opened. opened ≡ all p)
+opened-alone old new many all fresh size went p low = subst (λ (o : Option ℕ). IfSome o (λ opened. opened ≡ all p)) (sym (went p (omega (arith, low, size)))) (here (all p) old p fresh) where
+  first : (more : ℕ) (o : Option Reads) → IfSome o (λ s. s ≡ no_reads) → IfSome (counted_on more (option_map (λ (s : Reads). s.opened) o)) (λ opened. opened ≡ more)
+  first more None none = tt
+  first more (Some s) none = omega (arith, ap (λ (s : Reads). s.opened) none)
+
+  here : (more : ℕ) (nodes : List NodeView) (p : ℕ) → HaveNoReads nodes → IfSome (counted_on more (opened_by nodes p)) (λ opened. opened ≡ more)
+  here more [] p fresh = tt
+  here more (m ∷ nodes) zero fresh = first more m.reads (fresh zero m refl)
+  here more (m ∷ nodes) (suc p) fresh = here more nodes p (λ q n at. fresh (suc q) n at)
 
 abbrev pub no_calls : List Entry
 no_calls = []

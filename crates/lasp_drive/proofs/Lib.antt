@@ -6,3 +6,4 @@ pub mod ActLaws
 pub mod StepLaws
 pub mod PlayLaws
 pub mod StretchLaws
+pub mod ReportLaws

@@ -1,9 +1,9 @@
 -- Laws of the nodes of a run: what one node did, the world did.
 use Rattle.std.proofs.Common.{zero, suc, refl, sym, ap, subst, ◌∙◌, arith, get_or}
 use Rattle.std.specs.Prelude.{◌≡◌, ◌≢◌, ℕ, ◌+◌, ◌<◌, ◌≤◌, List, [], ◌∷◌, ◌++◌, map, length, Option, Some, None, slice_get, slice_set, slice_index_or, Result, Ok, Err, Bool, if◌then◌else◌, IsTrue}
-use Rattle.std.proofs.lemmas.List.{map-set, get_or-map, length-map}
+use Rattle.std.proofs.lemmas.List.{map-set, length-map}
 use Rattle.std.proofs.lemmas.Bool.{le-ltb, lt-ltb}
-use Rattle.std.proofs.lemmas.Option.{slice_get_read, slice_get_within, get_or_from_slice_get}
+use Rattle.std.proofs.lemmas.Option.{slice_get_read, get_or_from_slice_get}
 use Rattle.model_states.specs.Content.{size_of, row_limit}
 use Rattle.model_states.specs.Counts.{count_at}
 use Rattle.model_states.specs.Threshold.{Threshold, suits}
@@ -13,7 +13,7 @@ use Rattle.model_graph.specs.Lawful.{shape_of}
 use Rattle.model_graph.specs.Evaluation.{content_at, first_large}
 use Rattle.model_messages.specs.Message.{Message}
 use Rattle.model_messages.specs.Spelling.{spelled}
-use Rattle.model_world.specs.World.{Peer, Run, peer_at, with_peer, updated, checked_update, delivered, checked_delivery, stop_from, message_at, no_message, sent_number, checked_send, network_size, network_limit}
+use Rattle.model_world.specs.World.{Peer, Run, peer_at, with_peer, updated, checked_update, delivered, checked_delivery, stop_from, shown_at, message_at, no_message, sent_number, checked_send, network_size, network_limit}
 use Rattle.model_world.specs.declared.stop.Stop.{Stop}
 use Rattle.model_world.specs.declared.stop.Stop.TheVariants.{TooLarge, NetworkFull}
 use Rattle.model_runs.specs.Held.{IsHeld, IsUpdate, IsSentTo, AreBelow}
@@ -22,7 +22,7 @@ use Rattle.lasp_state.specs.State.{IsOpOf}
 use Rattle.lasp_state.specs.declared.op.Op as rust
 use Rattle.lasp_gossip.specs.Network.{size_of as size_of_network}
 use Rattle.lasp_gossip.proofs.SizeLaws.{size_more}
-use Rattle.lasp_drive.specs.Node.{NodeView, Updates, Delivers, IsNode, IsStill, AreNodes}
+use Rattle.lasp_drive.specs.Node.{NodeView, Updates, Delivers, IsNode, IsStill, AreNodes, IsSettled, Grew, Learns, OnlyLearns}
 use Rattle.lasp_drive.specs.Nodes.{peers_of}
 use Rattle.lasp_drive.specs.declared.node.NodeStop.{NodeStop}
 use Rattle.lasp_drive.specs.declared.node.NodeStop.TheVariants as node
@@ -82,6 +82,34 @@ nodes-set g many nodes p new each here = at-set (IsNode g many) nodes p new (λ 
 -- a call of a node leaves it the node of its number
 pub node-stays : (g : List Decl) (many p : ℕ) (n new : NodeView) → IsNode g many p n → IsStill n new → IsNode g many p new
 node-stays g many p n new old stays = record { graph = stays.graph ∙ old.graph; replica = stays.replica ∙ old.replica; nodes = stays.nodes ∙ old.nodes }
+
+-- a node that learned grew
+pub learned-grew : (n new : NodeView) → OnlyLearns n new → Grew n new
+learned-grew n new learned = record { more = learned.learns.more; released = learned.reads }
+
+-- and is settled where it was
+pub learned-settled : (n new : NodeView) → Learns n new → IsSettled n → IsSettled new
+learned-settled n new learned settled =
+    learned.settled settled ∙ settled ∙ ap (λ (h : List Decl). shown_at h n.peer) (sym learned.still.graph) ∙ ap (shown_at new.decls) (sym learned.peer)
+
+-- a node that learned nothing, and one that learned once and once more
+pub learns-itself : (n : NodeView) → Learns n n
+learns-itself n = record {
+  still = record { graph = refl; replica = refl; nodes = refl };
+  peer = refl;
+  calls = refl;
+  more = λ x threshold met. met;
+  settled = λ settled. refl;
+}
+
+pub learns-then : (a b c : NodeView) → Learns a b → Learns b c → Learns a c
+learns-then a b c first second = record {
+  still = node-stays a.decls a.among a.number b c first.still second.still;
+  peer = second.peer ∙ first.peer;
+  calls = second.calls ∙ first.calls;
+  more = λ x threshold met. second.more x threshold (first.more x threshold met);
+  settled = λ settled. second.settled (learned-settled a b first settled) ∙ first.settled settled;
+}
 
 -- the replica of a node
 pub peer-here : (nodes : List NodeView) (p : ℕ) (n : NodeView) → slice_get nodes p ≡ Some n → peer_at (peers_of nodes) p ≡ n.peer

@@ -1,6 +1,6 @@
 -- A run goes on command by command.
 use Rattle.std.proofs.Common.{zero, suc, refl, sym, ap, subst, ◌∙◌, arith, drop, take}
-use Rattle.std.specs.Prelude.{◌≡◌, ℕ, ◌+◌, ◌<◌, ◌≤◌, ◌==◌, not, Bool, true, false, if◌then◌else◌, OnOk, List, [], ◌∷◌, ◌++◌, map, flat_map, filter, length, Some, slice_get, Result, Ok, Err}
+use Rattle.std.specs.Prelude.{◌≡◌, ℕ, ◌+◌, ◌≤◌, ◌==◌, not, Bool, true, false, if◌then◌else◌, OnOk, List, [], ◌∷◌, ◌++◌, map, flat_map, filter, length, Some, slice_get, Result, Ok, Err}
 use Rattle.std.specs.List.{range_with_len}
 use Rattle.std.proofs.lemmas.List.{drop_more, length-map}
 use Rattle.std.proofs.lemmas.List.FromFn.{length-range_with_len}
@@ -20,8 +20,8 @@ use Rattle.model_journal.specs.Entry.{Entry}
 use Rattle.model_runs.specs.Calls.{when_done, calls_of_acts, calls}
 use Rattle.model_runs.proofs.MatchLaws.{append-nothing, append-again}
 use Rattle.lasp_drive.specs.Node.{NodeView, AreSettled}
-use Rattle.lasp_drive.specs.Calls.{calls_at, IsPart, GoOnByCalls}
-use Rattle.lasp_drive.specs.Waiting.{opened_by, GoOnByReads}
+use Rattle.lasp_drive.specs.Calls.{calls_at}
+use Rattle.lasp_drive.specs.Waiting.{opened_by, counted_on}
 use Rattle.lasp_drive.specs.Driver.{DriverView, run_of, stage_of, Stands, Starts}
 use Rattle.lasp_drive.specs.Acts.{Halts, all_staged, all_asks, Acted, ActsSeen, StopsWithin}
 use Rattle.lasp_drive.specs.Stretch.{GoesOn, MayGoOn}
@@ -29,7 +29,7 @@ use Rattle.lasp_drive.specs.Play.{asked, all_asked, stages_after, MayPlay, Playe
 use Rattle.lasp_drive.specs.Run.{IsRunnable, Ends}
 use Rattle.lasp_drive.specs.declared.halt.Halt.{Halt}
 use Rattle.lasp_drive.proofs.ActLaws.{acts-later, halts-as, halts-then, takes_of, posted-stage, all-taken-stage, staged-append, asks-append}
-use Rattle.lasp_drive.proofs.CallLaws.{no_calls, called-alone, opened-alone, part-before, part-behind}
+use Rattle.lasp_drive.proofs.CallLaws.{counted-twice, no_calls, called-alone, opened-alone, part-before, part-behind}
 
 pub drop-at : {X : Type 0} (xs : List X) (i : ℕ) (x : X) → slice_get xs i ≡ Some x → drop i xs ≡ x ∷ drop (i + 1) xs
 drop-at xs i x e = drop_more xs i x (slice_get_within xs i x e) ∙ ap (λ y. y ∷ drop (i + 1) xs) (get_or_from_slice_get xs i x x e)
@@ -201,7 +201,9 @@ way-next b c old now next k left all way done = record {
             ∙ ap (λ (r : Result Run Stop). part.first ++ (here ++ when_done r (λ n. calls (c + 1) n p left))) (sym done.run)
             ∙ part.part;
       };
-  opened = λ p low. omega (arith, done.opened p (omega (arith, low, way.size)), way.opened p low, command-asks p (run_of now) k);
+  opened = λ p low.
+      ap (counted_on (all_asked p left)) (done.opened p (omega (arith, low, way.size))) ∙ counted-twice (all_asks p (acts (run_of now) k)) (all_asked p left) (opened_by now.nodes p)
+      ∙ ap (λ (j : ℕ). counted_on (j + all_asked p left) (opened_by now.nodes p)) (command-asks p (run_of now) k) ∙ way.opened p low;
 }
 
 -- the next command stopped the run
@@ -232,7 +234,7 @@ way-then b c e old mid new all left rest first second = record {
         is = two.is ∙ ap (λ (h : List Entry). h ++ two.first) one.is ∙ append-again (calls_at old.nodes p) one.first two.first;
         part = append-again one.first two.first (calls e (run_of new) p rest) ∙ ap (λ (h : List Entry). one.first ++ h) two.part ∙ one.part;
       };
-  opened = λ p low. omega (arith, second.opened p (omega (arith, low, first.size)), first.opened p low);
+  opened = λ p low. second.opened p (omega (arith, low, first.size)) ∙ first.opened p low;
 }
 
 -- the run stopped among those that were left
@@ -259,7 +261,7 @@ way-ends c old now new all (Ok done) few way point settled = record {
       let part = way.calls p low in
       point.calls p (omega (arith, low, way.size)) ∙ ap (λ (h : List Entry). calls_at now.nodes p ++ h) (none-called (act c (run_of now) Point)) ∙ append-nothing (calls_at now.nodes p)
       ∙ part.is ∙ ap (λ (h : List Entry). calls_at old.nodes p ++ h) (sym (append-nothing part.first) ∙ part.part);
-  opened = λ p low. omega (arith, point.opened p (omega (arith, low, way.size)), way.opened p low);
+  opened = λ p low. point.opened p (omega (arith, low, way.size)) ∙ way.opened p low;
 } where
   one-point : (r : Result Run Stop) → r >>= (λ n. each c n []) ≡ r
   one-point (Ok n) = refl

@@ -12,14 +12,14 @@ use Rattle.model_world.specs.declared.stop.Stop.TheVariants.{TooLarge}
 use Rattle.model_journal.specs.Entry as model
 use Rattle.model_runs.specs.Calls.{fed}
 use Rattle.model_runs.specs.Held.{IsHeld}
-use Rattle.lasp_drive.specs.Node.{NodeView, Settles, IsNode, IsSettled, AreNodes, AreSettled, IsFresh, AreFresh, Grew, HoldsLittle, OnlyGrew, Extends, ShowsNoMore}
-use Rattle.lasp_drive.specs.Nodes.{peers_of, calls_of, KeepReads, MaySettle, AllSettled, AllExtend}
+use Rattle.lasp_drive.specs.Node.{NodeView, Settles, IsNode, IsSettled, AreNodes, AreSettled, HasNoReads, IsFresh, AreFresh, Grew, HoldsLittle, IsStill, OnlyGrew, OnlyLearns, Extends}
+use Rattle.lasp_drive.specs.Nodes.{peers_of, calls_of, KeepReads, MaySettle, AllLearn, AllSettled, AllExtend}
 use Rattle.lasp_drive.specs.Calls.{GoesOnWithin}
-use Rattle.lasp_drive.specs.Reads.{Reads, no_reads, releases}
+use Rattle.lasp_drive.specs.Waiting.{opened_count}
 use Rattle.lasp_drive.specs.declared.node.NodeStop.{NodeStop}
 use Rattle.lasp_drive.specs.declared.node.NodeStop.TheVariants as node
-use Rattle.lasp_drive.proofs.NodeLaws.{at-set, mapped-at, same-set, nodes-set, node-stays, held-here}
-use Rattle.lasp_drive.proofs.WaitLaws.{all-called}
+use Rattle.lasp_drive.proofs.NodeLaws.{at-set, mapped-at, same-set, nodes-set, node-stays, learned-grew, learned-settled, held-here}
+use Rattle.lasp_drive.proofs.WaitLaws.{all-called, opened-kept}
 use Rattle.lasp_drive.proofs.CallLaws.{within-each}
 
 -- the nodes below a number are settled
@@ -136,7 +136,7 @@ fresh-next g many p nodes new all is = record {
   nodes_are = nodes-push g many p nodes new all.size all.nodes_are is.node;
   peers = fresh-push (λ (n : NodeView). n.peer) p (fresh_peer g many) nodes new all.peers is.peer;
   calls = fresh-push (λ (n : NodeView). n.calls) p [] nodes new all.calls is.calls;
-  reads = fresh-push (λ (n : NodeView). n.reads) p no_reads nodes new all.reads is.reads;
+  reads = at-push (λ q n. HasNoReads n) nodes new all.reads is.reads;
 }
 
 -- ---- all nodes of a run, one after the other
@@ -144,9 +144,48 @@ fresh-next g many p nodes new all is = record {
 -- a node that opened no read leaves the reads of all
 keep-reads : (old now : List NodeView) (p : ℕ) (n new : NodeView) → KeepReads old now → slice_get now p ≡ Some n → Grew n new → KeepReads old (slice_set now p new)
 keep-reads old now p n new kept at grew = record {
-  counts = same-set (λ (n : NodeView). n.reads.opened) now p n new at (ap (λ (s : Reads). s.opened) grew.released) ∙ kept.counts;
+  counts = same-set opened_count now p n new at (opened-kept new.shown n.reads new.reads grew.released) ∙ kept.counts;
   waiting = λ c opened all. all-called c p now opened n new at grew (kept.waiting c opened all);
 }
+
+-- the nodes were asked one after the other
+pub learning-begins : (nodes : List NodeView) → AllLearn nodes nodes
+learning-begins nodes = record {
+  size = refl;
+  still = λ p n at. (n, at, record { graph = refl; replica = refl; nodes = refl });
+  peers = refl;
+  calls = refl;
+  settled = λ settled. settled;
+  reads = record { counts = refl; waiting = λ c opened all. all };
+}
+
+pub learning-next : (p : ℕ) (old now : List NodeView) (n new : NodeView) → AllLearn old now → slice_get now p ≡ Some n → OnlyLearns n new → AllLearn old (slice_set now p new)
+learning-next p old now n new so_far at learned = record {
+  size = length-set now p new ∙ so_far.size;
+  still = at-set (λ q m. (k : NodeView) × (slice_get old q ≡ Some k) × IsStill k m) now p new (λ q m _ there. so_far.still q m there)
+      (let was = so_far.still p n at in (was.0, was.1, node-stays was.0.decls was.0.among was.0.number n new was.2 learned.learns.still));
+  peers = same-set (λ (n : NodeView). n.peer) now p n new at learned.learns.peer ∙ so_far.peers;
+  calls = same-set (λ (n : NodeView). n.calls) now p n new at learned.learns.calls ∙ so_far.calls;
+  settled = λ settled. at-set (λ q m. IsSettled m) now p new (λ q m _ there. so_far.settled settled q m there) (learned-settled n new learned.learns (so_far.settled settled p n at));
+  reads = keep-reads old now p n new so_far.reads at (learned-grew n new learned);
+}
+
+pub learning-then : (old mid new : List NodeView) → AllLearn old mid → AllLearn mid new → AllLearn old new
+learning-then old mid new first second = record {
+  size = second.size ∙ first.size;
+  still = λ p n at.
+      let one = second.still p n at in
+      let two = first.still p one.0 one.1 in
+      (two.0, two.1, node-stays two.0.decls two.0.among two.0.number one.0 n two.2 one.2);
+  peers = second.peers ∙ first.peers;
+  calls = second.calls ∙ first.calls;
+  settled = λ settled. second.settled (first.settled settled);
+  reads = record { counts = second.reads.counts ∙ first.reads.counts; waiting = λ c opened all. second.reads.waiting c opened (first.reads.waiting c opened all) };
+}
+
+-- they are those of the run that they were of
+pub learned-nodes : (g : List Decl) (many : ℕ) (old new : List NodeView) → AllLearn old new → AreNodes g many old → AreNodes g many new
+learned-nodes g many old new learn each p n at = let was = learn.still p n at in node-stays g many p was.0 n (each p was.0 was.1) was.2
 
 -- command number c settled the nodes below p
 pub record IsSettling (c p : ℕ) (g : List Decl) (old now : List NodeView) : Type 0 where
@@ -230,8 +269,8 @@ extending-begins before g d nodes each = record {
   reads = record { counts = refl; waiting = λ c opened all. all };
 }
 
-pub extending-next : (p : ℕ) (before g : List Decl) (d : Decl) (old now : List NodeView) (n new : NodeView) → g ≡ before ++ d ∷ [] → IsExtending p before g d old now → slice_get now p ≡ Some n → Extends d n new → ShowsNoMore new → IsExtending (p + 1) before g d old (slice_set now p new)
-extending-next p before g d old now n new is so_far at done shows =
+pub extending-next : (p : ℕ) (before g : List Decl) (d : Decl) (old now : List NodeView) (n new : NodeView) → g ≡ before ++ d ∷ [] → IsExtending p before g d old now → slice_get now p ≡ Some n → Extends d n new → IsExtending (p + 1) before g d old (slice_set now p new)
+extending-next p before g d old now n new is so_far at done =
     let here = so_far.behind p n at (omega arith) in
     let low : p < length old = omega (arith, slice_get_within now p n at, so_far.size) in
     record {
@@ -241,7 +280,7 @@ extending-next p before g d old now n new is so_far at done shows =
       peers = extend-next (λ (n : NodeView). n.peer) (extended (length old) d) (peers_of old) now p n new (omega (arith, low, length-map old (λ (n : NodeView). n.peer))) at so_far.peers
           (done.peer ∙ ap (λ (k : ℕ). extended k d n.peer) here.nodes);
       calls = extend-next (λ (n : NodeView). n.calls) (λ h. h ++ fed (model.Extend d) ∷ []) (calls_of old) now p n new (omega (arith, low, length-map old (λ (n : NodeView). n.calls))) at so_far.calls done.calls;
-      reads = keep-reads old now p n new so_far.reads at (record { more = done.more; released = shows.unmet ∙ ap (releases new.shown) done.reads });
+      reads = keep-reads old now p n new so_far.reads at done.grew;
     }
 
 pub extending-ends : (p : ℕ) (before g : List Decl) (d : Decl) (old now : List NodeView) → length now ≤ p → IsExtending p before g d old now → AllExtend g d old now
@@ -264,6 +303,6 @@ on-stop (Ok a) p = tt
 on-stop (Err e) p = p
 
 -- memory was wanting at a node: those below it have gone on
-pub extending-stops : (p : ℕ) (before g : List Decl) (d : Decl) (old now : List NodeView) (n new : NodeView) → IsExtending p before g d old now → slice_get now p ≡ Some n → new ≡ n → GoesOnWithin old (slice_set now p new) (λ q. fed (model.Extend d) ∷ [])
-extending-stops p before g d old now n new so_far at same =
-    within-each old (slice_set now p new) p (fed (model.Extend d)) (same-set (λ (n : NodeView). n.calls) now p n new at (ap (λ (n : NodeView). n.calls) same) ∙ so_far.calls)
+pub extending-stops : (p : ℕ) (before g : List Decl) (d : Decl) (old now : List NodeView) (n new : NodeView) → IsExtending p before g d old now → slice_get now p ≡ Some n → OnlyLearns n new → GoesOnWithin old (slice_set now p new) (λ q. fed (model.Extend d) ∷ [])
+extending-stops p before g d old now n new so_far at learned =
+    within-each old (slice_set now p new) p (fed (model.Extend d)) (same-set (λ (n : NodeView). n.calls) now p n new at learned.learns.calls ∙ so_far.calls)

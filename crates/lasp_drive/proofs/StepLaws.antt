@@ -1,6 +1,6 @@
 -- What each act leaves: a driver that stands where the world has come to.
 use Rattle.std.proofs.Common.{refl, sym, ap, subst, ◌∙◌, arith}
-use Rattle.std.specs.Prelude.{◌≡◌, ℕ, ◌+◌, ◌<◌, ◌≤◌, List, [], ◌∷◌, ◌++◌, map, length, slice_get, slice_set, replicate, Option, Some, None, Ok, Err, Bool, true, false, if◌then◌else◌, IsTrue, OnOk, Result}
+use Rattle.std.specs.Prelude.{◌≡◌, ℕ, ◌+◌, ◌<◌, ◌≤◌, List, [], ◌∷◌, ◌++◌, map, length, slice_get, slice_set, replicate, Some, None, Ok, Err, Bool, true, false, if◌then◌else◌, IsTrue, OnOk, Result}
 use Rattle.std.proofs.lemmas.List.{length-set, length-map, map-append}
 use Rattle.std.proofs.lemmas.Option.{slice_get_within, get_or_from_slice_get}
 use Rattle.model_functions.specs.Library.{Library}
@@ -17,7 +17,7 @@ use Rattle.model_world.specs.Lawful.{Stage, opening_stage, IsPlace, MayAsk}
 use Rattle.std.specs.Fmt.{decimal}
 use Rattle.model_world.specs.Line.{line, shown_content}
 use Rattle.model_world.specs.World as world
-use Rattle.model_world.specs.World.{Peer, Run, Marked, Opened, peer_at, fresh_peer, start, network_limit, Update, Keep, Post, Take, Point, Show, Open, Reach, Extend, act, updated, delivered, extended, sent_number, message_at, shown_at, shown_content_at, with_mark, with_read, with_decl, point_from}
+use Rattle.model_world.specs.World.{Peer, Run, Marked, Opened, peer_at, fresh_peer, start, network_limit, Update, Keep, Post, Take, Point, Show, Open, Reach, Extend, Act, act, updated, delivered, extended, sent_number, message_at, shown_at, shown_content_at, with_mark, with_read, with_decl, point_from}
 use Rattle.model_world.specs.declared.stop.Stop.{Stop}
 use Rattle.model_world.specs.declared.stop.Stop.TheVariants.{NotReached}
 use Rattle.model_journal.specs.Entry as model
@@ -26,14 +26,13 @@ use Rattle.model_core.specs.Core.{Read}
 use Rattle.model_runs.specs.Sound.{IsSound, IsOpened, no_read}
 use Rattle.model_runs.specs.Held.{IsSentTo}
 use Rattle.model_runs.specs.Calls.{fed, call_of}
-use Rattle.model_runs.proofs.SoundLaws.{sound-start, sound-update, sound-take, sound-post, sound-keep, sound-show, sound-open, sound-reach, sound-extend, sound-later, sound-suits}
-use Rattle.lasp_state.specs.State as state
+use Rattle.model_runs.proofs.SoundLaws.{sound-start, sound-update, sound-take, sound-post, sound-keep, sound-show, sound-open, sound-extend, sound-later, sound-suits}
 use Rattle.lasp_state.specs.State.{IsOpOf, op_of}
 use Rattle.lasp_state.specs.declared.op.Op as rust
-use Rattle.lasp_drive.specs.Node.{NodeView, with_reads, opens_next, IsNode, IsStill, AreNodes, AreSettled, Grew, Shows, MayUpdate, MayRead, AreFresh}
-use Rattle.lasp_drive.specs.Nodes.{peers_of, MaySettle, AllSettled, SettlesAll, AllExtend}
-use Rattle.lasp_drive.specs.Reads.{Reads, next_read, looks, releases}
-use Rattle.lasp_drive.specs.Waiting.{AreWaiting, GoOnByReads}
+use Rattle.lasp_drive.specs.Node.{NodeView, IsNode, IsStill, AreNodes, AreSettled, Grew, LearnsAnd, OnlyLearns, MayUpdate, MayRead, AreFresh}
+use Rattle.lasp_drive.specs.Nodes.{peers_of, MaySettle, AllLearn, AllSettled, SettlesAll, AllExtend}
+use Rattle.lasp_drive.specs.Reads.{IsNextRead, opens_next, looks_once}
+use Rattle.lasp_drive.specs.Waiting.{AreWaiting, opened_count, GoOnByReads}
 use Rattle.lasp_drive.specs.Calls.{GoOnByCalls}
 use Rattle.lasp_drive.specs.Driver.{DriverView, marked_of, opened_of, run_of, stage_of, Stands, Starts}
 use Rattle.lasp_drive.specs.Acts.{MayDo, Acted, ActsSeen}
@@ -45,10 +44,10 @@ use Rattle.lasp_drive.specs.Report.{AreOpened}
 use Rattle.lasp_drive.specs.declared.halt.Halt.{Halt}
 use Rattle.lasp_drive.specs.declared.driver.Mark.{Mark}
 use Rattle.lasp_drive.specs.declared.driver.OpenRead.{OpenRead}
-use Rattle.lasp_drive.proofs.NodeLaws.{mapped-or, same-set, nodes-set, node-stays, peer-here, held-here, update-here, suits-here, room-here, var-here, suited-here, update-done, deliver-done, sent-here, with_peers}
-use Rattle.lasp_drive.proofs.WaitLaws.{all-later, all-called, all-looked, all-opened, all-fresh}
+use Rattle.lasp_drive.proofs.NodeLaws.{mapped-or, same-set, nodes-set, node-stays, learned-grew, peer-here, held-here, update-here, suits-here, room-here, var-here, suited-here, update-done, deliver-done, sent-here, with_peers}
+use Rattle.lasp_drive.proofs.WaitLaws.{all-later, all-called, all-looked, all-opened, all-fresh, opened-kept, opened-one}
 use Rattle.lasp_drive.proofs.CallLaws.{calls-stay, calls-set, updated-there, updated-elsewhere, taken-there, taken-elsewhere, calls-each, counts-stay, one-opened}
-use Rattle.lasp_drive.proofs.ActLaws.{acted-one, stops-still}
+use Rattle.lasp_drive.proofs.ActLaws.{acted-one, acted-then, stops-still}
 
 -- the driver with these nodes
 abbrev pub with_nodes : DriverView → List NodeView → DriverView
@@ -67,11 +66,40 @@ stands-with c next d nodes ready size each sound waiting = record {
 }
 
 -- no read was opened
-none-opened : (nodes : List NodeView) (p : ℕ) (n new : NodeView) → slice_get nodes p ≡ Some n → new.reads.opened ≡ n.reads.opened → GoOnByReads nodes (slice_set nodes p new) (λ q. 0)
-none-opened nodes p n new at same = counts-stay nodes (slice_set nodes p new) (same-set (λ (n : NodeView). n.reads.opened) nodes p n new at same)
+none-opened : (nodes : List NodeView) (p : ℕ) (n new : NodeView) → slice_get nodes p ≡ Some n → Grew n new → GoOnByReads nodes (slice_set nodes p new) (λ q. 0)
+none-opened nodes p n new at grew = counts-stay nodes (slice_set nodes p new) (same-set opened_count nodes p n new at (opened-kept new.shown n.reads new.reads grew.released))
 
 none-called : (nodes : List NodeView) (p : ℕ) (n new : NodeView) → slice_get nodes p ≡ Some n → new.calls ≡ n.calls → GoOnByCalls nodes (slice_set nodes p new) (λ q. [])
 none-called nodes p n new at same = calls-stay nodes (slice_set nodes p new) (same-set (λ (n : NodeView). n.calls) nodes p n new at same)
+
+-- ---- a node that was asked
+
+-- it learned
+pub acted-learns : (c p : ℕ) (d : DriverView) (n new : NodeView) → Stands c d → slice_get d.nodes p ≡ Some n → OnlyLearns n new → Acted c c d [] (with_nodes d (slice_set d.nodes p new))
+acted-learns c p d n new ready at learned =
+    let nodes = slice_set d.nodes p new in
+    let grew = learned-grew n new learned in
+    let peers : peers_of nodes ≡ peers_of d.nodes = same-set (λ (n : NodeView). n.peer) d.nodes p n new at learned.learns.peer in
+    let same : run_of d ≡ with_peers (run_of d) (peers_of nodes) = ap (with_peers (run_of d)) (sym peers) in
+    record {
+      ready = stands-with c c d nodes ready (length-set d.nodes p new) (nodes-set d.graph (length d.nodes) d.nodes p new ready.nodes (node-stays d.graph (length d.nodes) p n new (ready.nodes p n at) learned.learns.still))
+          (subst (λ (run : Run). IsSound (length d.nodes) c (stage_of d) run) same ready.sound) (all-called c p d.nodes d.reads n new at grew ready.waiting);
+      size = length-set d.nodes p new;
+      stage = refl;
+      run = ap (λ (run : Run). Ok run) same;
+      calls = none-called d.nodes p n new at learned.learns.calls;
+      opened = none-opened d.nodes p n new at grew;
+    }
+
+-- it learned beside an act that was done
+pub acted-asked : (c p : ℕ) (d e : DriverView) (n new : NodeView) (a : Act) → slice_get e.nodes p ≡ Some n → OnlyLearns n new → Acted c c d (a ∷ []) e → Acted c c d (a ∷ []) (with_nodes e (slice_set e.nodes p new))
+acted-asked c p d e n new a at learned done = acted-then c c c d e (with_nodes e (slice_set e.nodes p new)) (a ∷ []) [] done (acted-learns c p e n new done.ready at learned)
+
+-- every node learned at most
+pub stands-asked : (c : ℕ) (d : DriverView) (nodes : List NodeView) → Stands c d → AllLearn d.nodes nodes → Stands c (with_nodes d nodes)
+stands-asked c d nodes ready learn =
+    let same : run_of d ≡ with_peers (run_of d) (peers_of nodes) = ap (with_peers (run_of d)) (sym learn.peers) in
+    stands-with c c d nodes ready learn.size (λ p n at. let was = learn.still p n at in node-stays d.graph (length d.nodes) p was.0 n (ready.nodes p was.0 was.1) was.2) (subst (λ (run : Run). IsSound (length d.nodes) c (stage_of d) run) same ready.sound) (learn.reads.waiting c d.reads ready.waiting)
 
 -- ---- updates
 
@@ -100,7 +128,7 @@ acted-update c p x op d n new ready may at still is small calls grew =
     (all-later-called c d p n new at grew ready.waiting))
     (length-set d.nodes p new) refl done
     (calls-set d.nodes p n new (λ q. call_of (run_of d) q (Update p x op)) at (calls ∙ ap (λ (h : List Entry). n.calls ++ h) (sym (updated-there (run_of d) p x op))) (updated-elsewhere (run_of d) p x op))
-    (none-opened d.nodes p n new at (ap (λ (s : Reads). s.opened) grew.released))
+    (none-opened d.nodes p n new at grew)
   where
     all-later-called : (c : ℕ) (d : DriverView) (p : ℕ) (n new : NodeView) → slice_get d.nodes p ≡ Some n → Grew n new → AreWaiting c d.nodes d.reads → AreWaiting (c + 1) (slice_set d.nodes p new) d.reads
     all-later-called c d p n new at grew waiting = all-later c (slice_set d.nodes p new) d.reads (all-called c p d.nodes d.reads n new at grew waiting)
@@ -123,7 +151,7 @@ acted-take c p i d n new m ready may at same still is small calls grew =
     (length-set d.nodes p new) refl done
     (calls-set d.nodes p n new (λ q. call_of (run_of d) q (Take p i)) at
     (calls ∙ ap (λ (k : Message). n.calls ++ fed (model.Deliver i k) ∷ []) same ∙ ap (λ (h : List Entry). n.calls ++ h) (sym (taken-there (run_of d) p i))) (taken-elsewhere (run_of d) p i))
-    (none-opened d.nodes p n new at (ap (λ (s : Reads). s.opened) grew.released))
+    (none-opened d.nodes p n new at grew)
 
 -- the driver with one message more
 abbrev pub with_sent : DriverView → List Message → ℕ → DriverView
@@ -225,35 +253,31 @@ with_both d nodes reads = record { graph = d.graph; nodes = nodes; sent = d.sent
 abbrev pub open_read : ℕ → Read → OpenRead Read
 open_read p r = record { node = p; read = r }
 
--- fewer reads than a command's number were opened, so the count doesn't stand still
-one-more : (c p : ℕ) (d : DriverView) (n : NodeView) → Stands c d → slice_get d.nodes p ≡ Some n → c ≤ 4294967295 → (looks n.reads).opened ≡ n.reads.opened + 1
-one-more c p d n ready at few = omega (arith, (ready.waiting p n at).counted, few)
-
-pub acted-open : (c p x : ℕ) (until : Until) (d : DriverView) (n : NodeView) (r : Read) → Stands c d → MayDo c d (Open p x until) → slice_get d.nodes p ≡ Some n → c ≤ 4294967295 → r ≡ next_read n.reads x (world.threshold_of (map marked_of d.marks) until)
-    → Acted c (c + 1) d (Open p x until ∷ []) (with_both d (slice_set d.nodes p (with_reads n (opens_next n x (world.threshold_of (map marked_of d.marks) until)))) (d.reads ++ open_read p r ∷ []))
-acted-open c p x until d n r ready may at few is =
+pub acted-open : (c p x : ℕ) (until : Until) (d : DriverView) (n new : NodeView) (r : Read) → Stands c d → MayDo c d (Open p x until) → slice_get d.nodes p ≡ Some n → c ≤ 4294967295 → IsNextRead n.reads x (world.threshold_of (map marked_of d.marks) until) r
+    → LearnsAnd (opens_next x (world.threshold_of (map marked_of d.marks) until)) n new → Acted c (c + 1) d (Open p x until ∷ []) (with_both d (slice_set d.nodes p new) (d.reads ++ open_read p r ∷ []))
+acted-open c p x until d n new r ready may at few next learned =
     let t = world.threshold_of (map marked_of d.marks) until in
-    let new = with_reads n (opens_next n x t) in
     let nodes = slice_set d.nodes p new in
     let e = with_both d nodes (d.reads ++ open_read p r ∷ []) in
-    let here : IsNode d.graph (length d.nodes) p n = ready.nodes p n at in
     let size = length-set d.nodes p new in
-    let peers : peers_of nodes ≡ peers_of d.nodes = same-set (λ (n : NodeView). n.peer) d.nodes p n new at refl in
+    let peers : peers_of nodes ≡ peers_of d.nodes = same-set (λ (n : NodeView). n.peer) d.nodes p n new at learned.learns.peer in
+    let last : opened_of (open_read p r) ≡ record { node = p; var = x; threshold = t } = (λ i. record { node = p; var = next.var i; threshold = next.waits_for i }) in
     let done : act c (run_of d) (Open p x until) ≡ Ok (run_of e) =
     ap (λ (ps : List Peer). Ok (with_read (with_peers (run_of d) ps) (record { node = p; var = x; threshold = t }))) (sym peers)
     ∙ ap (λ (os : List Opened). Ok (record { graph = d.graph; peers = peers_of nodes; sent = d.sent; marks = map marked_of d.marks; reads = os; text = d.text }))
-    (ap (λ (q : Read). map opened_of d.reads ++ opened_of (open_read p q) ∷ []) (sym is) ∙ sym (map-append opened_of d.reads (open_read p r ∷ []))) in
+    (ap (λ (o : Opened). map opened_of d.reads ++ o ∷ []) (sym last) ∙ sym (map-append opened_of d.reads (open_read p r ∷ []))) in
     acted-one c (c + 1) d e (Open p x until)
     (record {
       some = omega (arith, ready.some, size);
       few = omega (arith, ready.few, size);
-      nodes = subst (λ (many : ℕ). AreNodes d.graph many nodes) (sym size) (nodes-set d.graph (length d.nodes) d.nodes p new ready.nodes (record { graph = here.graph; replica = here.replica; nodes = here.nodes }));
+      nodes = subst (λ (many : ℕ). AreNodes d.graph many nodes) (sym size) (nodes-set d.graph (length d.nodes) d.nodes p new ready.nodes (node-stays d.graph (length d.nodes) p n new (ready.nodes p n at) learned.learns.still));
       limit = ready.limit;
       sound = subst (λ (many : ℕ). IsSound many (c + 1) (stage_of d) (run_of e)) (sym size)
           (sound-later (length d.nodes) c (stage_of d) (run_of e) (sound-open (length d.nodes) c p x (stage_of d) until (run_of d) (run_of e) ready.sound may.0.0 may.0.1 (sound-suits (length d.nodes) c x (stage_of d) until (run_of d) ready.sound may.0.1 may.1) done));
-      waiting = all-opened c p x t d.nodes d.reads n new r (omega (arith, few)) at refl refl is ready.waiting;
+      waiting = all-opened c p x t d.nodes d.reads n new r (omega (arith, few)) at next learned ready.waiting;
     })
-    size refl done (none-called d.nodes p n new at refl) (one-opened d.nodes p n new at (one-more c p d n ready at few))
+    size refl done (none-called d.nodes p n new at learned.learns.calls)
+    (one-opened d.nodes p n new at (opened-one c p d.reads n new (opens_next x t) (omega (arith, few)) (λ s. refl) learned (ready.waiting p n at)))
 
 abbrev reached_by : ℕ → Run → Bool → Result Run Stop
 reached_by c run met = if met then Ok run else Err (NotReached c)
@@ -275,19 +299,18 @@ pub reach-unmet : (c p x : ℕ) (until : Until) (d : DriverView) (n : NodeView) 
     → met ≡ false → act c (run_of d) (Reach p x until) ≡ Err (NotReached c)
 reach-unmet c p x until d n t met ready settled at same is false_here = ap (reached_by c (run_of d)) (reach-is c p x until d n t met ready settled at same is ∙ false_here)
 
-pub acted-reach : (c p x : ℕ) (until : Until) (d : DriverView) (n : NodeView) → Stands c d → slice_get d.nodes p ≡ Some n → c ≤ 4294967295 → act c (run_of d) (Reach p x until) ≡ Ok (run_of d)
-    → Acted c (c + 1) d (Reach p x until ∷ []) (with_nodes d (slice_set d.nodes p (with_reads n (looks n.reads))))
-acted-reach c p x until d n ready at few reached =
-    let new = with_reads n (looks n.reads) in
+pub acted-reach : (c p x : ℕ) (until : Until) (d : DriverView) (n new : NodeView) → Stands c d → slice_get d.nodes p ≡ Some n → c ≤ 4294967295 → LearnsAnd looks_once n new → act c (run_of d) (Reach p x until) ≡ Ok (run_of d)
+    → Acted c (c + 1) d (Reach p x until ∷ []) (with_nodes d (slice_set d.nodes p new))
+acted-reach c p x until d n new ready at few learned reached =
     let nodes = slice_set d.nodes p new in
-    let here : IsNode d.graph (length d.nodes) p n = ready.nodes p n at in
-    let peers : peers_of nodes ≡ peers_of d.nodes = same-set (λ (n : NodeView). n.peer) d.nodes p n new at refl in
+    let peers : peers_of nodes ≡ peers_of d.nodes = same-set (λ (n : NodeView). n.peer) d.nodes p n new at learned.learns.peer in
     let same : run_of d ≡ with_peers (run_of d) (peers_of nodes) = ap (with_peers (run_of d)) (sym peers) in
     acted-one c (c + 1) d (with_nodes d nodes) (Reach p x until)
-    (stands-with c (c + 1) d nodes ready (length-set d.nodes p new) (nodes-set d.graph (length d.nodes) d.nodes p new ready.nodes (record { graph = here.graph; replica = here.replica; nodes = here.nodes }))
+    (stands-with c (c + 1) d nodes ready (length-set d.nodes p new) (nodes-set d.graph (length d.nodes) d.nodes p new ready.nodes (node-stays d.graph (length d.nodes) p n new (ready.nodes p n at) learned.learns.still))
     (subst (λ (run : Run). IsSound (length d.nodes) (c + 1) (stage_of d) run) same (sound-later (length d.nodes) c (stage_of d) (run_of d) ready.sound))
-    (all-looked c p d.nodes d.reads n new (omega (arith, few)) at refl refl ready.waiting))
-    (length-set d.nodes p new) refl (reached ∙ ap (λ (run : Run). Ok run) same) (none-called d.nodes p n new at refl) (one-opened d.nodes p n new at (one-more c p d n ready at few))
+    (all-looked c p d.nodes d.reads n new (omega (arith, few)) at learned ready.waiting))
+    (length-set d.nodes p new) refl (reached ∙ ap (λ (run : Run). Ok run) same) (none-called d.nodes p n new at learned.learns.calls)
+    (one-opened d.nodes p n new at (opened-one c p d.reads n new looks_once (omega (arith, few)) (λ s. refl) learned (ready.waiting p n at)))
 
 -- ---- points and declarations
 
@@ -354,7 +377,7 @@ starts-fresh g many d some few fresh graph sent limit marks reads text =
         limit = limit;
         sound = subst (λ (k : ℕ). IsSound k 1 (stage_of d) (run_of d)) (sym fresh.size)
             (subst (λ (r : Run). IsSound many 1 (stage_of d) r) (sym run) (subst (λ (s : Stage). IsSound many 1 s (start g many)) (sym stage) (sound-start many g)));
-        waiting = subst (λ (rs : List (OpenRead Read)). AreWaiting 1 d.nodes rs) (sym reads) (all-fresh many d.nodes fresh.reads);
+        waiting = subst (λ (rs : List (OpenRead Read)). AreWaiting 1 d.nodes rs) (sym reads) (all-fresh d.nodes fresh.reads);
       };
       run = run;
       stage = stage;

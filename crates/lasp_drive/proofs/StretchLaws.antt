@@ -1,10 +1,9 @@
 -- A run goes on stretch by stretch.
-use Rattle.std.proofs.Common.{refl, ap, sym, subst, ◌∙◌, arith, drop, ◌⊎◌, inl, inr}
+use Rattle.std.proofs.Common.{ap, sym, subst, ◌∙◌, arith, drop, ◌⊎◌, inl, inr}
 use Rattle.std.specs.Prelude.{◌≡◌, ℕ, ◌+◌, ◌≤◌, ◌<◌, List, [], ◌∷◌, length, Some, slice_get, Result, OnOk, IsTrue, true, false}
 use Rattle.std.proofs.Math.Nat.{eq-or-lt_of_le}
 use Rattle.std.proofs.lemmas.Option.{slice_get_within, get_or_from_slice_get}
 use Rattle.model_functions.specs.Library.{Library}
-use Rattle.model_graph.specs.Graph.{Decl}
 use Rattle.model_readings.specs.Lawful.{IsGraph, FitsAll}
 use Rattle.model_scripts.specs.Progress.{grown_by, grown}
 use Rattle.model_world.specs.Command.{Command}

@@ -13,7 +13,7 @@ use Rattle.model_core.specs.Core.{Read}
 use Rattle.model_runs.specs.Calls.{calls_of_acts}
 use Rattle.model_runs.specs.Held.{IsUpdate}
 use Rattle.lasp_drive.specs.Node.{NodeView, AreSettled}
-use Rattle.lasp_drive.specs.Reads.{next_read}
+use Rattle.lasp_drive.specs.Reads.{IsNextRead}
 use Rattle.lasp_drive.specs.Waiting.{reads_at, GoOnByReads}
 use Rattle.lasp_drive.specs.Calls.{GoOnByCalls, GoesOnWithin}
 use Rattle.lasp_drive.specs.Driver.{DriverView, seen, run_of, stage_of, Stands}
@@ -117,11 +117,11 @@ pub record MayStep {N R : Type 0} (view : N → NodeView) (read : R → Read) (c
 
 -- ---- what reads leave
 
--- the run has one read more: it waits for variable x of node p, under that node's next number
+-- the run has one read more: it waits for variable x of node p, under that node's next number where its reads are told
 pub record HasOpened {N R : Type 0} (view : N → NodeView) (read : R → Read) (p x : ℕ) (threshold : Threshold) (old new : Driver N R) : Type 0 where
   pub handle : R
   pub reads_are : new.reads.items ≡ old.reads.items ++ record { node = p; read = handle } ∷ []
-  pub is : read handle ≡ next_read (reads_at (map view old.nodes.items) p) x threshold
+  pub is : IsNextRead (reads_at (map view old.nodes.items) p) x threshold (read handle)
 
 -- the run went on because its threshold was met, or stopped at command number c because it wasn't, or memory was wanting
 abbrev pub Reaches : {A : Type 0} → ℕ → Bool → Result A Halt → Type 0

@@ -8,8 +8,7 @@ use Rattle.model_world.specs.World.{Marked, Opened, Run, start, network_limit}
 use Rattle.model_core.specs.Core.{Read}
 use Rattle.model_runs.specs.Sound.{IsSound}
 use Rattle.lasp_state.specs.State.{content_of, shape_of}
-use Rattle.lasp_drive.specs.Node.{NodeView, AreNodes}
-use Rattle.lasp_drive.specs.Reads.{no_reads}
+use Rattle.lasp_drive.specs.Node.{NodeView, AreNodes, HaveNoReads}
 use Rattle.lasp_drive.specs.Waiting.{AreWaiting}
 use Rattle.lasp_drive.specs.declared.driver.Mark.{Mark}
 use Rattle.lasp_drive.specs.declared.driver.OpenRead.{OpenRead}
@@ -77,4 +76,4 @@ pub record Starts (g : List Decl) (many : ℕ) (d : DriverView) : Type 0 where
   pub run : run_of d ≡ start g many
   pub stage : stage_of d ≡ opening_stage g
   pub calls : map (λ (n : NodeView). n.calls) d.nodes ≡ replicate many []
-  pub reads : map (λ (n : NodeView). n.reads) d.nodes ≡ replicate many no_reads
+  pub reads : HaveNoReads d.nodes

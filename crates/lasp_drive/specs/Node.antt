@@ -1,5 +1,6 @@
 -- What contracts see of a node, what its calls mean for its replica, and which nodes are those of one run.
 use Rattle.std.specs.Prelude.{◌≡◌, ℕ, ◌<◌, ◌≤◌, ◌++◌, ◌∷◌, [], List, slice_get, Option, Some, None, Result, Ok, Err, OnOk, OnErr, IfSome, IsTrue, length, map, replicate, is_some}
+use Rattle.std.specs.Option.{option_map}
 use Rattle.std.specs.Arc.{arc_value}
 use Rattle.std.specs.declared.sync.Arc.{Arc}
 use Rattle.model_states.specs.Content.{Content, size_of, row_limit}
@@ -20,11 +21,11 @@ use Rattle.lasp_state.specs.State as state
 use Rattle.lasp_state.specs.State.{op_of, IsOpOf, shown_state}
 use Rattle.lasp_state.specs.declared.op.Op as rust
 use Rattle.lasp_state.specs.declared.state.State.{State}
-use Rattle.lasp_drive.specs.Reads.{Reads, no_reads, next_read, opens, closes, releases, Grows}
+use Rattle.lasp_drive.specs.Reads.{Reads, no_reads, as_they_are, releases, Grows}
 use Rattle.lasp_drive.specs.declared.node.NodeStop.{NodeStop}
 use Rattle.lasp_drive.specs.declared.node.NodeStop.TheVariants as node
 
--- a node: its graph, its number, how many nodes there are, its sources and counts, its calls (the entries of its journal that are no results), what its variables hold, and its reads
+-- a node: its graph, its number, how many nodes there are, its sources and counts, its calls (the entries of its journal that are no results), what its variables hold, and, where it is its caller's alone, its reads
 pub record NodeView : Type 0 where
   pub decls : List Decl
   pub number : ℕ
@@ -32,15 +33,7 @@ pub record NodeView : Type 0 where
   pub peer : Peer
   pub calls : List Entry
   pub shown : List Content
-  pub reads : Reads
-
--- the node with other reads
-abbrev pub with_reads : NodeView → Reads → NodeView
-with_reads n reads = record { decls = n.decls; number = n.number; among = n.among; peer = n.peer; calls = n.calls; shown = n.shown; reads = reads }
-
--- its reads after one more was opened, of this variable
-abbrev pub opens_next : NodeView → ℕ → Threshold → Reads
-opens_next n x threshold = opens (next_read n.reads x threshold) (meets threshold (content_at n.shown x)) n.reads
+  pub reads : Option Reads
 
 -- ---- what a node is
 
@@ -58,12 +51,19 @@ IsStill old new = IsNode old.decls old.among old.number new
 abbrev pub AreNodes : List Decl → ℕ → List NodeView → Type 0
 AreNodes g many nodes = (p : ℕ) (n : NodeView) → slice_get nodes p ≡ Some n → IsNode g many p n
 
+-- no read was opened at a node, as far as its reads are told
+abbrev pub HasNoReads : NodeView → Type 0
+HasNoReads n = IfSome n.reads (λ s. s ≡ no_reads)
+
+abbrev pub HaveNoReads : List NodeView → Type 0
+HaveNoReads nodes = (p : ℕ) (n : NodeView) → slice_get nodes p ≡ Some n → HasNoReads n
+
 -- nothing has happened to the node
 pub record IsFresh (g : List Decl) (many p : ℕ) (n : NodeView) : Type 0 where
   pub node : IsNode g many p n
   pub peer : n.peer ≡ fresh_peer g many
   pub calls : n.calls ≡ []
-  pub reads : n.reads ≡ no_reads
+  pub reads : HasNoReads n
 
 -- the first so many nodes of a run, to which nothing has happened
 pub record AreFresh (g : List Decl) (many p : ℕ) (nodes : List NodeView) : Type 0 where
@@ -71,13 +71,13 @@ pub record AreFresh (g : List Decl) (many p : ℕ) (nodes : List NodeView) : Typ
   pub nodes_are : AreNodes g many nodes
   pub peers : map (λ (n : NodeView). n.peer) nodes ≡ replicate p (fresh_peer g many)
   pub calls : map (λ (n : NodeView). n.calls) nodes ≡ replicate p []
-  pub reads : map (λ (n : NodeView). n.reads) nodes ≡ replicate p no_reads
+  pub reads : HaveNoReads nodes
 
--- what always holds of a node: it shows of a source what its replica holds, of no variable more than the graph gives on the sources, and no read waits whose variable has come to its threshold
+-- what always holds of a node: it shows of a source what its replica holds, of no variable more than the graph gives on the sources, and of the reads that are told none waits whose variable has come to its threshold
 pub record ShowsNoMore (n : NodeView) : Type 0 where
   pub sources : (x : ℕ) → x < length n.decls → IsTrue (is_source (kind_at n.decls x)) → content_at n.shown x ≡ content_at n.peer.contents x
   pub bounded : ContentsAtMost n.shown (shown_at n.decls n.peer)
-  pub unmet : n.reads ≡ releases n.shown n.reads
+  pub unmet : IfSome n.reads (λ s. s ≡ releases n.shown s)
 
 -- its sources and counts are within the ranges of the message format
 abbrev pub HoldsLittle : NodeView → Type 0
@@ -129,22 +129,38 @@ Settles large (Err node.Memory) = Unit {0}
 -- each variable holds at least what it held, and the reads that so came to be met wait no more
 pub record Grew (old new : NodeView) : Type 0 where
   pub more : Grows old.shown new.shown
-  pub released : new.reads ≡ releases new.shown old.reads
+  pub released : new.reads ≡ option_map (releases new.shown) old.reads
 
--- a call that was done is the last of the node's calls, and what it shows grew; one that was refused has left the node as it was
+-- a node that was asked something is the node that it was, with the sources, counts and calls that it had. It may have learned results that others handed in: what it shows grew by them, and not at all where it showed what its graph gives on its sources
+pub record Learns (old new : NodeView) : Type 0 where
+  pub still : IsStill old new
+  pub peer : new.peer ≡ old.peer
+  pub calls : new.calls ≡ old.calls
+  pub more : Grows old.shown new.shown
+  pub settled : IsSettled old → new.shown ≡ old.shown
+
+-- the same, and of its reads those that came to be met wait no more, and the call made this of them
+pub record LearnsAnd (change : List Content → Reads → Reads) (old new : NodeView) : Type 0 where
+  pub learns : Learns old new
+  pub reads : new.reads ≡ option_map (λ s. change new.shown (releases new.shown s)) old.reads
+
+-- the same of a call that leaves the reads
+abbrev pub OnlyLearns : NodeView → NodeView → Type 0
+OnlyLearns old new = LearnsAnd as_they_are old new
+
+-- a call that was done is the last of the node's calls, and what it shows grew; by one that was refused the node learned at most
 pub record TakesIn {A E : Type 0} (a : model.Act) (old : NodeView) (result : Result A E) (new : NodeView) : Type 0 where
   pub still : IsStill old new
   pub calls : OnOk result (new.calls ≡ old.calls ++ fed a ∷ [])
   pub grew : OnOk result (Grew old new)
-  pub unchanged : OnErr result (new ≡ old)
+  pub refused : OnErr result (OnlyLearns old new)
 
 -- the node went on with one declaration more, of which nothing has happened
 pub record Extends (d : Decl) (old new : NodeView) : Type 0 where
   pub node : IsNode (old.decls ++ d ∷ []) old.among old.number new
   pub peer : new.peer ≡ extended old.among d old.peer
   pub calls : new.calls ≡ old.calls ++ fed (model.Extend d) ∷ []
-  pub reads : new.reads ≡ old.reads
-  pub more : Grows old.shown new.shown
+  pub grew : Grew old new
 
 -- only what is shown of derived variables changed, and with it which reads wait
 pub record OnlyGrew (old new : NodeView) : Type 0 where
@@ -152,6 +168,11 @@ pub record OnlyGrew (old new : NodeView) : Type 0 where
   pub peer : new.peer ≡ old.peer
   pub calls : new.calls ≡ old.calls
   pub grew : Grew old new
+
+-- a state is what the node's replica holds of a source
+pub record Holds (n : NodeView) (x : ℕ) (s : State) : Type 0 where
+  pub content : state.content_of s ≡ content_at n.peer.contents x
+  pub shape : state.shape_of s ≡ shape_of n.among (kind_at n.decls x)
 
 -- a state is what the node shows of a variable
 pub record Shows (n : NodeView) (x : ℕ) (s : State) : Type 0 where

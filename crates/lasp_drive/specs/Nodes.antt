@@ -1,5 +1,5 @@
 -- What a point and a declaration do to all nodes of a run.
-use Rattle.std.specs.Prelude.{◌≡◌, ℕ, ◌<◌, ◌≤◌, ◌++◌, ◌∷◌, [], List, length, map, Result, Ok, Err}
+use Rattle.std.specs.Prelude.{◌≡◌, ℕ, ◌<◌, ◌≤◌, ◌++◌, ◌∷◌, [], List, length, map, slice_get, Some, Result, Ok, Err}
 use Rattle.model_functions.specs.Library.{Library}
 use Rattle.model_graph.specs.Graph.{Decl}
 use Rattle.model_readings.specs.Lawful.{FitsAll}
@@ -9,7 +9,7 @@ use Rattle.model_journal.specs.Entry.{Entry}
 use Rattle.model_core.specs.Core.{Read}
 use Rattle.model_runs.specs.Calls.{fed}
 use Rattle.model_runs.specs.Held.{IsHeld}
-use Rattle.lasp_drive.specs.Node.{NodeView, AreNodes, AreSettled}
+use Rattle.lasp_drive.specs.Node.{NodeView, IsStill, AreNodes, AreSettled}
 use Rattle.lasp_drive.specs.Waiting.{AreWaiting, opened_counts}
 use Rattle.lasp_drive.specs.Acts.{Halts}
 use Rattle.lasp_drive.specs.declared.halt.Halt.{Halt}
@@ -32,6 +32,15 @@ pub record MaySettle (lib : Library) (g : List Decl) (nodes : List NodeView) : T
   pub nodes_are : AreNodes g (length nodes) nodes
   pub held : (p : ℕ) → p < length nodes → IsHeld (length nodes) g (peer_at (peers_of nodes) p)
   pub fits : FitsAll lib g
+
+-- the nodes were asked, and each learned at most: each is the node that stood there, with the sources, counts and calls that it had; they are settled where they were, and the reads that waited wait still unless they came to be met
+pub record AllLearn (old new : List NodeView) : Type 0 where
+  pub size : length new ≡ length old
+  pub still : (p : ℕ) (n : NodeView) → slice_get new p ≡ Some n → (m : NodeView) × (slice_get old p ≡ Some m) × IsStill m n
+  pub peers : peers_of new ≡ peers_of old
+  pub calls : calls_of new ≡ calls_of old
+  pub settled : AreSettled old → AreSettled new
+  pub reads : KeepReads old new
 
 -- every node is settled, and took in nothing
 pub record AllSettled (g : List Decl) (old new : List NodeView) : Type 0 where

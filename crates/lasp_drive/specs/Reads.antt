@@ -1,5 +1,5 @@
 -- The reads of a node: which of them wait, and how many were opened.
-use Rattle.std.specs.Prelude.{ℕ, ◌+◌, ◌-◌, ◌^◌, ◌==◌, min, Bool, not, if◌then◌else◌, IsTrue, List, [], ◌∷◌, ◌++◌, filter}
+use Rattle.std.specs.Prelude.{◌≡◌, ℕ, ◌+◌, ◌-◌, ◌^◌, ◌==◌, min, Bool, not, if◌then◌else◌, IsTrue, List, [], ◌∷◌, ◌++◌, filter, Option, IfSome}
 use Rattle.model_states.specs.Content.{Content}
 use Rattle.model_states.specs.Threshold.{Threshold, meets}
 use Rattle.model_graph.specs.Evaluation.{content_at}
@@ -20,6 +20,12 @@ opened_more opened = min (opened + 1) (2 ^ 64 - 1)
 -- the read of a variable that is opened next
 abbrev pub next_read : Reads → ℕ → Threshold → Read
 next_read s x threshold = record { number = s.opened; var = x; threshold = threshold }
+
+-- a read is one of variable x that waits for this threshold, and where the reads are told, under the next number
+pub record IsNextRead (reads : Option Reads) (x : ℕ) (threshold : Threshold) (r : Read) : Type 0 where
+  pub var : r.var ≡ x
+  pub waits_for : r.threshold ≡ threshold
+  pub number : IfSome reads (λ s. r.number ≡ s.opened)
 
 -- a read was opened: it waits, unless its variable was at the threshold
 abbrev pub opens : Read → Bool → Reads → Reads
@@ -44,3 +50,21 @@ Grows old new = (x : ℕ) (threshold : Threshold) → IsTrue (meets threshold (c
 -- a read was opened and closed again
 abbrev pub looks : Reads → Reads
 looks s = record { waiting = filter (λ r. not (r.number == s.opened)) s.waiting; opened = opened_more s.opened }
+
+-- ---- what calls make of the reads of a node that shows this
+
+-- nothing
+abbrev pub as_they_are : List Content → Reads → Reads
+as_they_are shown s = s
+
+-- one more was opened, of this variable
+abbrev pub opens_next : ℕ → Threshold → List Content → Reads → Reads
+opens_next x threshold shown s = opens (next_read s x threshold) (meets threshold (content_at shown x)) s
+
+-- the one of this number was closed
+abbrev pub closes_one : ℕ → List Content → Reads → Reads
+closes_one number shown s = closes number s
+
+-- one was opened and closed again
+abbrev pub looks_once : List Content → Reads → Reads
+looks_once shown s = looks s

@@ -1,5 +1,5 @@
 -- The run of a whole script, and what is written of it.
-use Rattle.std.specs.Prelude.{◌≡◌, ℕ, ◌<◌, ◌≤◌, List, length, Result, Ok, Err}
+use Rattle.std.specs.Prelude.{◌≡◌, ℕ, ◌<◌, ◌≤◌, List, length, Result, Ok, Err, IfSome}
 use Rattle.std.specs.declared.vec.Vec.{Vec}
 use Rattle.model_functions.specs.Library.{Library}
 use Rattle.model_graph.specs.Graph.{Decl}
@@ -38,8 +38,8 @@ pub record Ends (g : List Decl) (script : Script) (d : DriverView) : Type 0 wher
   pub stage : stage_of d ≡ stages_after script.nodes (opening_stage g) script.commands
   -- each node has got exactly the calls that the script makes at it, in their order
   pub calls : (p : ℕ) → p < script.nodes → calls_at d.nodes p ≡ calls 1 (start g script.nodes) p script.commands
-  -- and opened as many reads as the script has `read`s and `await`s there
-  pub opened : (p : ℕ) → p < script.nodes → opened_by d.nodes p ≡ all_asked p script.commands
+  -- and, where its reads are told, opened as many as the script has `read`s and `await`s there
+  pub opened : (p : ℕ) → p < script.nodes → IfSome (opened_by d.nodes p) (λ opened. opened ≡ all_asked p script.commands)
 
 -- a driver has come to the run's last world, or the run stopped, or memory was wanting
 abbrev pub RunsTo : {N R : Type 0} → (N → NodeView) → (R → Read) → List Decl → Script → Result (Driver N R) Halt → Type 0

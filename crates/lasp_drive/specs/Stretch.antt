@@ -9,10 +9,9 @@ use Rattle.model_scripts.specs.Progress.{grown}
 use Rattle.model_core.specs.Core.{Read}
 use Rattle.model_runs.specs.Calls.{calls}
 use Rattle.lasp_drive.specs.Node.{NodeView}
-use Rattle.lasp_drive.specs.Waiting.{opened_by}
-use Rattle.lasp_drive.specs.Calls.{calls_at, IsPart, GoesOnWithin}
+use Rattle.lasp_drive.specs.Waiting.{opened_by, counted_on}
+use Rattle.lasp_drive.specs.Calls.{calls_at, IsPart}
 use Rattle.lasp_drive.specs.Driver.{DriverView, seen, run_of, stage_of, Stands}
-use Rattle.lasp_drive.specs.Acts.{Halts}
 use Rattle.lasp_drive.specs.Play.{all_asked, stages_after, StopsAmong}
 use Rattle.lasp_drive.specs.declared.halt.Halt.{Halt}
 use Rattle.lasp_drive.specs.declared.driver.Driver.{Driver}
@@ -44,7 +43,7 @@ pub record GoesOn (b c : ℕ) (old now : DriverView) (all left : List plain.Comm
   pub stage : stages_after (length old.nodes) (stage_of now) left ≡ stages_after (length old.nodes) (stage_of old) all
   pub run : play c (run_of now) left ≡ play b (run_of old) all
   pub calls : (p : ℕ) → p < length old.nodes → IsPart (calls_at old.nodes p) (calls_at now.nodes p) (calls b (run_of old) p all) (calls c (run_of now) p left)
-  pub opened : (p : ℕ) → p < length old.nodes → opened_by now.nodes p + all_asked p left ≡ opened_by old.nodes p + all_asked p all
+  pub opened : (p : ℕ) → p < length old.nodes → counted_on (all_asked p left) (opened_by now.nodes p) ≡ counted_on (all_asked p all) (opened_by old.nodes p)
 
 -- the commands of a script from one place to another were done, and the others may be
 pub record IsAt (lib : Library) (from i : ℕ) (commands : List plain.Command) (old new : DriverView) : Type 0 where

@@ -3,7 +3,7 @@
 //! ```text
 //! let mut driver = Driver::of(alloc, graph, nodes);
 //! driver.run_through(alloc, lib, &script)?;
-//! let text = driver.report()?;
+//! let text = driver.report(alloc)?;
 //! let nodes = driver.into_nodes();
 //! ```
 #![tactic(auto)]

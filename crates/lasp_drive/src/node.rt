@@ -1,13 +1,13 @@
 //! What the driver asks of one node, whatever engine keeps its states.
 
 ghost use Rattle.std.specs.Prelude.{◌≡◌, ◌<◌, ◌≤◌, ◌++◌, ◌∷◌, [], ℕ, IfOk, OnOk, OnErr, IsTrue, length};
-ghost use Rattle.lasp_drive.specs.NodePrelude.{arc_value, Decl, is_source, kind_at, content_at, first_large, shape_of, updated, delivered, shown_at, message_at, FitsAll, Read, IsSentTo, IsMessage, op_of, content_of, state_shape, threshold_of, library_of, NodeView, with_reads, opens_next, IsFresh, ShowsNoMore, HoldsLittle, IsSettled, MayUpdate, MayRead, Updates, Delivers, Settles, TakesIn, Extends, OnlyGrew, Shows, Polls, next_read, closes};
+ghost use Rattle.lasp_drive.specs.NodePrelude.{arc_value, Decl, is_source, kind_at, meets, content_at, first_large, updated, delivered, shown_at, message_at, FitsAll, Read, IsSentTo, IsMessage, op_of, threshold_of, library_of, NodeView, IsFresh, ShowsNoMore, HoldsLittle, IsSettled, MayUpdate, MayRead, Updates, Delivers, Settles, Learns, LearnsAnd, OnlyLearns, TakesIn, Extends, OnlyGrew, Holds, Shows, Polls, IsNextRead, opens_next, closes_one, looks_once};
 ghost use Rattle.model_journal.specs.Entry as model;
 
 use lasp_fns::Library;
 use lasp_graph::Graph;
 use lasp_state::{Op, State, Threshold};
-use lasp_wire::Message;
+use lasp_wire::{Counts, Message};
 use std::alloc::{AllocError, Global};
 use std::sync::Arc;
 use thiserror::Error;
@@ -34,7 +34,7 @@ impl From<AllocError> for NodeStop {
     }
 }
 
-/// One node of a run.
+/// One node of a run. Others may use what stands behind it: by a call it may learn results that they handed in meanwhile, so asking it changes it, too. What it answers is told of the node as it was before the call.
 pub trait Node: Drop + Sized {
     /// A read that was opened at a node of this engine.
     type Read: Drop;
@@ -62,16 +62,19 @@ pub trait Node: Drop + Sized {
         ensures place { place self.new ≡ place self.old };
 
     /// What a source holds, shared.
-    fn source(&self, x: u8) -> &Arc<State>
-        requires var { x < length (view self.now).decls }
-        requires source { IsTrue (is_source (kind_at (view self.now).decls x)) }
-        ensures content { content_of (arc_value result.now) ≡ content_at (view self.now).peer.contents x }
-        ensures shape { state_shape (arc_value result.now) ≡ shape_of (view self.now).among (kind_at (view self.now).decls x) };
+    fn source(&mut self, x: u8) -> Result<Arc<State>, AllocError>
+        requires var { x < length (view self.old).decls }
+        requires source { IsTrue (is_source (kind_at (view self.old).decls x)) }
+        ensures holds { IfOk result (λ s. Holds (view self.old) x (arc_value s)) }
+        ensures learns { OnlyLearns (view self.old) (view self.new) }
+        ensures place { place self.new ≡ place self.old };
 
     /// What it sends: its counts and what its sources hold.
-    fn message(&self, alloc: Global) -> Result<Message, AllocError>
-        requires { IsMessage (message_at (view self.now).decls (view self.now).peer) }
-        ensures { IfOk result (λ m. m ≡ message_at (view self.now).decls (view self.now).peer) };
+    fn message(&mut self, alloc: Global) -> Result<Message, AllocError>
+        requires { IsMessage (message_at (view self.old).decls (view self.old).peer) }
+        ensures message { IfOk result (λ m. m ≡ message_at (view self.old).decls (view self.old).peer) }
+        ensures learns { OnlyLearns (view self.old) (view self.new) }
+        ensures place { place self.new ≡ place self.old };
 
     /// Takes message i of all that were sent: its sources are joined in, and the counts become the larger ones.
     fn deliver(&mut self, alloc: Global, i: u32, m: &Arc<Message>) -> Result<(), NodeStop>
@@ -85,7 +88,7 @@ pub trait Node: Drop + Sized {
     fn extend(&mut self, alloc: Global, graph: &Arc<Graph>) -> Result<(), AllocError>
         requires { (d : Decl) × (arc_value graph.now ≡ (view self.old).decls ++ d ∷ []) }
         ensures ok { (d : Decl) → arc_value graph.now ≡ (view self.old).decls ++ d ∷ [] → OnOk result (Extends d (view self.old) (view self.new)) }
-        ensures err { OnErr result (view self.new ≡ view self.old) }
+        ensures err { OnErr result (OnlyLearns (view self.old) (view self.new)) }
         ensures place { place self.new ≡ place self.old };
 
     /// Brings every derived variable to what its process gives on the present sources.
@@ -97,11 +100,13 @@ pub trait Node: Drop + Sized {
         ensures grew { OnlyGrew (view self.old) (view self.new) }
         ensures place { place self.new ≡ place self.old };
 
-    /// The state of a variable of a settled node: what is shown of it.
-    fn state(&self, x: u8) -> &State
-        requires settled { IsSettled (view self.now) }
-        requires var { x < length (view self.now).decls }
-        ensures { Shows (view self.now) x result.now };
+    /// The state of a variable of a settled node, shared: what is shown of it.
+    fn state(&mut self, x: u8) -> Result<Arc<State>, AllocError>
+        requires settled { IsSettled (view self.old) }
+        requires var { x < length (view self.old).decls }
+        ensures shows { IfOk result (λ s. Shows (view self.old) x (arc_value s)) }
+        ensures learns { OnlyLearns (view self.old) (view self.new) }
+        ensures place { place self.new ≡ place self.old };
 
     /// Opens a read, under the next number. It waits for its variable to come to the threshold, unless it is there.
     fn open_read(
@@ -111,25 +116,38 @@ pub trait Node: Drop + Sized {
         threshold: Threshold,
     ) -> Result<Self::Read, AllocError>
         requires { MayRead (view self.old) x (threshold_of threshold) }
-        ensures read { IfOk result (λ r. read r ≡ next_read (view self.old).reads x (threshold_of threshold)) }
-        ensures ok { OnOk result (view self.new ≡ with_reads (view self.old) (opens_next (view self.old) x (threshold_of threshold))) }
-        ensures err { OnErr result (view self.new ≡ view self.old) }
+        ensures read { IfOk result (λ r. IsNextRead (view self.old).reads x (threshold_of threshold) (read r)) }
+        ensures ok { OnOk result (LearnsAnd (opens_next x (threshold_of threshold)) (view self.old) (view self.new)) }
+        ensures err { OnErr result (OnlyLearns (view self.old) (view self.new)) }
         ensures place { place self.new ≡ place self.old };
 
     /// The state of a read's variable, shared, where it is at the threshold.
-    fn poll_read(&self, r: &Self::Read) -> Result<Option<Arc<State>>, AllocError>
-        requires settled { IsSettled (view self.now) }
-        requires may { MayRead (view self.now) (read r.now).var (read r.now).threshold }
-        ensures { IfOk result (λ found. Polls (view self.now) (read r.now) found) };
+    fn poll_read(&mut self, r: &Self::Read) -> Result<Option<Arc<State>>, AllocError>
+        requires settled { IsSettled (view self.old) }
+        requires may { MayRead (view self.old) (read r.now).var (read r.now).threshold }
+        ensures polls { IfOk result (λ found. Polls (view self.old) (read r.now) found) }
+        ensures learns { OnlyLearns (view self.old) (view self.new) }
+        ensures place { place self.new ≡ place self.old };
 
     /// Closes a read: it waits no more.
     fn close_read(&mut self, r: &Self::Read)
-        ensures closed { view self.new ≡ with_reads (view self.old) (closes (read r.now).number (view self.old).reads) }
+        ensures closed { LearnsAnd (closes_one (read r.now).number) (view self.old) (view self.new) }
         ensures place { place self.new ≡ place self.old };
 
-    /// How many updates of each replica it knows.
-    fn counts(&self) -> &[u64]
-        ensures { result.now ≡ (view self.now).peer.counts };
+    /// Whether a variable of a settled node is at the threshold, asked by a read that waits no more then. Where memory was wanting, it isn't told which reads wait.
+    fn reached(&mut self, alloc: Global, x: u8, threshold: Threshold) -> Result<bool, AllocError>
+        requires settled { IsSettled (view self.old) }
+        requires may { MayRead (view self.old) x (threshold_of threshold) }
+        ensures reached { IfOk result (λ reached. reached ≡ meets (threshold_of threshold) (content_at (view self.old).shown x)) }
+        ensures looked { OnOk result (LearnsAnd looks_once (view self.old) (view self.new)) }
+        ensures learns { Learns (view self.old) (view self.new) }
+        ensures place { place self.new ≡ place self.old };
+
+    /// How many updates of each replica it knows, copied: 8 at most.
+    fn counts(&mut self, alloc: Global) -> Result<Counts, AllocError>
+        ensures counts { IfOk result (λ counts. counts ≡ (view self.old).peer.counts) }
+        ensures learns { OnlyLearns (view self.old) (view self.new) }
+        ensures place { place self.new ≡ place self.old };
 }
 
 /// A node that needs nothing but its graph to begin with.

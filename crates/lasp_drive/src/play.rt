@@ -19,8 +19,14 @@ use std::sync::Arc;
 pub use stretch::{advance, is_point};
 
 impl<N: Node> Driver<N> {
-    /// Does command number c.
-    fn step(&mut self, alloc: Global, lib: &Library, c: u32, command: &Command) -> Result<(), Halt>
+    /// Does command number c: a point, too, between the stretches of a run.
+    pub fn step(
+        &mut self,
+        alloc: Global,
+        lib: &Library,
+        c: u32,
+        command: &Command,
+    ) -> Result<(), Halt>
         requires may { MayStep N.view N.read c self.old (command_of command.now) }
         requires graph { IsGraph (grown (arc_value self.old.graph) (command_of command.now ∷ [])) }
         requires fits { FitsAll (library_of lib.now) (arc_value self.old.graph) }
@@ -89,7 +95,7 @@ pub fn drive_on<N: FreshNode>(
     ensures { Reports (ended (arc_value graph.now) script.now) report_of result }
 {
     match run_on::<N>(alloc, graph, lib, script) {
-        Ok(driver) => Ok(driver.report()?),
+        Ok(mut driver) => Ok(driver.report(alloc)?),
         Err(halt) => Err(halt),
     }
 }
@@ -107,7 +113,7 @@ pub fn export_on<N: FreshNode>(
     ensures { Reports (ended (arc_value graph.now) script.now) (exported node) result }
 {
     match run_on::<N>(alloc, graph, lib, script) {
-        Ok(driver) => Ok(driver.export(alloc, node)?),
+        Ok(mut driver) => Ok(driver.export(alloc, node)?),
         Err(halt) => Err(halt),
     }
 }

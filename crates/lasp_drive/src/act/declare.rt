@@ -26,9 +26,7 @@ fn extend_all<N: Node>(
     ensures place { map N.place nodes.new.items ≡ map N.place nodes.old.items }
 {
     for p in 0..nodes.len() {
-        let node = &mut nodes[p];
-        node.extend(alloc, graph)?;
-        node.recall();
+        nodes[p].extend(alloc, graph)?;
     }
     Ok(())
 }

@@ -10,7 +10,6 @@ use crate::halt::Halt;
 use crate::node::Node;
 use lasp_script::Until;
 use std::alloc::Global;
-use std::sync::Arc;
 
 impl<N: Node> Driver<N> {
     /// Marks what source x of node p holds; it is shared.
@@ -18,7 +17,7 @@ impl<N: Node> Driver<N> {
         requires { MayAct N.view N.read c self.old (Keep p x) }
         ensures { Passes N.view N.read N.place c self.old (Keep p x ∷ []) result self.new }
     {
-        let state = Arc::try_clone(self.nodes[p as usize].source(x))?;
+        let state = self.nodes[p as usize].source(x)?;
         self.marks.push(Mark { var: x, state })?;
         Ok(())
     }

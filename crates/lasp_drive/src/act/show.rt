@@ -1,9 +1,8 @@
 //! What a settled node shows: a printed line, or whether a threshold is reached.
 
-ghost use Rattle.std.specs.Prelude.{◌≡◌, ◌+◌, ◌∷◌, [], map, slice_get, Some, IfOk, OnOk};
-ghost use Rattle.lasp_drive.specs.Prelude.{meets, content_at, Show, Reach, until_of, NodeView, with_reads, IsSettled, MayRead, looks, LooksAt, marked_of, Acts, Passes, MayAct, Reaches, UnlessMemory};
+ghost use Rattle.std.specs.Prelude.{◌≡◌, ◌+◌, ◌∷◌, [], map, slice_get, Some, OnOk};
+ghost use Rattle.lasp_drive.specs.Prelude.{meets, content_at, Show, Reach, until_of, NodeView, LooksAt, marked_of, Acts, Passes, MayAct, Reaches, UnlessMemory};
 ghost use Rattle.model_world.specs.World as world;
-ghost use Rattle.lasp_state.specs.Threshold.{threshold_of};
 
 use super::threshold::threshold_of;
 use crate::driver::Driver;
@@ -11,28 +10,7 @@ use crate::halt::Halt;
 use crate::node::Node;
 use crate::text::print_line;
 use lasp_script::Until;
-use lasp_state::Threshold;
-use std::alloc::{AllocError, Global};
-
-/// Whether variable x of a settled node is at the threshold: a read of it is opened, polled and closed.
-fn has_reached<N: Node>(
-    node: &mut N,
-    alloc: Global,
-    x: u8,
-    threshold: Threshold,
-) -> Result<bool, AllocError>
-    requires settled { IsSettled (N.view node.old) }
-    requires may { MayRead (N.view node.old) x (threshold_of threshold) }
-    ensures looked { OnOk result (N.view node.new ≡ with_reads (N.view node.old) (looks (N.view node.old).reads)) }
-    ensures reached { IfOk result (λ reached. reached ≡ meets (threshold_of threshold) (content_at (N.view node.old).shown x)) }
-    ensures calls { (N.view node.new).calls ≡ (N.view node.old).calls }
-    ensures place { N.place node.new ≡ N.place node.old }
-{
-    let read = node.open_read(alloc, x, threshold)?;
-    let polled = node.poll_read(&read);
-    node.close_read(&read);
-    Ok(polled?.is_some())
-}
+use std::alloc::Global;
 
 impl<N: Node> Driver<N> {
     /// Prints variable x of node p.
@@ -40,12 +18,12 @@ impl<N: Node> Driver<N> {
         requires { MayAct N.view N.read c self.old (Show p x) }
         ensures { Passes N.view N.read N.place c self.old (Show p x ∷ []) result self.new }
     {
-        let state = self.nodes[p as usize].state(x);
+        let state = self.nodes[p as usize].state(x)?;
         print_line(
             &mut self.text,
             p,
             self.graph.at(x as u64).name.as_str(),
-            state,
+            &state,
         )?;
         Ok(())
     }
@@ -59,7 +37,7 @@ impl<N: Node> Driver<N> {
         ensures same { OnOk result (self.new.reads ≡ self.old.reads) }
     {
         let threshold = threshold_of(alloc, &self.marks, until)?;
-        if has_reached(&mut self.nodes[p as usize], alloc, x, threshold)? {
+        if self.nodes[p as usize].reached(alloc, x, threshold)? {
             Ok(())
         } else {
             Err(Halt::NotReached(c))

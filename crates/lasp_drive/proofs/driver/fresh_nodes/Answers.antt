@@ -1,4 +1,4 @@
-use Rattle.std.proofs.Common.{◌+◌, ◌++◌, ◌∷◌, [], map, ap, ◌∙◌, subst, sym, arith}
+use Rattle.std.proofs.Common.{◌+◌, map, ap, ◌∙◌, subst, sym, arith}
 use Rattle.std.specs.Prelude.{List}
 use Rattle.std.specs.Arc.{arc_value}
 use Rattle.std.proofs.lemmas.List.{map-append}

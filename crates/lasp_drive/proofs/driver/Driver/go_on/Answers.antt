@@ -1,4 +1,4 @@
-use Rattle.std.proofs.Common.{ℕ, ◌≡◌, ◌+◌, ◌<◌, ◌≤◌, refl, length, map, arith, ◌∙◌, sym, subst}
+use Rattle.std.proofs.Common.{ℕ, ◌≡◌, refl, map, arith, ◌∙◌, sym, subst}
 use Rattle.lasp_graph.specs.Library.{library_of}
 use Rattle.lasp_script.specs.Command.{command_of}
 use Rattle.lasp_drive.specs.Driver.{seen}

@@ -1,7 +1,6 @@
-use Rattle.std.proofs.Common.{◌∷◌, [], length, refl, ap}
+use Rattle.std.proofs.Common.{◌∷◌, [], length, refl}
 use Rattle.std.specs.Arc.{arc_value}
 use Rattle.model_world.specs.World.{Take, delivered, sent_number}
-use Rattle.lasp_drive.specs.Node.{NodeView}
 use Rattle.lasp_drive.specs.Driver.{seen, run_of}
 use Rattle.lasp_drive.specs.Acts.{Acted, StopsWithin}
 use Rattle.lasp_drive.specs.declared.halt.Halt.TheVariants as halt
@@ -49,7 +48,7 @@ returns-in-Err-TooLarge g c =
     let at = seen-at g.N.Node.view nodes c.args.p c.index_mut.result.now (seen-low g.N.Node.view nodes c.args.p c.requires.may.lawful.0) c.index_mut.ensures.value in
     record {
       acts = seen-set g.N.Node.view nodes c.args.p c.deliver.new.self (λ ns. StopsWithin c.args.c d (Take c.args.p c.args.i ∷ []) (halt.TooLarge c.args.c c.args.p c.in-Err-TooLarge.x) ns)
-          (stops-at c.args.c c.args.p d (Take c.args.p c.args.i) (halt.TooLarge c.args.c c.args.p c.in-Err-TooLarge.x) n (g.N.Node.view c.deliver.new.self) at (ap (λ (m : NodeView). m.calls) c.in-Err-TooLarge.ensures.takes.unchanged)
+          (stops-at c.args.c c.args.p d (Take c.args.p c.args.i) (halt.TooLarge c.args.c c.args.p c.in-Err-TooLarge.x) n (g.N.Node.view c.deliver.new.self) at c.in-Err-TooLarge.ensures.takes.refused.learns.calls
           (deliver-stops (run_of d) m (sent_number d.sent c.args.i) d.nodes c.args.c c.args.p c.in-Err-TooLarge.x n (c.requires.may.ready.nodes c.args.p n at).graph (sent-read d.sent c.args.i m c.requires.message) at
           (stopped-delivery (delivered n.decls m n.peer) (g.N.Node.view c.deliver.new.self).peer c.in-Err-TooLarge.field-0 c.in-Err-TooLarge.x c.in-Err-TooLarge.field-0-is c.in-Err-TooLarge.ensures.done)));
       reads = tt;
@@ -63,7 +62,7 @@ returns-in-Err-Memory g c =
     let at = seen-at g.N.Node.view nodes c.args.p c.index_mut.result.now (seen-low g.N.Node.view nodes c.args.p c.requires.may.lawful.0) c.index_mut.ensures.value in
     record {
       acts = seen-set g.N.Node.view nodes c.args.p c.deliver.new.self (λ ns. StopsWithin c.args.c d (Take c.args.p c.args.i ∷ []) halt.Memory ns)
-          (stops-at c.args.c c.args.p d (Take c.args.p c.args.i) halt.Memory (g.N.Node.view c.index_mut.result.now) (g.N.Node.view c.deliver.new.self) at (ap (λ (m : NodeView). m.calls) c.in-Err-Memory.ensures.takes.unchanged) tt);
+          (stops-at c.args.c c.args.p d (Take c.args.p c.args.i) halt.Memory (g.N.Node.view c.index_mut.result.now) (g.N.Node.view c.deliver.new.self) at c.in-Err-Memory.ensures.takes.refused.learns.calls tt);
       reads = tt;
       in_place = same-place g.N.Node.place nodes c.args.p c.index_mut.result.now c.deliver.new.self (seen-low g.N.Node.view nodes c.args.p c.requires.may.lawful.0) c.index_mut.ensures.value c.deliver.ensures.place;
     }

@@ -1,5 +1,5 @@
 use Rattle.std.proofs.Common.{rules, arith, ◌≡◌, ◌+◌, ◌++◌, ◌∷◌, [], map, length, sym, subst, ap, ◌∙◌, refl}
-use Rattle.std.specs.Prelude.{List, slice_set}
+use Rattle.std.specs.Prelude.{List, Option, None, slice_set}
 use Rattle.std.proofs.lemmas.List.{map-append, map-set}
 use Rattle.model_core.specs.Core.{Read}
 use Rattle.model_states.specs.Threshold.{Threshold}
@@ -7,8 +7,8 @@ use Rattle.model_world.specs.World as world
 use Rattle.model_world.specs.World.{Open}
 use Rattle.lasp_state.specs.Threshold.{threshold_of}
 use Rattle.lasp_script.specs.Command.{until_of}
-use Rattle.lasp_drive.specs.Node.{NodeView, with_reads, opens_next}
-use Rattle.lasp_drive.specs.Reads.{Reads, no_reads, next_read}
+use Rattle.lasp_drive.specs.Node.{NodeView, LearnsAnd}
+use Rattle.lasp_drive.specs.Reads.{Reads, IsNextRead, opens_next}
 use Rattle.lasp_drive.specs.Driver.{read_seen, seen, marked_of}
 use Rattle.lasp_drive.specs.Acts.{Acted, StopsWithin}
 use Rattle.lasp_drive.specs.Play.{IsUntilWithin}
@@ -41,32 +41,38 @@ returns-clause-acts g c =
     let until = until_of c.args.until.now in
     let t = world.threshold_of (map marked_of d.marks) until in
     let n = g.N.Node.view c.index_mut.result.now in
+    let new = g.N.Node.view c.open_read.new.self in
+    let r = g.N.Node.read c.in_ok-read.read in
     let marks : c.deref.result.now ≡ c.args.self.now.marks.items = search rules in
     let same : threshold_of c.in_ok-threshold.threshold ≡ t = c.in_ok-threshold.ensures ∙ ap (λ (ms : List Mark). world.threshold_of (map marked_of ms) until) marks in
-    let at = seen-at g.N.Node.view nodes c.args.p c.index_mut.result.now (seen-low g.N.Node.view nodes c.args.p c.requires.lawful.0.0) c.index_mut.ensures.value in
-    let reads : map (read_seen g.N.Node.read) c.push.new.self.items ≡ d.reads ++ open_read c.args.p (g.N.Node.read c.in_ok-read.read) ∷ [] =
+    let low = seen-low g.N.Node.view nodes c.args.p c.requires.lawful.0.0 in
+    let at = seen-at g.N.Node.view nodes c.args.p c.index_mut.result.now low c.index_mut.ensures.value in
+    let reads : map (read_seen g.N.Node.read) c.push.new.self.items ≡ d.reads ++ open_read c.args.p r ∷ [] =
     ap (map (read_seen g.N.Node.read)) c.in_ok-push.ensures.items ∙ map-append (read_seen g.N.Node.read) c.args.self.now.reads.items _ in
     record {
       acts = subst (λ (rs : List (OpenRead Read)). Acted c.args.c (c.args.c + 1) d (Open c.args.p c.args.x until ∷ []) (with_both d (map g.N.Node.view (slice_set nodes c.args.p c.open_read.new.self)) rs)) (sym reads)
-          (seen-set g.N.Node.view nodes c.args.p c.open_read.new.self (λ ns. Acted c.args.c (c.args.c + 1) d (Open c.args.p c.args.x until ∷ []) (with_both d ns (d.reads ++ open_read c.args.p (g.N.Node.read c.in_ok-read.read) ∷ [])))
-          (subst (λ (m : NodeView). Acted c.args.c (c.args.c + 1) d (Open c.args.p c.args.x until ∷ []) (with_both d (slice_set d.nodes c.args.p m) (d.reads ++ open_read c.args.p (g.N.Node.read c.in_ok-read.read) ∷ [])))
-          (sym (c.in_ok-read.ensures.ok ∙ ap (λ (u : Threshold). with_reads n (opens_next n c.args.x u)) same))
-          (acted-open c.args.c c.args.p c.args.x until d n (g.N.Node.read c.in_ok-read.read) c.requires.ready c.requires.lawful at (omega arith) (c.in_ok-read.ensures.read ∙ ap (next_read n.reads c.args.x) same))));
-      in_place = same-place g.N.Node.place nodes c.args.p c.index_mut.result.now c.open_read.new.self (seen-low g.N.Node.view nodes c.args.p c.requires.lawful.0.0) c.index_mut.ensures.value c.open_read.ensures.place;
+          (seen-set g.N.Node.view nodes c.args.p c.open_read.new.self (λ ns. Acted c.args.c (c.args.c + 1) d (Open c.args.p c.args.x until ∷ []) (with_both d ns (d.reads ++ open_read c.args.p r ∷ [])))
+          (acted-open c.args.c c.args.p c.args.x until d n new r c.requires.ready c.requires.lawful at (omega arith)
+          (subst (λ (u : Threshold). IsNextRead n.reads c.args.x u r) same c.in_ok-read.ensures.read) (subst (λ (u : Threshold). LearnsAnd (opens_next c.args.x u) n new) same c.in_ok-read.ensures.ok)));
+      in_place = same-place g.N.Node.place nodes c.args.p c.index_mut.result.now c.open_read.new.self low c.index_mut.ensures.value c.open_read.ensures.place;
     }
 
 pub returns-clause-reads : goal.returns-clause-reads
-returns-clause-reads g c m there =
+returns-clause-reads g c =
     let d = seen g.N.Node.view g.N.Node.read c.args.self.now in
     let nodes = c.args.self.now.nodes.items in
     let until = until_of c.args.until.now in
     let t = world.threshold_of (map marked_of d.marks) until in
     let n = g.N.Node.view c.index_mut.result.now in
+    let new = g.N.Node.view c.open_read.new.self in
     let marks : c.deref.result.now ≡ c.args.self.now.marks.items = search rules in
     let same : threshold_of c.in_ok-threshold.threshold ≡ t = c.in_ok-threshold.ensures ∙ ap (λ (ms : List Mark). world.threshold_of (map marked_of ms) until) marks in
     let at = seen-at g.N.Node.view nodes c.args.p c.index_mut.result.now (seen-low g.N.Node.view nodes c.args.p c.requires.lawful.0.0) c.index_mut.ensures.value in
-    map-set g.N.Node.view nodes c.args.p c.open_read.new.self
-    ∙ ap (slice_set d.nodes c.args.p) (c.in_ok-read.ensures.ok ∙ ap (λ (u : Threshold). with_reads n (opens_next n c.args.x u)) same ∙ ap (λ (k : NodeView). with_reads k (opens_next k c.args.x t)) (same-node d.nodes c.args.p n m at there))
+    record {
+      now = new;
+      is = map-set g.N.Node.view nodes c.args.p c.open_read.new.self;
+      learns = λ m there. subst (λ (k : NodeView). LearnsAnd (opens_next c.args.x t) k new) (same-node d.nodes c.args.p n m at there) (subst (λ (u : Threshold). LearnsAnd (opens_next c.args.x u) n new) same c.in_ok-read.ensures.ok);
+    }
 
 pub returns-clause-opened : goal.returns-clause-opened
 returns-clause-opened g c =
@@ -75,13 +81,14 @@ returns-clause-opened g c =
     let until = until_of c.args.until.now in
     let t = world.threshold_of (map marked_of d.marks) until in
     let n = g.N.Node.view c.index_mut.result.now in
+    let r = g.N.Node.read c.in_ok-read.read in
     let marks : c.deref.result.now ≡ c.args.self.now.marks.items = search rules in
     let same : threshold_of c.in_ok-threshold.threshold ≡ t = c.in_ok-threshold.ensures ∙ ap (λ (ms : List Mark). world.threshold_of (map marked_of ms) until) marks in
     let at = seen-at g.N.Node.view nodes c.args.p c.index_mut.result.now (seen-low g.N.Node.view nodes c.args.p c.requires.lawful.0.0) c.index_mut.ensures.value in
     record {
       handle = c.in_ok-read.read;
       reads_are = c.in_ok-push.ensures.items;
-      is = c.in_ok-read.ensures.read ∙ ap (next_read n.reads c.args.x) same ∙ ap (λ (s : Reads). next_read s c.args.x t) (sym (mapped-or (λ (k : NodeView). k.reads) d.nodes c.args.p n no_reads at));
+      is = subst (λ (o : Option Reads). IsNextRead o c.args.x t r) (sym (mapped-or (λ (k : NodeView). k.reads) d.nodes c.args.p n None at)) (subst (λ (u : Threshold). IsNextRead n.reads c.args.x u r) same c.in_ok-read.ensures.read);
     }
 
 pub returns-in_err-threshold-clause-acts : goal.returns-in_err-threshold-clause-acts
@@ -99,7 +106,7 @@ returns-in_err-read-clause-acts g c =
     let p = err_from_is_err_and c.from_residual-in_err-read.result c.from_residual-in_err-read.ensures.1 in
     rw (p.1, p.2) (record {
       acts = seen-set g.N.Node.view nodes c.args.p c.open_read.new.self (λ ns. StopsWithin c.args.c d (a ∷ []) halt.Memory ns)
-          (stops-at c.args.c c.args.p d a halt.Memory (g.N.Node.view c.index_mut.result.now) (g.N.Node.view c.open_read.new.self) at (ap (λ (m : NodeView). m.calls) c.in_err-read.ensures.err) tt);
+          (stops-at c.args.c c.args.p d a halt.Memory (g.N.Node.view c.index_mut.result.now) (g.N.Node.view c.open_read.new.self) at c.in_err-read.ensures.err.learns.calls tt);
       in_place = same-place g.N.Node.place nodes c.args.p c.index_mut.result.now c.open_read.new.self low c.index_mut.ensures.value c.open_read.ensures.place;
     })
 
@@ -113,6 +120,6 @@ returns-in_err-push-clause-acts g c =
     let p = err_from_is_err_and c.from_residual-in_err-push.result c.from_residual-in_err-push.ensures.1 in
     rw (p.1, p.2) (record {
       acts = seen-set g.N.Node.view nodes c.args.p c.open_read.new.self (λ ns. StopsWithin c.args.c d (a ∷ []) halt.Memory ns)
-          (stops-at c.args.c c.args.p d a halt.Memory (g.N.Node.view c.index_mut.result.now) (g.N.Node.view c.open_read.new.self) at (ap (λ (m : NodeView). m.calls) c.in_ok-read.ensures.ok) tt);
+          (stops-at c.args.c c.args.p d a halt.Memory (g.N.Node.view c.index_mut.result.now) (g.N.Node.view c.open_read.new.self) at c.in_ok-read.ensures.ok.learns.calls tt);
       in_place = same-place g.N.Node.place nodes c.args.p c.index_mut.result.now c.open_read.new.self low c.index_mut.ensures.value c.open_read.ensures.place;
     })

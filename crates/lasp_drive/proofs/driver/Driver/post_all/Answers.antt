@@ -1,6 +1,5 @@
 use Rattle.std.proofs.Common.{refl, ◌<◌, length, map, ◌∙◌, arith}
 use Rattle.std.proofs.lemmas.List.{length-map}
-use Rattle.std.specs.List.{range_with_len}
 use Rattle.model_world.specs.World.{Post}
 use Rattle.lasp_drive.specs.Driver.{seen}
 use Rattle.lasp_drive.proofs.ActLaws.{acted-none, done-next, done-stops, done-all, posts-parts}

@@ -1,8 +1,7 @@
 use Rattle.std.proofs.Common.{◌≡◌, ◌≤◌, length, map}
-use Rattle.std.specs.Prelude.{flat_map}
-use Rattle.model_world.specs.World.{Post, takes}
+use Rattle.model_world.specs.World.{Post}
 use Rattle.lasp_drive.specs.Driver.{seen}
-use Rattle.lasp_drive.proofs.ActLaws.{takes_of, AreDone}
+use Rattle.lasp_drive.proofs.ActLaws.{AreDone}
 use Rattle.lasp_drive.proofs.driver.Driver.post_all.Given as goal
 
 abbrev pub invariant-loop-p : goal.invariant-loop-p

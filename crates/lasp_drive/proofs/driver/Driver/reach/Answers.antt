@@ -1,5 +1,5 @@
 use Rattle.std.proofs.Common.{rules, arith, ◌≡◌, ◌+◌, ◌∷◌, [], refl, map, length, sym, subst, ap, ◌∙◌}
-use Rattle.std.specs.Prelude.{List, Bool, Ok, Err, if◌then◌else◌, slice_set}
+use Rattle.std.specs.Prelude.{List}
 use Rattle.std.proofs.lemmas.List.{map-set}
 use Rattle.model_states.specs.Threshold.{Threshold, meets}
 use Rattle.model_graph.specs.Evaluation.{content_at}
@@ -7,9 +7,9 @@ use Rattle.model_world.specs.World as world
 use Rattle.model_world.specs.World.{Reach, act}
 use Rattle.lasp_state.specs.Threshold.{threshold_of}
 use Rattle.lasp_script.specs.Command.{until_of}
-use Rattle.lasp_drive.specs.Node.{NodeView, with_reads}
-use Rattle.lasp_drive.specs.Reads.{looks}
-use Rattle.lasp_drive.specs.Driver.{seen, run_of, marked_of}
+use Rattle.lasp_drive.specs.Node.{NodeView, LearnsAnd}
+use Rattle.lasp_drive.specs.Reads.{looks_once}
+use Rattle.lasp_drive.specs.Driver.{seen, marked_of}
 use Rattle.lasp_drive.specs.Acts.{Acted, StopsWithin}
 use Rattle.lasp_drive.specs.Play.{IsUntilWithin}
 use Rattle.lasp_drive.specs.declared.driver.Mark.{Mark}
@@ -25,12 +25,12 @@ threshold_of-requires g c =
     let marks : c.deref.result.now ≡ c.args.self.now.marks.items = search rules in
     subst (λ (ms : List Mark). IsUntilWithin (length ms) c.args.until.now) (sym marks) (until-within (seen g.N.Node.view g.N.Node.read c.args.self.now) c.args.x c.args.until.now c.requires.lawful.1)
 
-pub has_reached-requires-clause-settled : goal.has_reached-requires-clause-settled
-has_reached-requires-clause-settled g c =
+pub reached-requires-clause-settled : goal.reached-requires-clause-settled
+reached-requires-clause-settled g c =
     c.requires.lawful.2 c.args.p (g.N.Node.view c.index_mut.result.now) (seen-at g.N.Node.view c.args.self.now.nodes.items c.args.p c.index_mut.result.now (seen-low g.N.Node.view c.args.self.now.nodes.items c.args.p c.requires.lawful.0.0) c.index_mut.ensures.value)
 
-pub has_reached-requires-clause-may : goal.has_reached-requires-clause-may
-has_reached-requires-clause-may g c =
+pub reached-requires-clause-may : goal.reached-requires-clause-may
+reached-requires-clause-may g c =
     let d = seen g.N.Node.view g.N.Node.read c.args.self.now in
     let marks : c.deref.result.now ≡ c.args.self.now.marks.items = search rules in
     let at = seen-at g.N.Node.view c.args.self.now.nodes.items c.args.p c.index_mut.result.now (seen-low g.N.Node.view c.args.self.now.nodes.items c.args.p c.requires.lawful.0.0) c.index_mut.ensures.value in
@@ -47,11 +47,10 @@ returns-then-branch-clause-acts g c =
     let same : threshold_of c.in_ok-threshold.threshold ≡ world.threshold_of (map marked_of d.marks) until = c.in_ok-threshold.ensures ∙ ap (λ (ms : List Mark). world.threshold_of (map marked_of ms) until) marks in
     let at = seen-at g.N.Node.view nodes c.args.p c.index_mut.result.now (seen-low g.N.Node.view nodes c.args.p c.requires.lawful.0.0) c.index_mut.ensures.value in
     record {
-      acts = seen-set g.N.Node.view nodes c.args.p c.has_reached.new.node (λ ns. Acted c.args.c (c.args.c + 1) d (Reach c.args.p c.args.x until ∷ []) (with_nodes d ns))
-          (subst (λ (m : NodeView). Acted c.args.c (c.args.c + 1) d (Reach c.args.p c.args.x until ∷ []) (with_nodes d (slice_set d.nodes c.args.p m))) (sym c.in_ok-has_reached.ensures.looked)
-          (acted-reach c.args.c c.args.p c.args.x until d n c.requires.ready at (omega arith)
-          (reach-met c.args.c c.args.p c.args.x until d n (threshold_of c.in_ok-threshold.threshold) c.in_ok-has_reached.field-0 c.requires.ready c.requires.lawful.2 at same c.in_ok-has_reached.ensures.reached c.if-branch.true)));
-      in_place = same-place g.N.Node.place nodes c.args.p c.index_mut.result.now c.has_reached.new.node (seen-low g.N.Node.view nodes c.args.p c.requires.lawful.0.0) c.index_mut.ensures.value c.has_reached.ensures.place;
+      acts = seen-set g.N.Node.view nodes c.args.p c.reached.new.self (λ ns. Acted c.args.c (c.args.c + 1) d (Reach c.args.p c.args.x until ∷ []) (with_nodes d ns))
+          (acted-reach c.args.c c.args.p c.args.x until d n (g.N.Node.view c.reached.new.self) c.requires.ready at (omega arith) c.in_ok-reached.ensures.looked
+          (reach-met c.args.c c.args.p c.args.x until d n (threshold_of c.in_ok-threshold.threshold) c.in_ok-reached.field-0 c.requires.ready c.requires.lawful.2 at same c.in_ok-reached.ensures.reached c.if-branch.true));
+      in_place = same-place g.N.Node.place nodes c.args.p c.index_mut.result.now c.reached.new.self (seen-low g.N.Node.view nodes c.args.p c.requires.lawful.0.0) c.index_mut.ensures.value c.reached.ensures.place;
     }
 
 pub returns-else-branch-clause-acts : goal.returns-else-branch-clause-acts
@@ -64,10 +63,10 @@ returns-else-branch-clause-acts g c =
     let same : threshold_of c.in_ok-threshold.threshold ≡ world.threshold_of (map marked_of d.marks) until = c.in_ok-threshold.ensures ∙ ap (λ (ms : List Mark). world.threshold_of (map marked_of ms) until) marks in
     let at = seen-at g.N.Node.view nodes c.args.p c.index_mut.result.now (seen-low g.N.Node.view nodes c.args.p c.requires.lawful.0.0) c.index_mut.ensures.value in
     record {
-      acts = seen-set g.N.Node.view nodes c.args.p c.has_reached.new.node (λ ns. StopsWithin c.args.c d (Reach c.args.p c.args.x until ∷ []) (halt.NotReached c.args.c) ns)
-          (stops-at c.args.c c.args.p d (Reach c.args.p c.args.x until) (halt.NotReached c.args.c) n (g.N.Node.view c.has_reached.new.node) at c.has_reached.ensures.calls
-          (reach-unmet c.args.c c.args.p c.args.x until d n (threshold_of c.in_ok-threshold.threshold) c.in_ok-has_reached.field-0 c.requires.ready c.requires.lawful.2 at same c.in_ok-has_reached.ensures.reached c.if-branch.false));
-      in_place = same-place g.N.Node.place nodes c.args.p c.index_mut.result.now c.has_reached.new.node (seen-low g.N.Node.view nodes c.args.p c.requires.lawful.0.0) c.index_mut.ensures.value c.has_reached.ensures.place;
+      acts = seen-set g.N.Node.view nodes c.args.p c.reached.new.self (λ ns. StopsWithin c.args.c d (Reach c.args.p c.args.x until ∷ []) (halt.NotReached c.args.c) ns)
+          (stops-at c.args.c c.args.p d (Reach c.args.p c.args.x until) (halt.NotReached c.args.c) n (g.N.Node.view c.reached.new.self) at c.reached.ensures.learns.calls
+          (reach-unmet c.args.c c.args.p c.args.x until d n (threshold_of c.in_ok-threshold.threshold) c.in_ok-reached.field-0 c.requires.ready c.requires.lawful.2 at same c.in_ok-reached.ensures.reached c.if-branch.false));
+      in_place = same-place g.N.Node.place nodes c.args.p c.index_mut.result.now c.reached.new.self (seen-low g.N.Node.view nodes c.args.p c.requires.lawful.0.0) c.index_mut.ensures.value c.reached.ensures.place;
     }
 
 pub returns-then-branch-clause-reached : goal.returns-then-branch-clause-reached
@@ -80,7 +79,7 @@ returns-then-branch-clause-reached g c m there =
     let same : threshold_of c.in_ok-threshold.threshold ≡ world.threshold_of (map marked_of d.marks) until = c.in_ok-threshold.ensures ∙ ap (λ (ms : List Mark). world.threshold_of (map marked_of ms) until) marks in
     let at = seen-at g.N.Node.view nodes c.args.p c.index_mut.result.now (seen-low g.N.Node.view nodes c.args.p c.requires.lawful.0.0) c.index_mut.ensures.value in
     ap (λ (k : NodeView). meets (world.threshold_of (map marked_of d.marks) until) (content_at k.shown c.args.x)) (sym (same-node d.nodes c.args.p n m at there))
-    ∙ ap (λ (u : Threshold). meets u (content_at n.shown c.args.x)) (sym same) ∙ sym c.in_ok-has_reached.ensures.reached ∙ c.if-branch.true
+    ∙ ap (λ (u : Threshold). meets u (content_at n.shown c.args.x)) (sym same) ∙ sym c.in_ok-reached.ensures.reached ∙ c.if-branch.true
 
 pub returns-else-branch-clause-reached : goal.returns-else-branch-clause-reached
 returns-else-branch-clause-reached g c m there =
@@ -93,40 +92,50 @@ returns-else-branch-clause-reached g c m there =
     let at = seen-at g.N.Node.view nodes c.args.p c.index_mut.result.now (seen-low g.N.Node.view nodes c.args.p c.requires.lawful.0.0) c.index_mut.ensures.value in (
       refl,
       ap (λ (k : NodeView). meets (world.threshold_of (map marked_of d.marks) until) (content_at k.shown c.args.x)) (sym (same-node d.nodes c.args.p n m at there))
-          ∙ ap (λ (u : Threshold). meets u (content_at n.shown c.args.x)) (sym same) ∙ sym c.in_ok-has_reached.ensures.reached ∙ c.if-branch.false,
+          ∙ ap (λ (u : Threshold). meets u (content_at n.shown c.args.x)) (sym same) ∙ sym c.in_ok-reached.ensures.reached ∙ c.if-branch.false,
     )
 
 pub returns-then-branch-clause-reads : goal.returns-then-branch-clause-reads
-returns-then-branch-clause-reads g c m there =
+returns-then-branch-clause-reads g c =
     let d = seen g.N.Node.view g.N.Node.read c.args.self.now in
     let nodes = c.args.self.now.nodes.items in
     let n = g.N.Node.view c.index_mut.result.now in
+    let new = g.N.Node.view c.reached.new.self in
     let at = seen-at g.N.Node.view nodes c.args.p c.index_mut.result.now (seen-low g.N.Node.view nodes c.args.p c.requires.lawful.0.0) c.index_mut.ensures.value in
-    map-set g.N.Node.view nodes c.args.p c.has_reached.new.node ∙ ap (slice_set d.nodes c.args.p) (c.in_ok-has_reached.ensures.looked ∙ ap (λ (k : NodeView). with_reads k (looks k.reads)) (same-node d.nodes c.args.p n m at there))
+    record {
+      now = new;
+      is = map-set g.N.Node.view nodes c.args.p c.reached.new.self;
+      learns = λ m there. subst (λ (k : NodeView). LearnsAnd looks_once k new) (same-node d.nodes c.args.p n m at there) c.in_ok-reached.ensures.looked;
+    }
 
 pub returns-else-branch-clause-reads : goal.returns-else-branch-clause-reads
-returns-else-branch-clause-reads g c m there =
+returns-else-branch-clause-reads g c =
     let d = seen g.N.Node.view g.N.Node.read c.args.self.now in
     let nodes = c.args.self.now.nodes.items in
     let n = g.N.Node.view c.index_mut.result.now in
+    let new = g.N.Node.view c.reached.new.self in
     let at = seen-at g.N.Node.view nodes c.args.p c.index_mut.result.now (seen-low g.N.Node.view nodes c.args.p c.requires.lawful.0.0) c.index_mut.ensures.value in
-    map-set g.N.Node.view nodes c.args.p c.has_reached.new.node ∙ ap (slice_set d.nodes c.args.p) (c.in_ok-has_reached.ensures.looked ∙ ap (λ (k : NodeView). with_reads k (looks k.reads)) (same-node d.nodes c.args.p n m at there))
+    record {
+      now = new;
+      is = map-set g.N.Node.view nodes c.args.p c.reached.new.self;
+      learns = λ m there. subst (λ (k : NodeView). LearnsAnd looks_once k new) (same-node d.nodes c.args.p n m at there) c.in_ok-reached.ensures.looked;
+    }
 
 pub returns-in_err-threshold-clause-acts : goal.returns-in_err-threshold-clause-acts
 returns-in_err-threshold-clause-acts g c =
     let p = err_from_is_err_and c.from_residual.result c.from_residual.ensures.1 in
     rw (p.1, p.2) (record { acts = stops-early c.args.c (seen g.N.Node.view g.N.Node.read c.args.self.now) (Reach c.args.p c.args.x (until_of c.args.until.now) ∷ []); in_place = refl })
 
-pub returns-in_err-has_reached-clause-acts : goal.returns-in_err-has_reached-clause-acts
-returns-in_err-has_reached-clause-acts g c =
+pub returns-in_err-reached-clause-acts : goal.returns-in_err-reached-clause-acts
+returns-in_err-reached-clause-acts g c =
     let d = seen g.N.Node.view g.N.Node.read c.args.self.now in
     let nodes = c.args.self.now.nodes.items in
     let low = seen-low g.N.Node.view nodes c.args.p c.requires.lawful.0.0 in
     let at = seen-at g.N.Node.view nodes c.args.p c.index_mut.result.now low c.index_mut.ensures.value in
     let a = Reach c.args.p c.args.x (until_of c.args.until.now) in
-    let p = err_from_is_err_and c.from_residual-in_err-has_reached.result c.from_residual-in_err-has_reached.ensures.1 in
+    let p = err_from_is_err_and c.from_residual-in_err-reached.result c.from_residual-in_err-reached.ensures.1 in
     rw (p.1, p.2) (record {
-      acts = seen-set g.N.Node.view nodes c.args.p c.has_reached.new.node (λ ns. StopsWithin c.args.c d (a ∷ []) halt.Memory ns)
-          (stops-at c.args.c c.args.p d a halt.Memory (g.N.Node.view c.index_mut.result.now) (g.N.Node.view c.has_reached.new.node) at c.has_reached.ensures.calls tt);
-      in_place = same-place g.N.Node.place nodes c.args.p c.index_mut.result.now c.has_reached.new.node low c.index_mut.ensures.value c.has_reached.ensures.place;
+      acts = seen-set g.N.Node.view nodes c.args.p c.reached.new.self (λ ns. StopsWithin c.args.c d (a ∷ []) halt.Memory ns)
+          (stops-at c.args.c c.args.p d a halt.Memory (g.N.Node.view c.index_mut.result.now) (g.N.Node.view c.reached.new.self) at c.reached.ensures.learns.calls tt);
+      in_place = same-place g.N.Node.place nodes c.args.p c.index_mut.result.now c.reached.new.self low c.index_mut.ensures.value c.reached.ensures.place;
     })

@@ -1,4 +1,4 @@
-use Rattle.std.proofs.Common.{◌+◌, ◌∷◌, [], refl, length, drop, map, sym, subst, arith, ◌∙◌}
+use Rattle.std.proofs.Common.{◌+◌, refl, length, drop, map, sym, subst, arith, ◌∙◌}
 use Rattle.std.specs.Prelude.{ℕ, List}
 use Rattle.std.specs.Arc.{arc_value}
 use Rattle.model_graph.specs.Graph.{Decl}

@@ -1,4 +1,4 @@
-use Rattle.std.proofs.Common.{refl, ◌≡◌, ◌++◌, ◌∷◌, [], ◌<◌, length, take, ◌∙◌, arith, subst, sym, ap, map}
+use Rattle.std.proofs.Common.{refl, ◌≡◌, ◌<◌, length, take, ◌∙◌, arith, subst, sym, ap, map}
 use Rattle.std.specs.Prelude.{ℕ, List, flat_map}
 use Rattle.std.specs.List.{range_with_len}
 use Rattle.std.proofs.lemmas.List.{length-map}

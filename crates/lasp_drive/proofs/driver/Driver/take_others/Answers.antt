@@ -1,8 +1,7 @@
-use Rattle.std.proofs.Common.{refl, ◌∷◌, [], ◌+◌, ◌<◌, length, take, ◌∙◌, arith, subst, sym, ap, map}
+use Rattle.std.proofs.Common.{refl, ◌+◌, ◌<◌, length, take, ◌∙◌, arith, subst, sym, ap, map}
 use Rattle.std.specs.Prelude.{List}
 use Rattle.std.specs.List.{range_with_len}
 use Rattle.std.proofs.lemmas.List.{length-map}
-use Rattle.std.proofs.lemmas.Bool.{eq-eqb, ne_eqb}
 use Rattle.model_world.specs.Lawful.{Stage}
 use Rattle.model_world.specs.World.{Act}
 use Rattle.lasp_drive.specs.Driver.{seen, stage_of}

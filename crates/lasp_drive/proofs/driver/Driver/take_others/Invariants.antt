@@ -1,6 +1,4 @@
 use Rattle.std.proofs.Common.{◌≡◌, ◌≤◌, length, map}
-use Rattle.std.specs.Prelude.{flat_map}
-use Rattle.model_world.specs.World.{Post, takes}
 use Rattle.lasp_drive.specs.Driver.{seen}
 use Rattle.lasp_drive.proofs.ActLaws.{takes_of, AreDone}
 use Rattle.lasp_drive.proofs.driver.Driver.take_others.Given as goal

@@ -1,7 +1,6 @@
-use Rattle.std.proofs.Common.{◌+◌, ◌∷◌, [], ap}
+use Rattle.std.proofs.Common.{◌+◌, ◌∷◌, []}
 use Rattle.model_world.specs.World.{Update, updated}
 use Rattle.lasp_state.specs.State.{op_of}
-use Rattle.lasp_drive.specs.Node.{NodeView}
 use Rattle.lasp_drive.specs.Driver.{seen, run_of}
 use Rattle.lasp_drive.specs.Acts.{Acted, StopsWithin}
 use Rattle.lasp_drive.specs.declared.halt.Halt.TheVariants as halt
@@ -39,7 +38,7 @@ returns-in-Err-TooLarge-clause-acts g c =
     let at = seen-at g.N.Node.view nodes c.args.p c.index_mut.result.now low c.index_mut.ensures.value in
     record {
       acts = seen-set g.N.Node.view nodes c.args.p c.update.new.self (λ ns. StopsWithin c.args.c d (a ∷ []) (halt.TooLarge c.args.c c.args.p c.args.x) ns)
-          (stops-at c.args.c c.args.p d a (halt.TooLarge c.args.c c.args.p c.args.x) n (g.N.Node.view c.update.new.self) at (ap (λ (m : NodeView). m.calls) c.in-Err-TooLarge.ensures.takes.unchanged)
+          (stops-at c.args.c c.args.p d a (halt.TooLarge c.args.c c.args.p c.args.x) n (g.N.Node.view c.update.new.self) at c.in-Err-TooLarge.ensures.takes.refused.learns.calls
           (update-stops (run_of d) d.nodes c.args.c c.args.p c.args.x (op_of c.args.op.now) n (c.requires.may.ready.nodes c.args.p n at).replica at
           (stopped-large (updated n.number c.args.x (op_of c.args.op.now) n.peer) (g.N.Node.view c.update.new.self).peer c.args.x c.in-Err-TooLarge.field-0 c.in-Err-TooLarge.field-0-0 c.in-Err-TooLarge.field-0-is c.in-Err-TooLarge.ensures.done)));
       in_place = same-place g.N.Node.place nodes c.args.p c.index_mut.result.now c.update.new.self low c.index_mut.ensures.value c.update.ensures.place;
@@ -54,6 +53,6 @@ returns-in-Err-Memory-clause-acts g c =
     let at = seen-at g.N.Node.view nodes c.args.p c.index_mut.result.now low c.index_mut.ensures.value in
     record {
       acts = seen-set g.N.Node.view nodes c.args.p c.update.new.self (λ ns. StopsWithin c.args.c d (a ∷ []) halt.Memory ns)
-          (stops-at c.args.c c.args.p d a halt.Memory (g.N.Node.view c.index_mut.result.now) (g.N.Node.view c.update.new.self) at (ap (λ (m : NodeView). m.calls) c.in-Err-Memory.ensures.takes.unchanged) tt);
+          (stops-at c.args.c c.args.p d a halt.Memory (g.N.Node.view c.index_mut.result.now) (g.N.Node.view c.update.new.self) at c.in-Err-Memory.ensures.takes.refused.learns.calls tt);
       in_place = same-place g.N.Node.place nodes c.args.p c.index_mut.result.now c.update.new.self low c.index_mut.ensures.value c.update.ensures.place;
     }
