@@ -1,14 +1,17 @@
 -- The calls and the reads that a node's core has after a call.
 use Rattle.std.proofs.Common.{ℕ, ◌≡◌, ◌+◌, Bool, true, false, cond, not, if◌then◌else◌, refl, sym, ap, subst, ◌∙◌}
-use Rattle.std.specs.Prelude.{List, [], ◌∷◌, ◌++◌, length, Result, Ok, Err, OnOk, OnErr}
+use Rattle.std.specs.Prelude.{List, [], ◌∷◌, ◌++◌, length, Some, Result, Ok, Err, OnOk, OnErr, IsTrue}
 use Rattle.std.specs.List.{AllByRecursion}
+use Rattle.model_states.specs.Content.{Content}
+use Rattle.model_states.specs.Threshold.{Threshold, meets}
 use Rattle.model_graph.specs.Graph.{Decl}
+use Rattle.model_graph.specs.Evaluation.{content_at}
 use Rattle.model_journal.specs.Entry.{Act, Entry, Extend, Frame, entry}
 use Rattle.model_journal.specs.Journal.{graph, vals, val}
 use Rattle.model_journal.specs.Legal.{IsLegal}
 use Rattle.model_journal.proofs.JournalLaws.{journal-later}
 use Rattle.model_journal.proofs.LegalLaws.{legal-first}
-use Rattle.model_core.specs.Core.{Core, Read, IsParked, entered}
+use Rattle.model_core.specs.Core.{Core, Read, IsCore, IsParked, is_met, entered}
 use Rattle.model_core.specs.Peer.{peer_of}
 use Rattle.model_core.proofs.ReadLaws.{meets-grows}
 use Rattle.model_core.proofs.ValidLaws.{val-ordered}
@@ -16,9 +19,10 @@ use Rattle.model_runs.specs.Calls.{fed, is_bind, unbound}
 use Rattle.model_runs.proofs.MatchLaws.{append-nothing}
 use Rattle.model_core.proofs.PeerLaws.{peer-fresh}
 use Rattle.model_world.specs.World.{shown_at}
-use Rattle.lasp_core.specs.Core.{fresh_core, declared}
-use Rattle.lasp_drive.specs.Node.{TakesIn, OnlyGrew, IsFresh, IsSettled}
-use Rattle.lasp_drive.specs.Reads.{releases, unmet, Grows}
+use Rattle.lasp_core.specs.Core.{fresh_core, declared, opened_read, opened, closed}
+use Rattle.lasp_drive.specs.Node.{TakesIn, LearnsAnd, OnlyLearns, Grew, OnlyGrew, IsFresh, IsSettled}
+use Rattle.lasp_drive.specs.Reads.{Reads, as_they_are, opens_next, closes_one, looks_once, releases, unmet, Grows}
+use Rattle.lasp_drive.proofs.WaitLaws.{looked}
 use Rattle.lasp_drive.specs.declared.node.NodeStop.{NodeStop}
 use Rattle.lasp_node.specs.View.{node_of, reads_of}
 use Rattle.lasp_node.specs.Settling.{AreBinds, HasBound}
@@ -43,9 +47,6 @@ declared-calls old new e d same is =
 
 pub entered-reads : (old new : Core) (e : Entry) → new ≡ entered e old → reads_of new ≡ releases (vals new.frame new.entries) (reads_of old)
 entered-reads old new e is = subst (λ (c : Core). reads_of c ≡ releases (vals c.frame c.entries) (reads_of old)) (sym is) refl
-
-pub declared-reads : (old new : Core) (e : Entry) → new ≡ declared e old → reads_of new ≡ reads_of old
-declared-reads old new e is = ap reads_of is
 
 -- results alone
 none-called : (low high place : ℕ) (more : List Entry) → AreBinds low high place more → unbound more ≡ []
@@ -88,6 +89,47 @@ parked-unmet X h [] all = refl
 parked-unmet X h (r ∷ rs) all =
     ap (λ (more : List Read). r ∷ more) (parked-unmet X h rs all.1) ∙ sym (ap (λ (b : Bool). if not b then r ∷ unmet (vals X h) rs else unmet (vals X h) rs) all.0.unmet)
 
+-- a core has released the reads that are met
+pub reads-released : (c : Core) → IsCore c → reads_of c ≡ releases (vals c.frame c.entries) (reads_of c)
+reads-released c core = ap (λ (rs : List Read). record { waiting = rs; opened = c.opened }) (parked-unmet c.frame c.entries c.parked core.parked)
+
+pub declared-grew : (old new : Core) (e : Entry) → new ≡ declared e old → IsCore new → Grew (node_of old) (node_of new)
+declared-grew old new e is core = record {
+  more = declared-grows old new e is core.legal;
+  released = ap (λ (s : Reads). Some s) (reads-released new core ∙ ap (releases (vals new.frame new.entries)) (ap reads_of is));
+}
+
+-- ---- a core that was asked
+
+-- its journal is as it was, and a call made this of its reads
+only-reads : (change : List Content → Reads → Reads) (old new : Core) → IsCore old → new.frame ≡ old.frame → new.entries ≡ old.entries → reads_of new ≡ change (vals old.frame old.entries) (reads_of old) → LearnsAnd change (node_of old) (node_of new)
+only-reads change old new core frame entries reads = record {
+  learns = record {
+    still = record { graph = (λ i. graph (frame i) (entries i)); replica = ap (λ (X : Frame). X.replica) frame; nodes = ap (λ (X : Frame). X.nodes) frame };
+    peer = (λ i. peer_of (frame i) (entries i));
+    calls = ap unbound entries;
+    more = λ x threshold met. subst (λ (cs : List Content). IsTrue (meets threshold (content_at cs x))) (sym shown) met;
+    settled = λ settled. shown;
+  };
+  reads = ap (λ (s : Reads). Some s) (reads ∙ ap (change (vals old.frame old.entries)) (reads-released old core) ∙ (λ i. change (sym shown i) (releases (sym shown i) (reads_of old))));
+} where
+  shown : vals new.frame new.entries ≡ vals old.frame old.entries
+  shown = (λ i. vals (frame i) (entries i))
+
+pub learned-none : (old new : Core) → IsCore old → new ≡ old → OnlyLearns (node_of old) (node_of new)
+learned-none old new core is = only-reads as_they_are old new core (ap (λ (c : Core). c.frame) is) (ap (λ (c : Core). c.entries) is) (ap reads_of is)
+
+pub learned-opened : (old new : Core) (x : ℕ) (t : Threshold) → IsCore old → new ≡ opened (opened_read old x t) old → LearnsAnd (opens_next x t) (node_of old) (node_of new)
+learned-opened old new x t core is = only-reads (opens_next x t) old new core (ap (λ (c : Core). c.frame) is) (ap (λ (c : Core). c.entries) is) (ap reads_of is)
+
+pub learned-closed : (old new : Core) (number : ℕ) → IsCore old → new ≡ closed number old → LearnsAnd (closes_one number) (node_of old) (node_of new)
+learned-closed old new number core is = only-reads (closes_one number) old new core (ap (λ (c : Core). c.frame) is) (ap (λ (c : Core). c.entries) is) (ap reads_of is)
+
+pub learned-looked : (old mid new : Core) (x number : ℕ) (t : Threshold) → IsCore old → mid ≡ opened (opened_read old x t) old → number ≡ old.opened → new ≡ closed number mid → LearnsAnd looks_once (node_of old) (node_of new)
+learned-looked old mid new x number t core first same second =
+    only-reads looks_once old new core (ap (λ (c : Core). c.frame) second ∙ ap (λ (c : Core). c.frame) first) (ap (λ (c : Core). c.entries) second ∙ ap (λ (c : Core). c.entries) first)
+    (ap reads_of second ∙ (λ i. reads_of (closed (same i) (first i))) ∙ looked x t (is_met old.frame old.entries (opened_read old x t)) (reads_of old))
+
 -- ---- where it is
 
 -- an entry more, or none, leaves the frame
@@ -107,29 +149,20 @@ takes-ok old new a free kept is legal = record {
     nodes = ap (λ (c : Core). c.frame.nodes) is;
   };
   calls = entered-calls old new a free is;
-  grew = record { more = entered-grows old new (entry 0 a) is legal; released = entered-reads old new (entry 0 a) is };
-  unchanged = tt;
+  grew = record { more = entered-grows old new (entry 0 a) is legal; released = ap (λ (s : Reads). Some s) (entered-reads old new (entry 0 a) is) };
+  refused = tt;
 }
 
 -- a core that is as it was
-pub takes-none : (old new : Core) (a : Act) (why : NodeStop) → new ≡ old → TakesIn {A = Unit {0}} {E = NodeStop} a (node_of old) (Err why) (node_of new)
-takes-none old new a why same = record {
-  still = record {
-    graph = ap (λ (c : Core). graph c.frame c.entries) same;
-    replica = ap (λ (c : Core). c.frame.replica) same;
-    nodes = ap (λ (c : Core). c.frame.nodes) same;
-  };
-  calls = tt;
-  grew = tt;
-  unchanged = ap node_of same;
-}
+pub takes-none : (old new : Core) (a : Act) (why : NodeStop) → IsCore old → new ≡ old → TakesIn {A = Unit {0}} {E = NodeStop} a (node_of old) (Err why) (node_of new)
+takes-none old new a why core same = let learned = learned-none old new core same in record { still = learned.learns.still; calls = tt; grew = tt; refused = learned }
 
 pub settled-grew : (old new : Core) → HasBound old new → IsLegal new.frame new.entries → OnlyGrew (node_of old) (node_of new)
 settled-grew old new bound legal = record {
   still = record { graph = bound.graph_is; replica = ap (λ (X : Frame). X.replica) bound.frame; nodes = ap (λ (X : Frame). X.nodes) bound.frame };
   peer = bound.peer;
   calls = settled-calls old new bound;
-  grew = record { more = settled-grows old new bound legal; released = settled-reads old new bound };
+  grew = record { more = settled-grows old new bound legal; released = ap (λ (s : Reads). Some s) (settled-reads old new bound) };
 }
 
 -- what it shows is what its graph gives on its sources as they are

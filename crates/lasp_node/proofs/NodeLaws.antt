@@ -1,6 +1,6 @@
 -- How what a core's calls answer is seen in the sources and counts of its node.
 use Rattle.std.proofs.Common.{suc, ℕ, ◌≡◌, ◌+◌, ◌-◌, ◌≤◌, ◌<◌, Bool, true, false, not, nat_lt, nat_le, if◌then◌else◌, refl, sym, ap, subst, ◌∙◌, arith}
-use Rattle.std.specs.Prelude.{List, [], ◌∷◌, ◌++◌, length, take, slice_get, Option, Some, None, Result, Ok, Err, OnOk, OnErr, IsTrue}
+use Rattle.std.specs.Prelude.{List, [], ◌∷◌, ◌++◌, length, take, slice_get, Option, Some, None, Result, Ok, Err, OnOk, OnErr, IfOk, IsTrue}
 use Rattle.std.proofs.lemmas.Bool.Decides.{nat_tests}
 use Rattle.model_states.specs.Counts.{count_at}
 use Rattle.model_states.specs.Content.{Content, least, join_contents, size_of, row_limit}
@@ -55,6 +55,10 @@ pub same-graph : {A E : Type 0} (r : Result A E) (old new : Core) (e : model.Ent
     → OnOk r (new ≡ entered e old) → OnErr r (new ≡ old) → IsSame (graph old.frame old.entries) old new
 same-graph (Ok a) old new e kept is none = subst (IsSame (graph old.frame old.entries) old) (sym is) (record { frame = refl; graph_is = kept })
 same-graph (Err why) old new e kept none is = subst (IsSame (graph old.frame old.entries) old) (sym is) (record { frame = refl; graph_is = refl })
+
+pub if-ok : {A E : Type 0} (P Q : A → Type 0) (r : Result A E) → ((a : A) → P a → Q a) → IfOk r P → IfOk r Q
+if-ok P Q (Ok a) f p = f a p
+if-ok P Q (Err e) f p = tt
 
 pub on-ok : {A E P Q : Type 0} (r : Result A E) → (P → Q) → OnOk r P → OnOk r Q
 on-ok (Ok a) f p = f p

@@ -1,4 +1,5 @@
 -- A core as a run's node has it.
+use Rattle.std.specs.Prelude.{Some}
 use Rattle.model_journal.specs.Journal.{graph, vals}
 use Rattle.model_core.specs.Core.{Core}
 use Rattle.model_core.specs.Peer.{peer_of}
@@ -6,7 +7,7 @@ use Rattle.model_runs.specs.Calls.{unbound}
 use Rattle.lasp_drive.specs.Node.{NodeView}
 use Rattle.lasp_drive.specs.Reads.{Reads}
 
--- its reads
+-- its reads, all of which are told: the core is its node's alone
 abbrev pub reads_of : Core → Reads
 reads_of c = record { waiting = c.parked; opened = c.opened }
 
@@ -18,5 +19,5 @@ node_of c = record {
   peer = peer_of c.frame c.entries;
   calls = unbound c.entries;
   shown = vals c.frame c.entries;
-  reads = reads_of c;
+  reads = Some (reads_of c);
 }

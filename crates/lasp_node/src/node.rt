@@ -14,7 +14,7 @@ use lasp_drive::{FreshNode, Node, NodeStop};
 use lasp_fns::{Library, StepLib};
 use lasp_graph::Graph;
 use lasp_state::{Op, State, Threshold};
-use lasp_wire::Message;
+use lasp_wire::{Counts, Message};
 use std::alloc::{AllocError, Global};
 use std::sync::Arc;
 
@@ -54,12 +54,13 @@ impl Node for CoreNode {
         }
     }
 
-    fn source(&self, x: u8) -> &Arc<State> {
+    fn source(&mut self, x: u8) -> Result<Arc<State>, AllocError> {
         self.core.recall();
-        self.core.state(x)
+        Arc::try_clone(self.core.state(x))
     }
 
-    fn message(&self, alloc: Global) -> Result<Message, AllocError> {
+    fn message(&mut self, alloc: Global) -> Result<Message, AllocError> {
+        self.core.recall();
         message_of(alloc, &self.core)
     }
 
@@ -90,9 +91,9 @@ impl Node for CoreNode {
         settled
     }
 
-    fn state(&self, x: u8) -> &State {
+    fn state(&mut self, x: u8) -> Result<Arc<State>, AllocError> {
         self.core.recall();
-        self.core.state(x)
+        Arc::try_clone(self.core.state(x))
     }
 
     fn open_read(
@@ -101,19 +102,31 @@ impl Node for CoreNode {
         x: u8,
         threshold: Threshold,
     ) -> Result<ReadNo, AllocError> {
+        self.core.recall();
         self.core.open_read(x, threshold)
     }
 
-    fn poll_read(&self, r: &ReadNo) -> Result<Option<Arc<State>>, AllocError> {
+    fn poll_read(&mut self, r: &ReadNo) -> Result<Option<Arc<State>>, AllocError> {
+        self.core.recall();
         self.core.poll_read(r)
     }
 
     fn close_read(&mut self, r: &ReadNo) {
+        self.core.recall();
         self.core.close_read(r);
     }
 
-    fn counts(&self) -> &[u64] {
-        self.core.counts().as_slice()
+    fn reached(&mut self, _alloc: Global, x: u8, threshold: Threshold) -> Result<bool, AllocError> {
+        self.core.recall();
+        let read = self.core.open_read(x, threshold)?;
+        let polled = self.core.poll_read(&read);
+        self.core.close_read(&read);
+        Ok(polled?.is_some())
+    }
+
+    fn counts(&mut self, alloc: Global) -> Result<Counts, AllocError> {
+        self.core.recall();
+        Counts::from_slice(alloc, self.core.counts().as_slice())
     }
 }
 

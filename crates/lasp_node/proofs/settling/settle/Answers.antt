@@ -11,7 +11,7 @@ use Rattle.lasp_replica.specs.Jobs.{IsNext, IsJobNow}
 use Rattle.lasp_core.specs.Core.{IsSettled, taken, rows_of}
 use Rattle.lasp_core.proofs.JobLaws.{rows-unread}
 use Rattle.lasp_node.specs.Settling.{HasBound}
-use Rattle.lasp_node.proofs.SettleLaws.{turn-taken, below-start, below-bound, turn-bound, turn-below, turn-none, cost-none, cost-within, cost-refused, cost-more, small-settled, shown-settled}
+use Rattle.lasp_node.proofs.SettleLaws.{turn-taken, below-start, below-bound, turn-bound, turn-below, turn-none, cost-none, cost-more, small-settled, shown-settled}
 use Rattle.lasp_node.proofs.settling.settle.Goals.{else-loop-turn-test, then-loop-turn-test+in_ok-take+in-Some+in_ok-done-in-Some+else-turn-turn-end}
 use Rattle.lasp_node.proofs.settling.settle.Goals as goal
 

@@ -4,9 +4,8 @@ use Rattle.model_journal.specs.Entry.{Frame, Extend, entry}
 use Rattle.model_journal.specs.Journal.{graph}
 use Rattle.lasp_graph.specs.Decl.{decl_of}
 use Rattle.lasp_core.specs.Core.{declared}
-use Rattle.lasp_node.specs.View.{node_of}
 use Rattle.lasp_node.proofs.NodeLaws.{on-ok, last-decl, extended-same, extended-peer}
-use Rattle.lasp_node.proofs.CallLaws.{declared-calls, declared-reads, declared-grows, on-err, frame-stays}
+use Rattle.lasp_node.proofs.CallLaws.{declared-calls, declared-grew, learned-none, on-err, frame-stays}
 use Rattle.lasp_node.proofs.node.CoreNodeNode.extend.Goals as goal
 
 pub extend-extended-requires-clause-next : goal.extend-extended-requires-clause-next
@@ -28,13 +27,12 @@ returns-clause-ok c d is =
       node = record { graph = same.graph_is; replica = ap (λ (X : Frame). X.replica) same.frame; nodes = ap (λ (X : Frame). X.nodes) same.frame };
       peer = extended-peer core new 0 e d c.recall.ensures.core.legal last.same done;
       calls = declared-calls core new e d last.same done;
-      reads = declared-reads core new (entry 0 (Extend e)) done;
-      more = declared-grows core new (entry 0 (Extend e)) done c.recall-2.ensures.core.legal;
+      grew = declared-grew core new (entry 0 (Extend e)) done c.recall-2.ensures.core;
     })
     c.extend-extended.ensures.ok
 
 pub returns-clause-err : goal.returns-clause-err
-returns-clause-err c = on-err c.extend-extended.result (ap node_of) c.extend-extended.ensures.err
+returns-clause-err c = on-err c.extend-extended.result (learned-none c.args.self.now.core c.extend-extended.new.self c.recall.ensures.core) c.extend-extended.ensures.err
 
 pub returns-clause-place : goal.returns-clause-place
 returns-clause-place c = frame-stays c.extend-extended.result c.args.self.now.core c.extend-extended.new.self (declared (entry 0 (Extend (decl_of c.at.result.now))) c.args.self.now.core) refl c.extend-extended.ensures.ok c.extend-extended.ensures.err

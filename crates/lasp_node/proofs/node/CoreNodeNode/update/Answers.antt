@@ -34,8 +34,8 @@ returns-clause-takes c =
     elim c.match-update.branch [
       | in-Ok w ↦ subst (λ (r : Result (Unit {0}) NodeStop). TakesIn a (node_of core) r (node_of new)) (sym w.result-is)
           (takes-ok core new a refl (graph-updated core.frame core.entries (entry 0 a) c.args.x (op_of c.args.op.now) refl) w.in-Ok.ensures.ok w.recall-in-Ok.ensures.core.legal)
-      | in-Err-TooManyRows w ↦ subst (λ (r : Result (Unit {0}) NodeStop). TakesIn a (node_of core) r (node_of new)) (sym w.result-is) (takes-none core new a _ w.in-Err-TooManyRows.ensures.err)
-      | in-Err-Memory w ↦ subst (λ (r : Result (Unit {0}) NodeStop). TakesIn a (node_of core) r (node_of new)) (sym w.result-is) (takes-none core new a _ w.in-Err-Memory.ensures.err)
+      | in-Err-TooManyRows w ↦ subst (λ (r : Result (Unit {0}) NodeStop). TakesIn a (node_of core) r (node_of new)) (sym w.result-is) (takes-none core new a _ c.recall.ensures.core w.in-Err-TooManyRows.ensures.err)
+      | in-Err-Memory w ↦ subst (λ (r : Result (Unit {0}) NodeStop). TakesIn a (node_of core) r (node_of new)) (sym w.result-is) (takes-none core new a _ c.recall.ensures.core w.in-Err-Memory.ensures.err)
     ]
 
 pub returns-clause-place : goal.returns-clause-place
