@@ -1,7 +1,6 @@
 -- The graph of one set, and what is answered of a script over it.
-use Rattle.std.proofs.Common.{ℕ, refl, sym, ap, ◌∙◌}
-use Rattle.std.specs.Prelude.{◌≡◌, List, None, Option, Ok, Result, slice_get}
-use Rattle.model_graph.specs.Graph.{Kind, OrSet}
+use Rattle.std.proofs.Common.{ℕ, sym, ap, ◌∙◌}
+use Rattle.std.specs.Prelude.{◌≡◌, List, None, Option, Ok}
 use Rattle.model_world.specs.Command.{Script}
 use Rattle.model_dot_worlds.specs.DotReport.{dot_output}
 use Rattle.model_dot_worlds.specs.Words.{first_other}

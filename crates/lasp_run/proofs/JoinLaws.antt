@@ -23,7 +23,7 @@ use Rattle.model_program.specs.declared.state_why.StateWhy.TheVariants.{WrongGra
 use Rattle.model_program.specs.declared.failure.Failure.{Failure}
 use Rattle.model_program.specs.declared.failure.Failure.TheVariants.{Refused, ReadFault, Memory}
 use Rattle.lasp_replica.specs.Replica.{IsBeginning}
-use Rattle.lasp_drive.specs.Node.{NodeView, IsNode, IsStill, IsFresh}
+use Rattle.lasp_drive.specs.Node.{NodeView, IsNode, IsStill, IsFresh, Learns}
 use Rattle.lasp_run.specs.Merge.{IsReplica, IsRefusal}
 
 -- ---- messages to a graph
@@ -104,6 +104,15 @@ replica-fresh g nodes n node fresh = record {
 
 pub replica-new : (g : List Decl) (nodes : ℕ) (n : NodeView) → IsFresh g nodes 0 n → IsReplica g n
 replica-new g nodes n fresh = replica-fresh g nodes n fresh.node fresh.peer
+
+-- a node that learned
+pub replica-learned : (g : List Decl) (n new : NodeView) → IsReplica g n → Learns n new → IsReplica g new
+replica-learned g n new h learned = record {
+  graph = learned.still.graph ∙ h.graph;
+  replica = learned.still.replica ∙ h.replica;
+  nodes = learned.still.nodes ∙ h.nodes ∙ ap (λ (r : Peer). length r.counts) (sym learned.peer);
+  held = subst (λ (r : Peer). IsHeld (length r.counts) g r) (sym learned.peer) h.held;
+}
 
 -- what the node has to have for what it does
 pub replica-held : (g : List Decl) (n : NodeView) → IsReplica g n → IsHeld n.among n.decls n.peer

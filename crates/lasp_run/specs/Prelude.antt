@@ -9,7 +9,7 @@ pub use Rattle.model_graph.specs.Lawful.{width_at, widths}
 pub use Rattle.model_world.specs.Lawful.{IsLawful}
 pub use Rattle.model_world.specs.Line.{line, line_rest}
 pub use Rattle.model_world.specs.Report.{report_of}
-pub use Rattle.model_world.specs.World.{ended, shown_at}
+pub use Rattle.model_world.specs.World.{Peer, ended, shown_at}
 pub use Rattle.model_dot_worlds.specs.DotWorld.{one_set}
 pub use Rattle.model_wire.specs.Lawful.{IsMessage}
 pub use Rattle.model_wire.specs.Message.{decoded}
@@ -31,6 +31,7 @@ pub use Rattle.lasp_state.specs.State.{shown_state}
 pub use Rattle.lasp_graph.specs.Decl.{decl_of}
 pub use Rattle.lasp_graph.specs.Kind.{kind_of}
 pub use Rattle.lasp_graph.specs.Library.{library_of}
+pub use Rattle.lasp_drive.specs.Node.{IsSettled}
 pub use Rattle.lasp_drive.specs.Acts.{Halts}
 pub use Rattle.lasp_drive.specs.Run.{IsRunnable}
 pub use Rattle.lasp_script.specs.Command.{command_of}

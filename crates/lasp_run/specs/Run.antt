@@ -1,5 +1,5 @@
 -- A run beside what was made of it.
-use Rattle.std.specs.Prelude.{◌≡◌, List, Ok, Err}
+use Rattle.std.specs.Prelude.{◌≡◌, List, Err}
 use Rattle.std.specs.Arc.{arc_value}
 use Rattle.model_functions.specs.Library.{Library}
 use Rattle.model_graph.specs.Chain.{refusing}

@@ -1,15 +1,15 @@
 //! The message of a file, joined into the node that has those of the files before it.
 
-ghost use Rattle.std.specs.Prelude.{◌≡◌, ◌<◌, ◌+◌, Some, None, IfOk, length};
-ghost use Rattle.lasp_run.specs.Prelude.{arc_value, refusing, name_at, IsMessage, decoded, Gives, state_refused, may_take, message_joined, file_joined, peer_by, IsReplica, IsRefusal};
+ghost use Rattle.std.specs.Prelude.{◌≡◌, ◌<◌, ◌+◌, Some, None, IfOk, length, true};
+ghost use Rattle.lasp_run.specs.Prelude.{arc_value, refusing, name_at, Peer, IsMessage, decoded, Gives, state_refused, may_take, message_joined, file_joined, peer_by, IsReplica, IsRefusal};
 ghost use Rattle.model_program.specs.declared.refusal.Refusal.TheVariants as refusal;
 
 use lasp_core::begins;
 use lasp_drive::{FreshNode, Node, NodeStop};
 use lasp_graph::Graph;
-use lasp_wire::{Message, WireRefused, decode};
+use lasp_wire::{Counts, Message, WireRefused, decode};
 use model_program::{Failure, Refusal, StateWhy};
-use std::alloc::Global;
+use std::alloc::{AllocError, Global};
 use std::sync::Arc;
 
 /// The place of a file's name among the words, the files being counted from 0.
@@ -49,11 +49,49 @@ pub fn too_large(graph: &Graph, number: u8, var: u8) -> Failure
     }
 }
 
-/// Whether a node may take a message: it is of the graph, and of as many nodes.
-fn may_take<N: Node>(graph: &Graph, node: &N, message: &Message) -> bool
-    ensures { result ≡ may_take graph.now (N.view node.now).peer message.now }
+/// Whether a node that knows these counts may take a message: it is of the graph, and of as many nodes.
+fn fits(graph: &Graph, counts: &Counts, message: &Message) -> bool
+    ensures { (r : Peer) → r.counts ≡ counts.now → result ≡ may_take graph.now r message.now }
 {
-    begins(graph, message) && message.counts().len() == node.counts().len() as u64
+    begins(graph, message) && message.counts().len() == counts.len()
+}
+
+/// Whether a node may take a message.
+fn may_take<N: Node>(
+    alloc: Global,
+    graph: &Graph,
+    node: &mut N,
+    message: &Message,
+) -> Result<bool, AllocError>
+    requires { IsReplica graph.now (N.view node.old) }
+    ensures taken { IfOk result (λ taken. taken ≡ may_take graph.now (N.view node.old).peer message.now) }
+    ensures peer { (N.view node.new).peer ≡ (N.view node.old).peer }
+    ensures node { IsReplica graph.now (N.view node.new) }
+{
+    let counts = node.counts(alloc)?;
+    Ok(fits(graph, &counts, message))
+}
+
+#[tactic(auto, using(crate::proofs::JoinLaws::replicas))]
+/// The node after a message that it may take.
+fn take<N: Node>(
+    alloc: Global,
+    graph: &Graph,
+    number: u8,
+    mut node: N,
+    message: &Arc<Message>,
+) -> Result<N, Failure>
+    requires node { IsReplica graph.now (N.view node) }
+    requires message { IsMessage (arc_value message.now) }
+    requires taken { may_take graph.now (N.view node).peer (arc_value message.now) ≡ true }
+    ensures exact { Gives (peer_by N.view) (message_joined graph.now number (N.view node).peer (arc_value message.now)) result }
+    ensures node { IfOk result (λ node. IsReplica graph.now (N.view node)) }
+{
+    match node.deliver(alloc, u32::from(number), message) {
+        Ok(()) => Ok(node),
+        Err(NodeStop::TooLarge(var)) => Err(too_large(graph, number, var)),
+        Err(NodeStop::Memory) => Err(Failure::Memory),
+    }
 }
 
 #[tactic(auto, using(crate::proofs::JoinLaws::replicas))]
@@ -70,13 +108,14 @@ fn join<N: Node>(
     ensures exact { Gives (peer_by N.view) (message_joined graph.now number (N.view node).peer (arc_value message.now)) result }
     ensures node { IfOk result (λ node. IsReplica graph.now (N.view node)) }
 {
-    if !may_take(graph, &node, message) {
-        return Err(Failure::Refused(Refusal::State(place_of(number), 0, StateWhy::WrongGraph)));
-    }
-    match node.deliver(alloc, u32::from(number), message) {
-        Ok(()) => Ok(node),
-        Err(NodeStop::TooLarge(var)) => Err(too_large(graph, number, var)),
-        Err(NodeStop::Memory) => Err(Failure::Memory),
+    match may_take(alloc, graph, &mut node, message) {
+        Ok(true) => take(alloc, graph, number, node, message),
+        Ok(false) => Err(Failure::Refused(Refusal::State(
+            place_of(number),
+            0,
+            StateWhy::WrongGraph,
+        ))),
+        Err(_) => Err(Failure::Memory),
     }
 }
 

@@ -1,7 +1,7 @@
 //! What the variables show of all files.
 
 ghost use Rattle.std.specs.Prelude.{◌≡◌, ◌++◌, ◌∷◌, [], IfOk, OnOk, string_bytes, map};
-ghost use Rattle.lasp_run.specs.Prelude.{decimal, line, shown_at, FitsAll, Gives, value_lines, counts_line, merge_text, merge_answer, library_of, shown_state, IsReplica};
+ghost use Rattle.lasp_run.specs.Prelude.{decimal, line, shown_at, FitsAll, Gives, value_lines, counts_line, merge_text, merge_answer, library_of, shown_state, IsSettled, IsReplica};
 
 use crate::merge::join::too_large;
 use lasp_drive::{Node, NodeStop, push_counts, push_state};
@@ -20,13 +20,14 @@ fn push_value(text: &mut String, name: &str, state: &State) -> Result<(), AllocE
 }
 
 /// Appends a line for each variable of a settled node.
-fn push_values<N: Node>(text: &mut String, graph: &Graph, node: &N) -> Result<(), AllocError>
-    requires graph { (N.view node.now).decls ≡ graph.now }
-    requires settled { (N.view node.now).shown ≡ shown_at graph.now (N.view node.now).peer }
-    ensures { OnOk result (string_bytes text.new ≡ string_bytes text.old ++ value_lines 0 graph.now (shown_at graph.now (N.view node.now).peer)) }
+fn push_values<N: Node>(text: &mut String, graph: &Graph, node: &mut N) -> Result<(), AllocError>
+    requires graph { (N.view node.old).decls ≡ graph.now }
+    requires settled { IsSettled (N.view node.old) }
+    ensures { OnOk result (string_bytes text.new ≡ string_bytes text.old ++ value_lines 0 graph.now (shown_at graph.now (N.view node.old).peer)) }
 {
     for x in 0..graph.len() {
-        push_value(text, graph.at(x).name.as_str(), node.state(x as u8))?;
+        let state = node.state(x as u8)?;
+        push_value(text, graph.at(x).name.as_str(), &state)?;
     }
     Ok(())
 }
@@ -39,14 +40,15 @@ fn push_known(text: &mut String, counts: &[u64]) -> Result<(), AllocError>
     push_counts(text, counts)
 }
 
-fn text_of<N: Node>(alloc: Global, graph: &Graph, node: &N) -> Result<Vec<u8>, AllocError>
-    requires graph { (N.view node.now).decls ≡ graph.now }
-    requires settled { (N.view node.now).shown ≡ shown_at graph.now (N.view node.now).peer }
-    ensures { IfOk result (λ text. text.items ≡ merge_text graph.now (N.view node.now).peer) }
+fn text_of<N: Node>(alloc: Global, graph: &Graph, node: &mut N) -> Result<Vec<u8>, AllocError>
+    requires graph { (N.view node.old).decls ≡ graph.now }
+    requires settled { IsSettled (N.view node.old) }
+    ensures { IfOk result (λ text. text.items ≡ merge_text graph.now (N.view node.old).peer) }
 {
     let mut text = String::new(alloc);
+    let counts = node.counts(alloc)?;
     push_values(&mut text, graph, node)?;
-    push_known(&mut text, node.counts())?;
+    push_known(&mut text, counts.as_slice())?;
     Ok(text.into_bytes())
 }
 
@@ -63,7 +65,7 @@ pub(crate) fn merged_text<N: Node>(
     ensures { Gives (λ text. text.items) (merge_answer graph.now files (N.view node).peer) result }
 {
     match node.settle(alloc, lib) {
-        Ok(()) => match text_of(alloc, graph, &node) {
+        Ok(()) => match text_of(alloc, graph, &mut node) {
             Ok(text) => Ok(text),
             Err(_) => Err(Failure::Memory),
         },

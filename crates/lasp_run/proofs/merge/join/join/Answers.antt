@@ -1,26 +1,15 @@
-use Rattle.std.proofs.Common.{◌≡◌, true, Some, Err, sym, ap, subst, ◌∙◌}
+use Rattle.std.proofs.Common.{sym, ap, subst, ◌∙◌}
 use Rattle.std.specs.Arc.{arc_value}
-use Rattle.model_graph.specs.Evaluation.{first_large}
-use Rattle.model_world.specs.World.{delivered}
-use Rattle.model_program.specs.Merge.{may_take}
-use Rattle.lasp_drive.specs.Node.{Delivers}
-use Rattle.lasp_drive.specs.declared.node.NodeStop.{NodeStop}
-use Rattle.lasp_run.proofs.JoinLaws.{replica-sent, replica-joined, large-low}
+use Rattle.model_world.specs.World.{Peer}
+use Rattle.model_program.specs.Follows.{Gives}
+use Rattle.model_program.specs.Merge.{may_take, message_joined}
+use Rattle.lasp_run.specs.Merge.{peer_by}
 use Rattle.lasp_run.proofs.merge.join.join.Goals as goal
 
-pub deliver-requires-clause-sent : goal.deliver-requires-clause-sent
-deliver-requires-clause-sent g c =
-    let taken : may_take c.args.graph.now (g.N.Node.view c.args.node).peer (arc_value c.args.message.now) ≡ true = sym (c.may_take.ensures ∙ ap (may_take c.args.graph.now (g.N.Node.view c.args.node).peer) c.deref.ensures) ∙ c.if-not-may_take.false in
-    replica-sent c.args.graph.now (g.N.Node.view c.args.node) (arc_value c.args.message.now) c.requires.node taken c.requires.message
+pub take-requires-clause-taken : goal.take-requires-clause-taken
+take-requires-clause-taken g c =
+    ap (λ (r : Peer). may_take c.args.graph.now r (arc_value c.args.message.now)) c.may_take.ensures.peer ∙ sym (c.in-Ok-true.ensures.taken ∙ ap (may_take c.args.graph.now (g.N.Node.view c.args.node).peer) c.deref.ensures) ∙ c.in-Ok-true.field-0-test
 
-pub returns-in-Ok-clause-node : goal.returns-in-Ok-clause-node
-returns-in-Ok-clause-node g c =
-    let taken : may_take c.args.graph.now (g.N.Node.view c.args.node).peer (arc_value c.args.message.now) ≡ true = sym (c.may_take.ensures ∙ ap (may_take c.args.graph.now (g.N.Node.view c.args.node).peer) c.deref.ensures) ∙ c.if-not-may_take.false in
-    replica-joined c.args.graph.now (g.N.Node.view c.args.node) (g.N.Node.view c.deliver.new.self) (arc_value c.args.message.now) c.requires.node taken c.requires.message c.in-Ok.ensures.takes.still c.in-Ok.ensures.done.0 c.in-Ok.ensures.done.1
-
-pub too_large-requires : goal.too_large-requires
-too_large-requires g c =
-    let after = delivered (g.N.Node.view c.args.node).decls (arc_value c.args.message.now) (g.N.Node.view c.args.node).peer in
-    let large : first_large 0 after.contents ≡ Some c.in-Err-TooLarge.var =
-    subst (λ (stop : NodeStop). Delivers {A = Unit {0}} after (Err stop) (g.N.Node.view c.deliver.new.self).peer) c.in-Err-TooLarge.field-0-is c.in-Err-TooLarge.ensures.done in
-    large-low c.args.graph.now (g.N.Node.view c.args.node) (arc_value c.args.message.now) c.in-Err-TooLarge.var c.requires.node large
+pub returns-in-Ok-true-clause-exact : goal.returns-in-Ok-true-clause-exact
+returns-in-Ok-true-clause-exact g c =
+    subst (λ (r : Peer). Gives (peer_by g.N.Node.view) (message_joined c.args.graph.now c.args.number r (arc_value c.args.message.now)) c.take.result) c.may_take.ensures.peer c.take.ensures.exact
