@@ -1,7 +1,9 @@
-//! Tests of what a run leaves behind, which the program drops, and of what errors say.
+//! Tests of what a run leaves behind, which the program drops, of nodes that come in and go out again, and of what errors say.
 #![tactic(auto)]
 
 #[cfg(test)]
 mod errors;
 #[cfg(test)]
 mod nodes;
+#[cfg(test)]
+mod stretches;

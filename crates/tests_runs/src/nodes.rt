@@ -1,10 +1,10 @@
 //! The nodes that a run leaves, each of which keeps a core.
 
-ghost use Rattle.std.specs.Prelude.{◌≡◌, ◌<◌, ℕ, length, slice_get, Some, IfOk};
+ghost use Rattle.std.specs.Prelude.{◌≡◌, ◌<◌, length, map, IfOk};
 ghost use Rattle.std.specs.Arc.{arc_value};
 ghost use Rattle.model_readings.specs.Lawful.{FitsAll};
 ghost use Rattle.lasp_graph.specs.Library.{library_of};
-ghost use Rattle.lasp_drive.specs.Node.{IsSettled};
+ghost use Rattle.lasp_drive.specs.Node.{IsSettled, Learns, AreSettled, AreNodes};
 ghost use Rattle.lasp_drive.specs.Run.{IsRunnable};
 
 use lasp_drive::{Driver, Node, run_on};
@@ -19,11 +19,18 @@ use std::sync::Arc;
 use std::test::Fail;
 
 /// Appends what a settled node shows of a variable.
-fn tell_state<N: Node>(out: &mut String, alloc: Global, node: &N, x: u8) -> Result<(), AllocError>
-    requires settled { IsSettled (N.view node.now) }
-    requires var { x < length (N.view node.now).decls }
+fn tell_state<N: Node>(
+    out: &mut String,
+    alloc: Global,
+    node: &mut N,
+    x: u8,
+) -> Result<(), AllocError>
+    requires settled { IsSettled (N.view node.old) }
+    requires var { x < length (N.view node.old).decls }
+    ensures { Learns (N.view node.old) (N.view node.new) }
 {
-    let text = print_state(alloc, node.state(x))?;
+    let state = node.state(x)?;
+    let text = print_state(alloc, &state)?;
     out.push(' ')?;
     out.push_str(text.as_str())
 }
@@ -32,36 +39,46 @@ fn tell_state<N: Node>(out: &mut String, alloc: Global, node: &N, x: u8) -> Resu
 fn tell_node<N: Node>(
     out: &mut String,
     alloc: Global,
-    driver: &Driver<N>,
+    graph: &Graph,
     p: usize,
+    node: &mut N,
 ) -> Result<(), AllocError>
-    requires settled { (q : ℕ) (n : N) → slice_get driver.now.nodes.items q ≡ Some n → IsSettled (N.view n) }
-    requires graph { (q : ℕ) (n : N) → slice_get driver.now.nodes.items q ≡ Some n → (N.view n).decls ≡ arc_value driver.now.graph }
-    requires node { p < length driver.now.nodes.items }
+    requires settled { IsSettled (N.view node.old) }
+    requires graph { (N.view node.old).decls ≡ graph.now }
+    ensures { Learns (N.view node.old) (N.view node.new) }
 {
-    write!(
-        out,
-        "node {p} knows {:?} and shows",
-        driver.nodes[p].counts()
-    )?;
-    for x in 0..5 {
-        if u64::from(x) < driver.graph.len() {
-            tell_state(out, alloc, &driver.nodes[p], x)?;
-        }
+    let counts = node.counts(alloc)?;
+    write!(out, "node {p} knows {:?} and shows", counts.as_slice())?;
+    for x in 0..graph.len() {
+        tell_state(out, alloc, node, x as u8)?;
     }
     out.push('\n')
 }
 
+/// Appends a line for each node of a run.
+fn tell_nodes<N: Node>(
+    out: &mut String,
+    alloc: Global,
+    graph: &Graph,
+    nodes: &mut Vec<N>,
+) -> Result<(), AllocError>
+    requires settled { AreSettled (map N.view nodes.old.items) }
+    requires graph { AreNodes graph.now (length nodes.old.items) (map N.view nodes.old.items) }
+{
+    for p in 0..nodes.len() {
+        tell_node(out, alloc, graph, p, &mut nodes[p])?;
+    }
+    Ok(())
+}
+
 /// What a run leaves: the lines that it printed, how many messages were sent, and each node.
-fn left<N: Node>(alloc: Global, driver: &Driver<N>) -> Result<String, AllocError>
-    requires settled { (q : ℕ) (n : N) → slice_get driver.now.nodes.items q ≡ Some n → IsSettled (N.view n) }
-    requires graph { (q : ℕ) (n : N) → slice_get driver.now.nodes.items q ≡ Some n → (N.view n).decls ≡ arc_value driver.now.graph }
+fn left<N: Node>(alloc: Global, mut driver: Driver<N>) -> Result<String, AllocError>
+    requires settled { AreSettled (map N.view driver.nodes.items) }
+    requires graph { AreNodes (arc_value driver.graph) (length driver.nodes.items) (map N.view driver.nodes.items) }
 {
     let mut out = String::from_str(alloc, driver.text.as_str())?;
     writeln!(out, "{} messages", driver.network.len())?;
-    for p in 0..driver.nodes.len() {
-        tell_node(&mut out, alloc, driver, p)?;
-    }
+    tell_nodes(&mut out, alloc, &driver.graph, &mut driver.nodes)?;
     Ok(out)
 }
 
@@ -75,7 +92,7 @@ fn end(
     requires { IsRunnable (library_of lib.now) (arc_value graph.now) script.now }
 {
     match run_on::<CoreNode>(alloc, graph, lib, script) {
-        Ok(driver) => left(alloc, &driver),
+        Ok(driver) => left(alloc, driver),
         Err(halt) => format!(in alloc; "stopped: {halt:?}"),
     }
 }
@@ -89,7 +106,7 @@ fn told(alloc: Global, lib: &Library, graph: &Arc<Graph>, script: &str) -> Resul
 }
 
 /// The graph of a text, whose functions are the library's.
-fn graph_of(alloc: Global, lib: &Library, text: &str) -> Result<Arc<Graph>, Fail>
+pub fn graph_of(alloc: Global, lib: &Library, text: &str) -> Result<Arc<Graph>, Fail>
     ensures { IfOk result (λ g. FitsAll (library_of lib.now) (arc_value g)) }
 {
     accepted_graphs_are_lawful();

@@ -22,7 +22,7 @@ pub use graphs::{evaluate, graph_of, map_counted};
 pub use messages::message_of;
 pub use networks::{receive, send};
 pub use program::run;
-pub use runs::run_on;
+pub use runs::{advance, run_on, run_through};
 pub use scripts::script_of;
 pub use sets::{count_more, image, join, remove, union};
 pub use states::{delta, is_reached};

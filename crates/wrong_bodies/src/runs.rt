@@ -1,10 +1,14 @@
 //! Runs of scripts over nodes of any engine.
 
+ghost use Rattle.std.specs.Prelude.{◌+◌, ◌≤◌, drop, length};
 ghost use Rattle.std.specs.Arc.{arc_value};
 ghost use Rattle.lasp_graph.specs.Library.{library_of};
+ghost use Rattle.lasp_drive.specs.Driver.{seen};
+ghost use Rattle.lasp_drive.specs.Play.{MayPlay, Plays};
 ghost use Rattle.lasp_drive.specs.Run.{IsRunnable, RunsTo};
+ghost use Rattle.lasp_drive.specs.Stretch.{MayGoOn, Advances};
 
-use lasp_drive::{Driver, FreshNode, Halt};
+use lasp_drive::{Driver, FreshNode, Halt, Node};
 use lasp_fns::Library;
 use lasp_graph::Graph;
 use lasp_script::Script;
@@ -22,4 +26,32 @@ pub fn run_on<N: FreshNode>(
     ensures { RunsTo N.view N.read (arc_value graph.now) script.now result }
 {
     lasp_drive::run_on::<N>(alloc, graph, lib, script)
+}
+
+/// `lasp_drive::Driver::run_through`.
+pub fn run_through<N: Node>(
+    driver: &mut Driver<N>,
+    alloc: Global,
+    lib: &Library,
+    script: &Script,
+) -> Result<(), Halt>
+    requires { MayPlay (library_of lib.now) (seen N.view N.read driver.old) script.now.commands }
+    ensures { Plays N.view N.read N.place driver.old script.now.commands result driver.new }
+{
+    driver.run_through(alloc, lib, script)
+}
+
+/// `lasp_drive::advance`.
+pub fn advance<N: Node>(
+    driver: Driver<N>,
+    alloc: Global,
+    lib: &Library,
+    script: &Script,
+    from: u64,
+) -> (Driver<N>, Result<u64, Halt>)
+    requires within { from ≤ length script.now.commands }
+    requires may { MayGoOn (library_of lib.now) (from + 1) (seen N.view N.read driver) (drop from script.now.commands) }
+    ensures { Advances N.view N.read N.place (library_of lib.now) from script.now.commands driver result.1 result.0 }
+{
+    lasp_drive::advance(driver, alloc, lib, script, from)
 }
