@@ -1,5 +1,5 @@
 -- Variables that are as plain evaluation gives them, while binds come in whatever order.
-use Rattle.std.proofs.Common.{◌≡◌, ℕ, ◌+◌, ◌≤◌, ◌<◌, ◌⊎◌, inl, inr, Bool, true, false, IsTrue, List, [], ◌∷◌, ◌++◌, length, take, Some, None, refl, sym, ap, subst, ◌∙◌, append-nil, append_assoc, arith}
+use Rattle.std.proofs.Common.{suc, ◌≡◌, ℕ, ◌+◌, ◌≤◌, ◌<◌, ◌⊎◌, inl, inr, Bool, true, false, IsTrue, List, [], ◌∷◌, ◌++◌, length, take, Some, None, refl, sym, ap, subst, ◌∙◌, append-nil, append_assoc, arith}
 use Rattle.model_states.specs.Content.{Content, size_of, row_limit, IsContentAtMost, IsOrdered}
 use Rattle.model_states.proofs.ContentLaws.{same-content}
 use Rattle.model_graph.specs.Graph.{Decl, is_source, kind_at}
@@ -104,6 +104,28 @@ evaluated-stays X h more many legal are within below y low = choose (is_source (
   choose false process =
       reached X (h ++ more) legal y (record { declared = small; process = process })
       (subst (λ (s : Content). IsContentAtMost s (val X (h ++ more) y)) (below y low ∙ sym (ap (λ (ss : List Content). content_at ss y) (same-evaluation X h (h ++ more) kept))) (vals-grow X h more y))
+
+-- contents that are alike place by place
+same-lists : (ss ts : List Content) → length ss ≡ length ts → ((x : ℕ) → x < length ss → content_at ss x ≡ content_at ts x) → ss ≡ ts
+same-lists [] [] long each = refl
+same-lists [] (t ∷ ts) long each = absurd (omega (arith, long))
+same-lists (s ∷ ss) [] long each = absurd (omega (arith, long))
+same-lists (s ∷ ss) (t ∷ ts) long each =
+    let here : s ≡ t = each 0 (omega arith) in
+    let rest = same-lists ss ts (omega (arith, long)) (λ x low. each (suc x) (omega (arith, low))) in
+    λ i. here i ∷ rest i
+
+-- where all is evaluated, binds add nothing
+pub evaluated-alone : (X : Frame) (h more : List Entry) → IsLegal X (h ++ more) → AreBinds more → vals X h ≡ evaluation X h → vals X (h ++ more) ≡ vals X h
+evaluated-alone X h more legal are is = same-lists (vals X (h ++ more)) (vals X h) long each where
+  long : length (vals X (h ++ more)) ≡ length (vals X h)
+  long = vals-length X (h ++ more) legal ∙ ap (λ (g : List Decl). length g) (kept-binds X h more legal are).graph_is ∙ sym (vals-length X h (legal-first X h more legal))
+
+  each : (y : ℕ) → y < length (vals X (h ++ more)) → content_at (vals X (h ++ more)) y ≡ content_at (vals X h) y
+  each y low =
+      let below : AreEvaluatedBelow X h (length (graph X h)) = λ z _. ap (λ (ss : List Content). content_at ss z) is in
+      evaluated-stays X h more (length (graph X h)) legal are (omega arith) below y (omega (arith, low, long, vals-length X h (legal-first X h more legal)))
+      ∙ ap (λ (ss : List Content). content_at ss y) (same-evaluation X h (h ++ more) (kept-binds X h more legal are) ∙ sym is)
 
 -- a source comes after those that are evaluated
 pub evaluated-source : (X : Frame) (h : List Entry) (y : ℕ) → y < length (graph X h) → IsTrue (is_source (kind_at (graph X h) y)) → AreEvaluatedBelow X h y → AreEvaluatedBelow X h (y + 1)
