@@ -1,8 +1,9 @@
 -- Replicas without tombstones and those of the run agree at each place: each state stands for what its replica knows.
-use Rattle.std.proofs.Common.{◌≡◌, ℕ, ◌+◌, ◌≤◌, ◌<◌, ◌⊎◌, inl, inr, List, [], ◌∷◌, ◌++◌, length, slice_set, replicate, refl, sym, ap, subst, ◌∙◌, arith}
+use Rattle.std.proofs.Common.{◌≡◌, ℕ, ◌+◌, ◌≤◌, ◌<◌, ◌⊎◌, inl, inr, not, List, [], ◌∷◌, ◌++◌, length, filter, slice_set, replicate, refl, sym, ap, subst, ◌∙◌, arith}
 use Rattle.model_values.specs.Value.{Val}
+use Rattle.model_values.specs.Token.{Tok}
 use Rattle.model_values.specs.Row.{Row}
-use Rattle.model_sets.specs.Rows.{IsAscending, join, add_delta, remove_delta}
+use Rattle.model_sets.specs.Rows.{mark, IsAscending, join, add_delta, remove_delta}
 use Rattle.model_sets.specs.Values.{visible}
 use Rattle.model_states.specs.Counts.{count_at, zeros, larger}
 use Rattle.model_states.specs.Content.{Content, least, join_contents}
@@ -26,13 +27,13 @@ use Rattle.model_known.proofs.SoundLaws.{IsSound, sound-act, first-empty}
 use Rattle.model_known.proofs.FollowLaws.{afters}
 use Rattle.model_known.proofs.RoundLaws.{AreCalm, calm-sync}
 use Rattle.model_known.proofs.PlayLaws.{IsAt, stage_of}
-use Rattle.model_dots.specs.Dots.{Dots, no_dots, join_dots, raised, dots_of}
-use Rattle.model_dots.proofs.StandLaws.{stands-add, stands-remove, stands-join, live-visible}
+use Rattle.model_dots.specs.Dots.{Dots, is_counted, no_dots, join_dots, raised, dots_of}
+use Rattle.model_dots.proofs.StandLaws.{live_of, live-mark, stands-add, stands-remove, stands-join, live-visible}
 use Rattle.model_dot_worlds.specs.Unlimited.{IsUnlimited}
-use Rattle.model_dot_worlds.specs.Counted.{IsFree}
-use Rattle.model_dot_worlds.specs.DotWorld.{one_set, DotWorld, dots_at, StandsFor, dot_start, IsDotCommand, AreDotCommands, dot_acts, dots_updated, dot_act, dot_each, dot_play}
-use Rattle.model_dot_worlds.proofs.UnlimitedLaws.{followed_all, all-run, step-stands, begin-at, all-sound}
-use Rattle.model_dot_worlds.proofs.CountedLaws.{Counted, counted-take, counted-post, counted-begin, counted-step, has-counted}
+use Rattle.model_dot_worlds.specs.Counted.{IsFree, AreFree}
+use Rattle.model_dot_worlds.specs.DotWorld.{one_set, DotWorld, dots_at, StandsFor, LacksTheRemoved, dot_start, IsDotCommand, AreDotCommands, dot_acts, dots_updated, dot_act, dot_each, dot_play}
+use Rattle.model_dot_worlds.proofs.UnlimitedLaws.{followed_all, all-run, step-stands, begin-at, all-sound, rows-ascend}
+use Rattle.model_dot_worlds.proofs.CountedLaws.{Counted, counted-take, counted-post, counted-begin, counted-step, has-counted, rows-removed}
 
 -- what stands for all that is known of the set by these counts
 abbrev pub dots_known : List Decl → ℕ → List (List Delta) → List ℕ → Dots
@@ -248,5 +249,26 @@ pub each-visible : (nodes : ℕ) (commands : List Command) (run : Run) → IsUnl
     → visible (dots_at (dot_play (dot_start nodes) commands).nodes p).rows ≡ visible (rows_at (peer_at run.peers p).contents 0)
 each-visible nodes commands run is dots p member =
     ap (λ (d : Dots). visible d.rows) (each-stands nodes commands run is dots p member) ∙ live-visible (rows_at (peer_at run.peers p).contents 0)
+
+free-all : (commands : List Command) → AreDotCommands commands → AreFree commands
+free-all [] dots = tt
+free-all (k ∷ rest) dots = (free-command k dots.0, free-all rest dots.1)
+
+first-declared : (nodes : ℕ) (commands : List Command) (run : Run) → IsUnlimited one_set nodes commands run → AreDotCommands commands → 0 < length run.graph
+first-declared nodes commands run is dots =
+    subst (λ (r : Run). 0 < length r.graph) (all-run (begin one_set nodes) commands ∙ sym is.reached)
+    (let graph = (end-agrees nodes commands is.lawful dots).graph in omega (arith, ap (λ (g : List Decl). length g) graph))
+
+-- where no live row is left there was none
+not-live : (rows : List Row) (v : Val) (t : Tok) → IsAscending rows → mark (filter (λ r. not r.1) rows) v t ≡ 0 → mark rows v t ≡ 1 → ⊥
+not-live rows v t up none one = absurd (omega (arith, none, live-mark rows up v t, ap live_of one))
+
+pub each-lacks : (nodes : ℕ) (commands : List Command) (run : Run) → IsUnlimited one_set nodes commands run → AreDotCommands commands → (p q : ℕ) → p < nodes → q < nodes
+    → LacksTheRemoved (dots_at (dot_play (dot_start nodes) commands).nodes p) (peer_at run.peers p) (peer_at run.peers q)
+each-lacks nodes commands run is dots p q member other v t some counted none =
+    let stands = each-stands nodes commands run is dots p member in
+    let low = first-declared nodes commands run is dots in
+    rows-removed one_set nodes commands run is (free-all commands dots) p q 0 member other low v t some (sym (ap (λ (d : Dots). is_counted d.counts t) stands) ∙ counted)
+    (not-live (rows_at (peer_at run.peers p).contents 0) v t (rows-ascend one_set nodes commands run is p 0 member low) (sym (ap (λ (d : Dots). mark d.rows v t) stands) ∙ none))
 
 pub ruleset agreement = (each-stands, each-visible)

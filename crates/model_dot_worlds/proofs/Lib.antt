@@ -1,5 +1,6 @@
 -- The laws of such worlds.
 pub mod UnlimitedLaws
+pub mod PlaceLaws
 pub mod CountedLaws
 pub mod AgreeLaws
 pub mod TextLaws

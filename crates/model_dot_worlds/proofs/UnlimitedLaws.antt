@@ -1,17 +1,21 @@
 -- A run in which nothing stops is the run as far as that goes, and everybody in it holds what is known.
-use Rattle.std.proofs.Common.{◌≡◌, ℕ, ◌+◌, List, [], ◌∷◌, length, Ok, refl, sym, ap, subst, ◌∙◌}
+use Rattle.std.proofs.Common.{◌≡◌, ℕ, ◌+◌, ◌<◌, List, [], ◌∷◌, length, Ok, refl, sym, ap, subst, ◌∙◌}
+use Rattle.model_sets.specs.Rows.{IsAscending}
+use Rattle.model_states.specs.Content.{Content}
 use Rattle.model_graph.specs.Graph.{Decl}
+use Rattle.model_graph.specs.Evaluation.{rows_at}
 use Rattle.model_world.specs.Command.{Command, Script}
 use Rattle.model_world.specs.Lawful.{Stage, opening_stage, stage_after, MayBeDone, AreLawful}
-use Rattle.model_world.specs.World.{Run, Act, Update, Keep, Post, Take, Point, Show, Open, Reach, Extend, start, acts, act, ended}
+use Rattle.model_world.specs.World.{Run, Act, Update, Keep, Post, Take, Point, Show, Open, Reach, Extend, start, peer_at, acts, act, ended}
 use Rattle.model_world.proofs.StopLaws.{point-same}
-use Rattle.model_known.specs.Follow.{Followed, follow_step, follow, begin}
+use Rattle.model_known.specs.Follow.{Followed, with_run, follow_step, follow, begin}
 use Rattle.model_known.specs.Holds.{IsPlaceOf}
 use Rattle.model_known.proofs.EffectLaws.{effect, followed}
+use Rattle.model_known.proofs.VariableLaws.{known-ordered}
 use Rattle.model_known.proofs.SoundLaws.{IsSound, sound-begin}
 use Rattle.model_known.proofs.FollowLaws.{afters, bound, step-effect, follow-play}
 use Rattle.model_known.proofs.PlayLaws.{IsAt, step-at, stage_after_all}
-use Rattle.model_dot_worlds.specs.Unlimited.{after_act, after_acts, unlimited}
+use Rattle.model_dot_worlds.specs.Unlimited.{after_act, after_acts, unlimited, IsUnlimited, place_after_acts, unlimited_place, IsUnlimitedPlaceOf}
 
 effect-is : (run : Run) (a : Act) → effect run a ≡ after_act run a
 effect-is run (Update p x op) = refl
@@ -39,6 +43,27 @@ unfolding unlimited
 all-run f [] = refl
 all-run f (k ∷ rest) = all-run (afters f (acts f.run k)) rest ∙ ap (λ (run : Run). unlimited run rest) (afters-run f (acts f.run k))
 
+afters-place : (f : Followed) (many : List Act) → afters f many ≡ place_after_acts f many
+afters-place f [] = refl
+afters-place f (a ∷ rest) = afters-place (followed f a) rest ∙ ap (λ (run : Run). place_after_acts (with_run f a run) rest) (effect-is f.run a)
+
+pub all-place : (f : Followed) (commands : List Command) → followed_all f commands ≡ unlimited_place f commands
+unfolding unlimited_place
+all-place f [] = refl
+all-place f (k ∷ rest) = all-place (afters f (acts f.run k)) rest ∙ ap (λ (next : Followed). unlimited_place next rest) (afters-place f (acts f.run k))
+
+pub place-run : (g : List Decl) (nodes : ℕ) (commands : List Command) (f : Followed) → IsUnlimitedPlaceOf g nodes commands f → IsUnlimited g nodes commands f.run
+place-run g nodes commands f place = record {
+  lawful = place.lawful;
+  reached = ap (λ (z : Followed). z.run) (place.reached ∙ sym (all-place (begin g nodes) commands)) ∙ all-run (begin g nodes) commands;
+}
+
+-- each such run has its place
+pub run-place : (g : List Decl) (nodes : ℕ) (commands : List Command) (run : Run) → IsUnlimited g nodes commands run → (f : Followed) × IsUnlimitedPlaceOf g nodes commands f × (f.run ≡ run)
+run-place g nodes commands run is =
+    let place : IsUnlimitedPlaceOf g nodes commands (unlimited_place (begin g nodes) commands) = record { lawful = is.lawful; reached = refl } in
+    (unlimited_place (begin g nodes) commands, place, (place-run g nodes commands (unlimited_place (begin g nodes) commands) place).reached ∙ sym is.reached)
+
 -- a run that comes behind the commands is this one
 pub follow-all : (c : ℕ) (f last : Followed) (commands : List Command) → follow c f commands ≡ Ok last → last ≡ followed_all f commands
 unfolding follow
@@ -49,6 +74,9 @@ follow-all c f last (k ∷ rest) e =
 
 pub place-unlimited : (g : List Decl) (nodes : ℕ) (commands : List Command) (f : Followed) → IsPlaceOf g nodes commands f → f.run ≡ unlimited (start g nodes) commands
 place-unlimited g nodes commands f place = ap (λ (z : Followed). z.run) (follow-all 1 (begin g nodes) f commands place.reached) ∙ all-run (begin g nodes) commands
+
+pub place-reached : (g : List Decl) (nodes : ℕ) (commands : List Command) (f : Followed) → IsPlaceOf g nodes commands f → IsUnlimitedPlaceOf g nodes commands f
+place-reached g nodes commands f place = record { lawful = place.lawful; reached = follow-all 1 (begin g nodes) f commands place.reached ∙ all-place (begin g nodes) commands }
 
 pub ended-unlimited : (g : List Decl) (script : Script) (last : Run) → ended g script ≡ Ok last → last ≡ unlimited (start g script.nodes) script.commands
 ended-unlimited g script last e =
@@ -72,4 +100,14 @@ begin-at g nodes = record { sound = sound-begin g nodes; stands = refl }
 pub all-sound : (g : List Decl) (nodes : ℕ) (commands : List Command) → AreLawful nodes (opening_stage g) commands → IsSound nodes (followed_all (begin g nodes) commands)
 all-sound g nodes commands lawful = (all-at nodes (opening_stage g) (begin g nodes) commands (begin-at g nodes) lawful).sound
 
-pub ruleset unlimited_runs = (place-unlimited, ended-unlimited)
+pub place-sound : (g : List Decl) (nodes : ℕ) (commands : List Command) (f : Followed) → IsUnlimitedPlaceOf g nodes commands f → IsSound nodes f
+place-sound g nodes commands f place = subst (IsSound nodes) (all-place (begin g nodes) commands ∙ sym place.reached) (all-sound g nodes commands place.lawful)
+
+-- the rows of a variable ascend
+pub rows-ascend : (g : List Decl) (nodes : ℕ) (commands : List Command) (run : Run) → IsUnlimited g nodes commands run → (p x : ℕ) → p < nodes → x < length run.graph → IsAscending (rows_at (peer_at run.peers p).contents x)
+rows-ascend g nodes commands run is p x member =
+    let f = followed_all (begin g nodes) commands in
+    subst (λ (r : Run). x < length r.graph → IsAscending (rows_at (peer_at r.peers p).contents x)) (all-run (begin g nodes) commands ∙ sym is.reached)
+    (λ low. subst (λ (k : Content). IsAscending k.rows) (sym (((all-sound g nodes commands is.lawful).holds p member).knows x low)) (known-ordered f.run.graph nodes f.deltas (peer_at f.run.peers p).counts x).rows)
+
+pub ruleset unlimited_runs = (place-unlimited, place-reached, place-run, ended-unlimited)

@@ -1,12 +1,15 @@
 -- Replicas of one set without tombstones that do the commands of a script: each keeps its state, and sends it whole.
-use Rattle.std.specs.Prelude.{◌≡◌, ℕ, List, [], ◌∷◌, ◌++◌, length, slice_index_or, slice_set, replicate, codes}
+use Rattle.std.specs.Prelude.{◌≡◌, ℕ, true, List, [], ◌∷◌, ◌++◌, length, slice_index_or, slice_set, replicate, codes}
+use Rattle.model_values.specs.Value.{Val}
+use Rattle.model_values.specs.Token.{Tok}
+use Rattle.model_sets.specs.Rows.{mark, HasRow, IsDeadIn}
 use Rattle.model_states.specs.Update.{Op, Add, Remove}
 use Rattle.model_graph.specs.Graph.{Decl, OrSet}
 use Rattle.model_graph.specs.Evaluation.{rows_at}
 use Rattle.model_world.specs.Command as command
 use Rattle.model_world.specs.Command.{Command}
 use Rattle.model_world.specs.World.{Peer, Act, Update, Post, Take, Point, Show, sync_acts}
-use Rattle.model_dots.specs.Dots.{Dots, no_dots, join_dots, add_dot, remove_dots, dots_of}
+use Rattle.model_dots.specs.Dots.{Dots, is_counted, no_dots, join_dots, add_dot, remove_dots, dots_of}
 
 -- the graph: one observed-remove set, named a
 abbrev pub one_set : List Decl
@@ -23,6 +26,10 @@ dots_at states i = slice_index_or states i (no_dots 0)
 -- a state stands for a replica with tombstones: it has the live rows of its set, and its counts
 abbrev pub StandsFor : Dots → Peer → Type 0
 StandsFor s r = s ≡ dots_of (rows_at r.contents 0) r.counts
+
+-- Of a row of another replica whose update a state counts and that it doesn't have, the state tells that it was removed: at the replica that it stands for the row is dead.
+abbrev pub LacksTheRemoved : Dots → Peer → Peer → Type 0
+LacksTheRemoved s r other = (v : Val) (t : Tok) → HasRow (rows_at other.contents 0) v t → is_counted s.counts t ≡ true → mark s.rows v t ≡ 0 → IsDeadIn (rows_at r.contents 0) v t
 
 abbrev pub dot_start : ℕ → DotWorld
 dot_start nodes = record { nodes = replicate nodes (no_dots nodes); sent = [] }

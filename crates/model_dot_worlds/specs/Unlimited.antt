@@ -7,6 +7,7 @@ use Rattle.model_world.specs.Command.{Command}
 use Rattle.model_world.specs.Lawful.{opening_stage, AreLawful}
 use Rattle.model_world.specs.Line.{print_line}
 use Rattle.model_world.specs.World.{Run, Act, Update, Keep, Post, Take, Point, Show, Open, Reach, Extend, start, peer_at, updated, delivered, message_at, sent_number, threshold_of, shown_content_at, with_peer, with_mark, with_read, with_text, with_decl, acts}
+use Rattle.model_known.specs.Follow.{Followed, with_run, begin}
 
 -- the run after an act
 abbrev pub after_act : Run → Act → Run
@@ -33,3 +34,22 @@ unlimited run (k ∷ rest) = unlimited (after_acts run (acts run k)) rest
 pub record IsUnlimited (g : List Decl) (nodes : ℕ) (commands : List Command) (run : Run) : Type 0 where
   pub lawful : AreLawful nodes (opening_stage g) commands
   pub reached : run ≡ unlimited (start g nodes) commands
+
+-- ---- such a run with what its updates brought, which changes nothing of it
+
+abbrev pub place_after : Followed → Act → Followed
+place_after f a = with_run f a (after_act f.run a)
+
+abbrev pub place_after_acts : Followed → List Act → Followed
+place_after_acts f [] = f
+place_after_acts f (a ∷ rest) = place_after_acts (place_after f a) rest
+
+-- its place after commands
+unfoldable pub unlimited_place : Followed → List Command → Followed
+unlimited_place f [] = f
+unlimited_place f (k ∷ rest) = unlimited_place (place_after_acts f (acts f.run k)) rest
+
+-- the place of such a run after these commands, which are lawful
+pub record IsUnlimitedPlaceOf (g : List Decl) (nodes : ℕ) (commands : List Command) (f : Followed) : Type 0 where
+  pub lawful : AreLawful nodes (opening_stage g) commands
+  pub reached : f ≡ unlimited_place (begin g nodes) commands

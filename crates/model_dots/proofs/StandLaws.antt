@@ -45,7 +45,7 @@ given-raised counts node (both w u) low h = absurd h
 
 -- ---- adds and removes lead to states
 
-new-mark : (v u : Val) (w t : Tok) → (0 < row_mark ((v, t), false) u w) → w ≡ t
+pub new-mark : (v u : Val) (w t : Tok) → (0 < row_mark ((v, t), false) u w) → w ≡ t
 new-mark v u w t h = choose (eq_by_cmp key_cmp (u, w) (v, t)) refl where
   choose : (b : Bool) → eq_by_cmp key_cmp (u, w) (v, t) ≡ b → w ≡ t
   choose true e = ap (λ (k : Key). k.1) (key_exact (u, w) (v, t) (is-Equal (key_cmp (u, w) (v, t)) e))
@@ -83,7 +83,7 @@ is_other v k = not (eq_by_cmp val_cmp v k.0)
 pub remove-rows : (v : Val) (s : List Row) (u : Val) (w : Tok) → mark (filter (λ r. not (is_of v r)) s) u w ≡ (if is_other v (u, w) then mark s u w else 0)
 remove-rows v s u w = keep-mark (is_other v) s u w
 
-if-most : (b : Bool) (m : ℕ) → (if b then m else 0) ≤ m
+pub if-most : (b : Bool) (m : ℕ) → (if b then m else 0) ≤ m
 if-most true m = omega arith
 if-most false m = omega arith
 

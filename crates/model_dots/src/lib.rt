@@ -7,4 +7,6 @@ mod states;
 
 pub use loops::loops_compute_the_definitions;
 pub use stands::live_rows_and_counts_stand_for_all_rows;
-pub use states::{states_are_a_lattice, states_are_told_by_marks, updates_lead_to_states};
+pub use states::{
+    states_are_a_lattice, states_are_told_by_marks, updates_lead_to_states, updates_lead_upwards,
+};

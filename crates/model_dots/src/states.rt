@@ -35,3 +35,9 @@ pub fn updates_lead_to_states()
     ensures add { (v : Val) (node : ℕ) (s : Dots) → IsState s → node < length s.counts → count_at s.counts node < count_limit → IsState (add_dot v node s) }
     ensures remove { (v : Val) (node : ℕ) (s : Dots) → IsState s → node < length s.counts → count_at s.counts node < count_limit → IsState (remove_dots v node s) }
 {}
+
+/// An add and a remove lead upwards, where the node has a count left: the state before is at most the one behind.
+pub fn updates_lead_upwards()
+    ensures add { (v : Val) (node : ℕ) (s : Dots) → IsState s → node < length s.counts → count_at s.counts node < count_limit → IsAtMost s (add_dot v node s) }
+    ensures remove { (v : Val) (node : ℕ) (s : Dots) → IsState s → node < length s.counts → count_at s.counts node < count_limit → IsAtMost s (remove_dots v node s) }
+{}
