@@ -11,8 +11,9 @@ use Rattle.model_states.specs.Counts.{count_at, larger, AreCountsAtMost, are_cou
 use Rattle.model_states.proofs.CountLaws.{counts-test}
 use Rattle.model_dots.specs.Dots.{Dots, count_limit, IsState, HaveSameNodes, outlives, join_dots, IsAtMost, add_dot, remove_dots}
 use Rattle.model_dots.specs.Loops.{weave, is_at_most}
-use Rattle.model_dots.proofs.DotLaws.{state-join}
+use Rattle.model_dots.proofs.DotLaws.{state-join, dots-idempotent}
 use Rattle.model_dots.proofs.StandLaws.{state-add, state-remove}
+use Rattle.model_dots.proofs.RiseLaws.{add-rises, remove-rises}
 use Rattle.model_dots.proofs.LoopLaws.{weave-join, at_most-test}
 
 -- ---- updates
@@ -42,6 +43,18 @@ added-state s node at k v dot rows h low left e here is new = subst IsState (sym
 pub removed-state : (s : Dots) (node at k : ℕ) (v : Val) (rows : List Row) → IsState s → node < length s.counts → count_at s.counts node < count_limit
     → k ≡ count_at s.counts node + 1 → at ≡ node → rows ≡ filter (λ r. not (is_of v r)) s.rows → IsState (record { rows = rows; counts = slice_set s.counts at k })
 removed-state s node at k v rows h low left e here new = subst IsState (sym (removed s node at k v rows e here new)) (state-remove v node s h low left)
+
+pub added-rises : (s : Dots) (node at k : ℕ) (v : Val) (dot : Row) (rows : List Row) → IsState s → node < length s.counts → count_at s.counts node < count_limit
+    → k ≡ count_at s.counts node + 1 → at ≡ node → dot ≡ ((v, single node k), false) → rows ≡ put dot s.rows → IsAtMost s (record { rows = rows; counts = slice_set s.counts at k })
+added-rises s node at k v dot rows h low left e here is new = subst (IsAtMost s) (sym (added s node at k v dot rows e here is new)) (add-rises v node s h low left)
+
+pub removed-rises : (s : Dots) (node at k : ℕ) (v : Val) (rows : List Row) → IsState s → node < length s.counts → count_at s.counts node < count_limit
+    → k ≡ count_at s.counts node + 1 → at ≡ node → rows ≡ filter (λ r. not (is_of v r)) s.rows → IsAtMost s (record { rows = rows; counts = slice_set s.counts at k })
+removed-rises s node at k v rows h low left e here new = subst (IsAtMost s) (sym (removed s node at k v rows e here new)) (remove-rises v node s h low left)
+
+-- rows that stay as they are make a state that isn't less than it was
+pub stays : (s : Dots) (rows after : List Row) (counts : List ℕ) → IsState s → (record { rows = rows; counts = counts }) ≡ s → after ≡ rows → IsAtMost s (record { rows = after; counts = counts })
+stays s rows after counts h view same = subst (IsAtMost s) (sym ((λ i. record { rows = same i; counts = counts }) ∙ view)) (dots-idempotent s h)
 
 -- ---- the join
 

@@ -1,5 +1,12 @@
 //! The state of an observed-remove set that keeps no tombstones (Bieniusa et al. 2012): the pairs of a value and a token that are live, and how many updates of each node
 //! it counts. A pair whose token is counted and that isn't there was removed, so memory grows with what is visible and not with what was removed.
+//!
+//! ```text
+//! let mut here = DotSet::new(alloc, 2)?;    // of two replicas
+//! here.add(&value, 0)?;                     // replica 0's first update
+//! there.join_in(&here.try_clone()?)?;       // what the other one makes of a message
+//! let shown = there.visible()?;
+//! ```
 #![tactic(auto)]
 
 mod changes;

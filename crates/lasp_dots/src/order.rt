@@ -27,6 +27,7 @@ impl DotSet {
         requires { HaveSameNodes self.old other.now }
         ensures ok { OnOk result (self.new ≡ join_dots self.old other.now) }
         ensures grew { IfOk result (λ grew. IsTrue grew ↔ (self.new ≢ self.old)) }
+        ensures grows { IsAtMost self.old self.new }
         ensures err { OnErr result (self.new ≡ self.old) }
     {
         self.holds();

@@ -1,7 +1,7 @@
 //! The set: the least one, what an add and a remove do, and the join.
 
 ghost use Rattle.std.specs.Prelude.{◌≡◌, ◌≤◌, ◌<◌, ◌↔◌, ◌+◌, IfOk, OnOk, OnErr, Err, length};
-ghost use Rattle.lasp_dots.specs.Prelude.{count_at, count_limit, IsState, no_dots, add_dot, remove_dots, val_of, CountFull};
+ghost use Rattle.lasp_dots.specs.Prelude.{count_at, count_limit, IsState, IsAtMost, no_dots, add_dot, remove_dots, val_of, CountFull};
 
 use super::changes::{put_in, take_out};
 use super::dot::Dot;
@@ -72,9 +72,11 @@ impl DotSet {
         requires { replica < length self.old.counts }
         ensures ok { OnOk result (self.new ≡ add_dot (val_of value.now) replica self.old) }
         ensures number { IfOk result (λ k. k ≡ count_at self.new.counts replica) }
+        ensures grows { IsAtMost self.old self.new }
         ensures full { (result ≡ Err CountFull) ↔ (count_at self.old.counts replica ≡ count_limit) }
         ensures err { OnErr result (self.new ≡ self.old) }
     {
+        self.holds();
         let k = self.next_count(replica)?;
         let alloc = *self.known.allocator();
         let dot = Dot::new(alloc, value.try_clone(alloc)?, Token::Base(replica, k))?;
@@ -88,9 +90,11 @@ impl DotSet {
         requires { replica < length self.old.counts }
         ensures ok { OnOk result (self.new ≡ remove_dots (val_of value.now) replica self.old) }
         ensures number { IfOk result (λ k. k ≡ count_at self.new.counts replica) }
+        ensures grows { IsAtMost self.old self.new }
         ensures full { (result ≡ Err CountFull) ↔ (count_at self.old.counts replica ≡ count_limit) }
         ensures err { OnErr result (self.new ≡ self.old) }
     {
+        self.holds();
         let number = self.next_count(replica)?;
         take_out(&mut self.live, value)?;
         self.known[usize::from(replica)] = number;

@@ -1,6 +1,6 @@
-use Rattle.std.proofs.Common.{◌≡◌, true, false, refl, sym, ◌∙◌}
+use Rattle.std.proofs.Common.{◌≡◌, true, false, refl, sym, subst, ◌∙◌}
 use Rattle.model_dots.specs.Dots.{IsAtMost}
-use Rattle.model_dots.proofs.DotLaws.{dots-commutative}
+use Rattle.model_dots.proofs.DotLaws.{dots-idempotent, dots-commutative, dots-left}
 use Rattle.lasp_dots.proofs.set.DotSet.join_in.Goals as goal
 
 pub returns-then-le-clause-ok : goal.returns-then-le-clause-ok
@@ -15,3 +15,13 @@ returns-clause-grew c = (
       absurd cc,
   λ _. refl,
 )
+
+pub returns-then-le-clause-grows : goal.returns-then-le-clause-grows
+returns-then-le-clause-grows c = dots-idempotent c.args.self.now c.holds.ensures
+
+pub returns-in_err-join_all-clause-grows : goal.returns-in_err-join_all-clause-grows
+returns-in_err-join_all-clause-grows c = subst (IsAtMost c.args.self.now) (sym c.in_err-join_all.ensures.err) (dots-idempotent c.args.self.now c.holds.ensures)
+
+pub returns-clause-grows : goal.returns-clause-grows
+returns-clause-grows c =
+    subst (IsAtMost c.args.self.now) (sym c.in_ok-join_all.ensures.ok) (dots-left c.args.self.now c.args.other.now c.holds.ensures c.holds-2.ensures c.requires)
