@@ -2,7 +2,7 @@
 
 use crate::wrong::Wrong;
 use lasp_dots::DotSet;
-use lasp_orset::{OrSet, add_delta};
+use lasp_orset::{Entry, OrSet, add_delta};
 use lasp_value::{Value, Values};
 use std::alloc::{AllocError, Global};
 
@@ -62,24 +62,37 @@ impl Beside {
         Ok(())
     }
 
-    /// Whether both sets show the same values, and have as many live rows.
+    /// Whether both sets show the same values, and the pairs of the one are the live rows of the other.
     pub fn is_alike(&self) -> Result<bool, AllocError> {
         let alike = are_same(&self.dots.visible()?, &self.rows.visible()?);
-        Ok(alike && self.dots.dots() == live_rows(&self.rows))
+        Ok(alike && has_live_rows(&self.dots, &self.rows))
     }
 }
 
-fn live_rows(set: &OrSet) -> u64 {
-    let mut count = 0u64;
+/// Whether the pairs are the live rows, in the same order.
+fn has_live_rows(dots: &DotSet, set: &OrSet) -> bool {
+    let mut place = 0u64;
     let mut rows = set.iter();
     for _ in 0..set.rows() {
         if let Some(row) = rows.next() {
-            if !row.is_dead() {
-                count = count.saturating_add(1);
+            if row.is_dead() {
+                continue;
             }
+            if !has_pair_at(dots, place, row) {
+                return false;
+            }
+            place = place.saturating_add(1);
         }
     }
-    count
+    place == dots.dots()
+}
+
+fn has_pair_at(dots: &DotSet, place: u64, row: &Entry) -> bool {
+    if place >= dots.dots() {
+        return false;
+    }
+    let (value, token) = dots.dot_at(place);
+    *value == *row.value() && *token == *row.token() && dots.has(value)
 }
 
 fn are_same(values: &Values, others: &Values) -> bool {

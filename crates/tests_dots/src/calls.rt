@@ -2,6 +2,7 @@
 
 use crate::wrong::Wrong;
 use lasp_dots::{DotRefused, DotSet};
+use lasp_lattice::Lattice;
 use lasp_value::{Token, Value};
 use std::alloc::{AllocError, Global};
 use std::test::Fail;
@@ -62,8 +63,13 @@ fn removed_there(alloc: Global) -> Result<bool, Wrong> {
     let mut there = here.try_clone()?;
     remove(&mut there, 1, 1)?;
     add(&mut here, 1, 0)?;
-    let grew = join(&mut here, &there)?;
-    Ok(grew && has_pairs(&here, &[(1, 0, 2)]) && counts(&here, 2, 1))
+    let grew = join(&mut here, &there)? && join(&mut there, &here)?;
+    Ok(grew && has_second_add(&here) && has_second_add(&there))
+}
+
+/// Whether only the value's second add by the first node is left, and the remove is counted.
+fn has_second_add(set: &DotSet) -> bool {
+    has_pairs(set, &[(1, 0, 2)]) && counts(set, 2, 1)
 }
 
 #[test]
@@ -104,6 +110,23 @@ fn ordered(alloc: Global) -> Result<bool, Wrong> {
 #[test]
 fn a_set_from_which_a_value_was_removed_is_the_greater_one(rt: HostRuntime) -> Result<(), Fail> {
     assert!(rt; ordered(rt.alloc())?);
+    Ok(())
+}
+
+/// The least set of as many nodes is made of any, which stays as it is.
+fn least(alloc: Global) -> Result<bool, Wrong> {
+    let mut set = empty(alloc)?;
+    add(&mut set, 7, 1)?;
+    remove(&mut set, 8, 0)?;
+    let bottom = set.bottom_like()?;
+    let lower = is_at_most(&bottom, &set) && !is_at_most(&set, &bottom);
+    let kept = has_pairs(&set, &[(7, 1, 1)]) && counts(&set, 1, 1);
+    Ok(lower && kept && has_pairs(&bottom, &[]) && counts(&bottom, 0, 0))
+}
+
+#[test]
+fn the_least_set_has_no_pairs_and_counts_nothing(rt: HostRuntime) -> Result<(), Fail> {
+    assert!(rt; least(rt.alloc())?);
     Ok(())
 }
 

@@ -1,12 +1,35 @@
 //! Random worlds of replicas in which messages are lost, come again and come late.
 
+ghost use Rattle.std.specs.Prelude.{◌<◌};
+
 use crate::beside::Beside;
 use crate::dice::Dice;
 use crate::mail::{Mail, Tally};
 use crate::wrong::Wrong;
-use lasp_value::Value;
-use std::alloc::Global;
+use lasp_value::{Text, Value};
+use std::alloc::{AllocError, Global};
 use std::test::Fail;
+
+/// How many values there are.
+const VALUES: u64 = 12;
+
+/// A number, a text or a pair; another one for each n.
+fn value_of(alloc: Global, n: u64) -> Result<Value, AllocError>
+    requires { n < 12 }
+{
+    match n {
+        0 => Ok(Value::Text(Text::of(alloc, "")?)),
+        1 => Ok(Value::Text(Text::of(alloc, "né")?)),
+        2 => pair_of(alloc, 1, 2),
+        3 => pair_of(alloc, 2, 1),
+        _ => Ok(Value::Int(n as i64 - 8)),
+    }
+}
+
+fn pair_of(alloc: Global, first: i64, second: i64) -> Result<Value, AllocError> {
+    let first = Box::new(alloc, Value::Int(first))?;
+    Ok(Value::Pair(first, Box::new(alloc, Value::Int(second))?))
+}
 
 /// Some replicas, all messages that were sent, and who took which.
 #[derive(Drop)]
@@ -33,7 +56,7 @@ impl World {
         })
     }
 
-    /// Some replica adds, removes, sends or takes any message, and is then looked at, the only one that changed.
+    /// Some replica adds, removes, sends or takes any message, and then all replicas are looked at.
     fn step(&mut self, alloc: Global, dice: &mut Dice) -> Result<(), Wrong> {
         if self.nodes == 0 {
             return Err(Wrong::NoNode);
@@ -43,23 +66,24 @@ impl World {
         if p >= self.replicas.len() {
             return Err(Wrong::NoNode);
         }
-        let value = Value::Int(dice.roll(4) as i64);
+        let value = value_of(alloc, dice.roll(VALUES))?;
         match dice.roll(8) {
             0 | 1 | 2 => self.replicas[p].add(alloc, &value, node)?,
             3 | 4 => self.replicas[p].remove(&value, node)?,
             5 => self.send(p)?,
             _ => self.deliver(p, dice)?,
         }
-        self.look(p)
+        self.look()
     }
 
-    /// Whether both sorts of sets show the same at the replica.
-    fn look(&self, p: usize) -> Result<(), Wrong> {
-        match self.replicas.get(p) {
-            Some(replica) if replica.is_alike()? => Ok(()),
-            Some(_) => Err(Wrong::Differs),
-            None => Err(Wrong::NoNode),
+    /// Whether both sorts of sets show the same at each replica.
+    fn look(&self) -> Result<(), Wrong> {
+        for replica in &self.replicas {
+            if !replica.is_alike()? {
+                return Err(Wrong::Differs);
+            }
         }
+        Ok(())
     }
 
     fn send(&mut self, p: usize) -> Result<(), Wrong> {
