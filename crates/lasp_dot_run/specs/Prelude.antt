@@ -11,7 +11,7 @@ pub use Rattle.model_world.specs.Report.{report_of}
 pub use Rattle.model_world.specs.World.{Post, Run, Take, Update, ended, peer_at, sync_acts, takes}
 pub use Rattle.model_dots.specs.Dots.{add_dot, count_limit, join_dots, no_dots, remove_dots}
 pub use Rattle.model_dot_worlds.specs.DotReport.{dot_known, dot_output, dot_print, dot_sizes, dot_text, live_lines}
-pub use Rattle.model_dot_worlds.specs.DotWorld.{AreDotCommands, StandsFor, dot_act, dot_acts, dot_each, dot_play, dot_start, dots_at, one_set}
+pub use Rattle.model_dot_worlds.specs.DotWorld.{AreDotCommands, LacksTheRemoved, StandsFor, dot_act, dot_acts, dot_each, dot_play, dot_start, dots_at, one_set}
 pub use Rattle.model_dot_worlds.specs.Sizes.{CountAtMost}
 pub use Rattle.model_dot_worlds.specs.Unlimited.{IsUnlimited}
 pub use Rattle.model_dot_worlds.specs.Words.{first_other, is_dot_command}

@@ -1,7 +1,7 @@
 //! A whole script.
 
 ghost use Rattle.std.specs.Prelude.{◌≡◌, ◌≤◌, ◌<◌, ◌++◌, ℕ, IfOk, OnOk, Ok, length, string_bytes};
-ghost use Rattle.lasp_dot_run.specs.Prelude.{IsLawful, IsWithinLimits, AreLawful, report_of, Run, ended, peer_at, live_lines, dot_text, dot_output, one_set, dots_at, StandsFor, dot_start, dot_play, AreDotCommands, CountAtMost, IsUnlimited, stage_at};
+ghost use Rattle.lasp_dot_run.specs.Prelude.{IsLawful, IsWithinLimits, AreLawful, report_of, Run, ended, peer_at, live_lines, dot_text, dot_output, one_set, dots_at, StandsFor, LacksTheRemoved, dot_start, dot_play, AreDotCommands, CountAtMost, IsUnlimited, stage_at};
 
 use super::command::do_command;
 use super::replicas::DotReplicas;
@@ -35,7 +35,7 @@ pub struct DotRun {
     pub text: String,
 }
 
-/// Runs a script over the graph of one set on replicas without tombstones. At its end each replica stands for that of the script's run in which no limit stops: it has the live rows and the counts of it.
+/// Runs a script over the graph of one set on replicas without tombstones. At its end each replica stands for that of the script's run in which no limit stops: it has the live rows and the counts of it, and what it counts of another replica's rows and doesn't have was removed there.
 pub fn play_dots(alloc: Global, script: &Script) -> Result<DotRun, AllocError>
     requires lawful { IsLawful one_set script.now }
     requires limits { IsWithinLimits script.now }
@@ -44,6 +44,8 @@ pub fn play_dots(alloc: Global, script: &Script) -> Result<DotRun, AllocError>
     ensures text { IfOk result (λ r. string_bytes r.text ≡ dot_text (dot_start script.now.nodes) script.now.commands) }
     ensures stands { (run : Run) → IsUnlimited one_set script.now.nodes script.now.commands run
         → IfOk result (λ r. (p : ℕ) → p < script.now.nodes → StandsFor (dots_at r.replicas.nodes p) (peer_at run.peers p)) }
+    ensures removed { (run : Run) → IsUnlimited one_set script.now.nodes script.now.commands run
+        → IfOk result (λ r. (p q : ℕ) → p < script.now.nodes → q < script.now.nodes → LacksTheRemoved (dots_at r.replicas.nodes p) (peer_at run.peers p) (peer_at run.peers q)) }
 {
     replicas_without_tombstones_stand_for_those_with_them();
     let mut replicas = DotReplicas::new(alloc, script.nodes())?;
