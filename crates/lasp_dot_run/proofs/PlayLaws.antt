@@ -1,5 +1,5 @@
 -- A script goes on command by command.
-use Rattle.std.proofs.Common.{◌≡◌, ℕ, ◌+◌, ◌≤◌, ◌<◌, List, [], ◌∷◌, ◌++◌, length, drop, refl, sym, ap, subst, ◌∙◌, arith}
+use Rattle.std.proofs.Common.{◌≡◌, ℕ, ◌+◌, ◌≤◌, List, [], ◌∷◌, ◌++◌, length, drop, refl, sym, ap, subst, ◌∙◌, arith}
 use Rattle.std.specs.Prelude.{Bool, true, false, if◌then◌else◌, Some, None, slice_get}
 use Rattle.std.proofs.lemmas.List.{drop_all, append_assoc, append-nil}
 use Rattle.model_values.proofs.ListLaws.{drop-at}
@@ -11,7 +11,7 @@ use Rattle.model_world.specs.World.{Act, Post, Take, sync_acts}
 use Rattle.model_known.proofs.RoundLaws.{AreCalm, calm-sync, posts, posts-sync}
 use Rattle.model_dots.specs.Dots.{join_dots}
 use Rattle.model_dot_worlds.specs.DotReport.{dot_print, dot_text}
-use Rattle.model_dot_worlds.specs.DotWorld.{DotWorld, dots_at, IsDotCommand, AreDotCommands, dot_acts, dot_act, dot_each, dot_play}
+use Rattle.model_dot_worlds.specs.DotWorld.{DotWorld, dots_at, IsDotCommand, dot_acts, dot_act, dot_each, dot_play}
 use Rattle.model_dot_worlds.specs.Words.{is_dot_command, first_other}
 use Rattle.lasp_dot_run.specs.Commands.{stage_at}
 

@@ -1,9 +1,7 @@
-use Rattle.std.proofs.Common.{◌<◌, ◌+◌, length, sym, ap, ◌∙◌, arith}
-use Rattle.std.specs.List.{range_with_len}
+use Rattle.std.proofs.Common.{◌+◌, length, sym, ap, ◌∙◌, arith}
 use Rattle.model_graph.proofs.PlaceLaws.{set-length}
-use Rattle.model_world.specs.World.{Take}
-use Rattle.model_dot_worlds.specs.DotWorld.{DotWorld, dot_act, dot_each}
-use Rattle.lasp_dot_run.proofs.WorldLaws.{takes_of, taken, takes-push, taken-other, taken-own, other-node, own-node}
+use Rattle.model_dot_worlds.specs.DotWorld.{DotWorld, dot_each}
+use Rattle.lasp_dot_run.proofs.WorldLaws.{taken, takes-push, taken-other, taken-own, other-node, own-node}
 use Rattle.lasp_dot_run.proofs.replicas.DotReplicas.take_others.Goals as goal
 use Rattle.lasp_dot_run.proofs.replicas.DotReplicas.take_others.Goals.{then-q-p+in_ok-take, else-q-p}
 
