@@ -2,3 +2,4 @@ pub mod TurnLaws
 pub mod MessageLaws
 pub mod EvaluatedLaws
 pub mod SettleLaws
+pub mod PassedLaws

@@ -2,7 +2,8 @@
 use Rattle.std.proofs.Common.{◌≡◌, ℕ, zero, suc, ◌+◌, ◌==◌, ◌≤◌, ◌<◌, Bool, true, false, List, [], ◌∷◌, ◌++◌, length, cond, refl, sym, ap, subst, ◌∙◌, append-nil, append_assoc, arith}
 use Rattle.std.specs.Prelude.{All, Some, None, Option, Err}
 use mathlib.Core.List.{IsPrefix}
-use Rattle.std.proofs.lemmas.List.Elements.{All-head, All-tail, filter-append}
+use Rattle.std.proofs.lemmas.List.{length-append}
+use Rattle.std.proofs.lemmas.List.Elements.{All-nil, All-cons, All-head, All-tail, filter-append}
 use Rattle.model_states.specs.Content.{Content}
 use Rattle.model_graph.specs.Graph.{Decl, is_source, kind_at}
 use Rattle.model_graph.specs.Evaluation.{first_large}
@@ -19,7 +20,7 @@ use Rattle.lasp_core.specs.declared.watched.Settle.{Settle}
 use Rattle.lasp_core.specs.declared.watched.Settle.TheVariants as settle
 use Rattle.lasp_histlock.specs.Names.{LockId}
 use Rattle.lasp_histlock.specs.Passes.{after_rejoin}
-use Rattle.lasp_store.specs.Turn.{Knows, frame_in, frame_of, graph_seen, HadTurn, HasBegun}
+use Rattle.lasp_store.specs.Turn.{Knows, IsSeated, frame_in, frame_of, graph_seen, looked_at, HadTurn, HasBegun}
 use Rattle.lasp_store.specs.Settled.{IsBind, AreBinds, GoesOnByBinds, HasBound, KnowsOwn, HasSettled, IsDone, evaluation, AreEvaluatedBelow, Settles, TellsFirst}
 use Rattle.lasp_store.proofs.EvaluatedLaws.{IsKept, kept-binds, same-evaluation, evaluated-stays, evaluated-source, evaluated-clean, evaluated-bound, all-evaluated, all-small}
 
@@ -278,5 +279,65 @@ begun-graph store old new c own-old own-new first b =
 pub rejoined-graph : (old new hand : Knows) → KnowsOwn old → KnowsOwn new → old.number ≡ 0 → new ≡ after_rejoin hand old → IsPrefix old.seen new.seen → graph_seen new ≡ graph_seen old
 rejoined-graph old new hand own-old own-new first is p =
     others-graph old new p.0 own-old own-new first (ap (λ (q : Knows). q.number) is) (ap (λ (q : Knows). q.frame) is) (sym p.1) (ap (λ (q : Knows). q.own) is)
+
+-- ---- sources and counts that the feed has seen
+
+all-first : (P : Entry → Type 0) (a b : List Entry) → All P (a ++ b) → All P a
+all-first P [] b all = All-nil P
+all-first P (e ∷ a) b all = All-cons P e a (All-head P e (a ++ b) all) (all-first P a b (All-tail P e (a ++ b) all))
+
+-- of the feed's entries the feed's are all
+mine-twice : (l : List Entry) → made_by 0 (made_by 0 l) ≡ made_by 0 l
+mine-twice [] = refl
+mine-twice (e ∷ l) = choose (mine-twice l) (e.by == 0) refl where
+  choose : made_by 0 (made_by 0 l) ≡ made_by 0 l → (b : Bool) → (e.by == 0) ≡ b → made_by 0 (made_by 0 (e ∷ l)) ≡ made_by 0 (e ∷ l)
+  choose below true own =
+      let head : made_by 0 (e ∷ l) ≡ e ∷ made_by 0 l = ap (λ (b : Bool). cond b (e ∷ made_by 0 l) (made_by 0 l)) own in
+      ap (λ (k : List Entry). made_by 0 k) head
+      ∙ ap (λ (b : Bool). cond b (e ∷ made_by 0 (made_by 0 l)) (made_by 0 (made_by 0 l))) own
+      ∙ ap (λ (k : List Entry). e ∷ k) below
+      ∙ sym head
+  choose below false other =
+      let tail : made_by 0 (e ∷ l) ≡ made_by 0 l = ap (λ (b : Bool). cond b (e ∷ made_by 0 l) (made_by 0 l)) other in
+      ap (λ (k : List Entry). made_by 0 k) tail ∙ below ∙ sym tail
+
+nothing-before : (a b : List Entry) → a ++ b ≡ b → a ≡ []
+nothing-before [] b e = refl
+nothing-before (x ∷ a) b e = absurd (omega (arith, length-append a b, ap (λ (l : List Entry). length l) e))
+
+-- what the journal had at a turn of the feed has the sources and counts that it had seen: whatever came meanwhile are results
+pub turn-peer : (old new : Knows) (more : List Entry) → KnowsOwn old → KnowsOwn new → old.number ≡ 0 → HadTurn more old new → peer_of (frame_of new) (looked_at new) ≡ peer_of (frame_of old) old.seen
+turn-peer old new more own-old own-new first t = (λ i. peer_of (ap (λ (p : Knows). frame_of p) t.pass i) (t.goes_on.1 i)) ∙ kept.peer where
+  between : List Entry
+  between = t.goes_on.0
+
+  r : HasRest more (between ++ more) old new
+  r = turn-rest old new more own-old own-new first t
+
+  mine : made_by 0 more ≡ more
+  mine = ap (λ (l : List Entry). made_by 0 l) (sym r.mine) ∙ mine-twice (between ++ more) ∙ r.mine
+
+  none : made_by 0 between ≡ []
+  none = nothing-before (made_by 0 between) more
+      (ap (λ (l : List Entry). made_by 0 between ++ l) (sym mine) ∙ sym (filter-append (λ (e : Entry). e.by == 0) between more) ∙ r.mine)
+
+  legal : IsLegal (frame_of old) (old.seen ++ between)
+  legal = legal-first (frame_of old) (old.seen ++ between) more
+      (subst (λ (z : Frame × List Entry). IsLegal z.0 z.1) (λ i. (ap (λ (p : Knows). frame_of p) t.pass i, (r.seen ∙ sym (append_assoc old.seen between more)) i)) t.legal)
+
+  kept : IsKept (frame_of old) old.seen (old.seen ++ between)
+  kept = kept-binds (frame_of old) old.seen between legal (rest-binds between [] (all-first IsAllowed between more r.may) none tt)
+
+-- so has the list of a feed that took a hand back
+pub rejoined-peer : (store : LockId) (old new hand : Knows) → KnowsOwn old → KnowsOwn new → old.number ≡ 0 → new ≡ after_rejoin hand old → IsPrefix old.seen new.seen → IsSeated store new → peer_of (frame_of new) new.seen ≡ peer_of (frame_of old) old.seen
+rejoined-peer store old new hand own-old own-new first is p free = (λ i. peer_of (same i) (r.seen i)) ∙ kept.peer where
+  same : frame_of new ≡ frame_of old
+  same = ap (λ (q : Knows). frame_of q) is
+
+  r : HasRest [] p.0 old new
+  r = rest-is old new p.0 [] own-old own-new first (ap (λ (q : Knows). q.number) is) (sym p.1) (ap (λ (q : Knows). q.own) is ∙ sym (append-nil old.own))
+
+  kept : IsKept (frame_of old) old.seen (old.seen ++ p.0)
+  kept = kept-binds (frame_of old) old.seen p.0 (subst (λ (z : Frame × List Entry). IsLegal z.0 z.1) (λ i. (same i, r.seen i)) free.legal) (rest-binds p.0 [] r.may r.mine tt)
 
 pub ruleset graphs = (turn-graph)

@@ -1,4 +1,5 @@
 pub mod Turn
 pub mod Tried
 pub mod Settled
+pub mod Passed
 pub mod Prelude

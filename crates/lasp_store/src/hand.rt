@@ -1,7 +1,7 @@
 //! What every pass does: it looks at variables, takes jobs and hands their results in.
 
 ghost use Rattle.std.specs.Prelude.{◌≡◌, ◌↔◌, ◌+◌, ◌<◌, ◌∷◌, [], false, length, IfOk, IfErr, IfSome, IfNone, OnOk, OnErr, IsTrue};
-ghost use Rattle.lasp_store.specs.Prelude.{AllByRecursion, arc_value, IsDerived, entry, is_met, after_miss, held_of, IsUnclean, IsFirst, Lacks, IsJobOf, IsJobNow, IsResultOf, AreAscending, state_after, AreClean, IsBusy, HadTurn, TriedTurn, IsInTurn, HasEnded, frame_of, graph_seen, IfRefused};
+ghost use Rattle.lasp_store.specs.Prelude.{AllByRecursion, arc_value, IsDerived, entry, vals, is_met, after_miss, held_of, IsUnclean, IsFirst, Lacks, IsJobOf, IsJobNow, IsResultOf, AreAscending, state_after, AreClean, IsBusy, HadTurn, TriedTurn, IsInTurn, HasEnded, frame_of, graph_seen, evaluation, IfRefused};
 ghost use Rattle.model_journal.specs.Entry as model;
 
 use crate::store::{Hand, Store};
@@ -161,6 +161,7 @@ impl Store {
         requires turn { IsInTurn self.now h.old core }
         ensures turn { HasEnded [] h.old h.new }
         ensures settled { OnOk result (AreClean (frame_of h.new) h.new.seen) }
+        ensures evaluated { OnOk result (vals (frame_of h.new) h.new.seen ≡ evaluation (frame_of h.new) h.new.seen) }
         ensures length { IfOk result (λ n. n ≡ length h.new.seen) }
         ensures first { IfErr result (λ why. IsFirst (IsUnclean (frame_of h.new) h.new.seen) why.var) }
         ensures lacks { IfErr result (λ why. Lacks (frame_of h.new) h.new.seen why.var why) }
@@ -171,12 +172,13 @@ impl Store {
         checked
     }
 
-    /// The length of the journal, where every derived variable has taken in its inputs as they are. It may wait for others.
+    /// The length of the journal, where every derived variable has taken in its inputs as they are, and so is what plain evaluation gives. It may wait for others.
     pub fn check_settled<R: Wait>(&self, rt: &R, h: &mut Hand) -> Result<u64, NotYet>
         requires lock { h.old.lock ≡ self.now }
         requires idle { h.old.turn ≡ false }
         ensures turn { HadTurn [] h.old h.new }
         ensures settled { OnOk result (AreClean (frame_of h.new) h.new.seen) }
+        ensures evaluated { OnOk result (vals (frame_of h.new) h.new.seen ≡ evaluation (frame_of h.new) h.new.seen) }
         ensures length { IfOk result (λ n. n ≡ length h.new.seen) }
         ensures first { IfErr result (λ why. IsFirst (IsUnclean (frame_of h.new) h.new.seen) why.var) }
         ensures lacks { IfErr result (λ why. Lacks (frame_of h.new) h.new.seen why.var why) }

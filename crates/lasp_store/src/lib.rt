@@ -26,6 +26,6 @@ mod store;
 mod tests;
 mod turn;
 
-pub use laws::{feeds_tell_the_graph, turns_go_on};
+pub use laws::{feeds_tell_the_graph, feeds_tell_the_sources, turns_go_on};
 pub use seated::Seated;
 pub use store::{Feed, Hand, Store};

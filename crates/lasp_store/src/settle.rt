@@ -1,7 +1,7 @@
 //! Settling a store by its feed, whatever others do meanwhile.
 
-ghost use Rattle.std.specs.Prelude.{◌≡◌, ◌+◌, ◌<◌, [], false, length, IfErr, IfOk, IfSome, IfNone, OnOk};
-ghost use Rattle.lasp_store.specs.Prelude.{first_large, FitsAll, graph, vals, peer_of, library_of, Bind, entry, IsDerived, IsJobOf, IsJobNow, IsResultOf, IsStill, IsInTurn, HasEnded, IsSeated, frame_of, graph_seen, evaluation, AreEvaluatedBelow, HasSettled, IsDone, Settles, TellsFirst, HasBound};
+ghost use Rattle.std.specs.Prelude.{◌≡◌, ◌+◌, ◌<◌, [], ◌∷◌, false, length, IfErr, IfOk, IfSome, IfNone, OnOk, OnErr};
+ghost use Rattle.lasp_store.specs.Prelude.{first_large, FitsAll, graph, vals, peer_of, library_of, Bind, entry, IsDerived, IsJobOf, IsJobNow, IsResultOf, IsUnclean, IsStill, IsInTurn, HasEnded, HadTurn, IsSeated, frame_of, graph_seen, evaluation, AreEvaluatedBelow, HasSettled, IsDone, Settles, TellsFirst, HasBound, HasPassed};
 ghost use Rattle.lasp_fns.specs.Steps as counted;
 
 use crate::store::{Feed, Store};
@@ -19,9 +19,13 @@ fn unclean_job(core: &mut Core, var: u8) -> Result<Option<Job>, AllocError>
     ensures same { IsStill core.old core.new }
     ensures none { IfOk result (λ found. IfNone found (IsDone core.new.frame core.new.entries var)) }
     ensures job { IfOk result (λ found. IfSome found (IsJobNow core.new.frame core.new.entries var)) }
+    ensures unclean { IfOk result (λ found. IfSome found (λ job. IsUnclean core.new.frame core.new.entries var)) }
 {
     let is_source = core.graph().at(u64::from(var)).kind.is_source();
-    if is_source || core.is_clean(var) {
+    if is_source {
+        return Ok(None);
+    }
+    if core.is_clean(var) {
         return Ok(None);
     }
     match core.take_var(var) {
@@ -49,6 +53,7 @@ impl Store {
         requires idle { f.old.turn ≡ false }
         requires first { f.old.number ≡ 0 }
         ensures pass { HasSettled f.old f.new }
+        ensures turn { HadTurn [] f.old f.new }
         ensures seated { IsSeated self.now f.new }
         ensures many { result ≡ length (graph_seen f.new) }
     {
@@ -75,6 +80,7 @@ impl Store {
         requires seated { IsSeated self.now f.old }
         requires first { f.old.number ≡ 0 }
         ensures pass { HasSettled f.old f.new }
+        ensures turn { HadTurn [] f.old f.new }
         ensures seated { IsSeated self.now f.new }
         ensures length { result ≡ length f.new.seen }
     {
@@ -91,6 +97,7 @@ impl Store {
         ensures turn { HasEnded [] f.old f.new }
         ensures none { IfOk result (λ found. IfNone found (IsDone (frame_of f.new) f.new.seen var)) }
         ensures job { IfOk result (λ found. IfSome found (IsJobNow (frame_of f.new) f.new.seen var)) }
+        ensures unclean { IfOk result (λ found. IfSome found (λ job. IsUnclean (frame_of f.new) f.new.seen var)) }
     {
         core.recall();
         let found = unclean_job(&mut core, var);
@@ -105,9 +112,11 @@ impl Store {
         requires first { f.old.number ≡ 0 }
         requires var { var < length (graph_seen f.old) }
         ensures pass { HasSettled f.old f.new }
+        ensures turn { HadTurn [] f.old f.new }
         ensures seated { IsSeated self.now f.new }
         ensures none { IfOk result (λ found. IfNone found (IsDone (frame_of f.new) f.new.seen var)) }
         ensures job { IfOk result (λ found. IfSome found (IsJobNow (frame_of f.new) f.new.seen var)) }
+        ensures unclean { IfOk result (λ found. IfSome found (λ job. IsUnclean (frame_of f.new) f.new.seen var)) }
     {
         variables_stay();
         f.known();
@@ -132,6 +141,8 @@ impl Store {
         ensures pass { HasSettled f.old f.new }
         ensures seated { IsSeated self.now f.new }
         ensures ok { OnOk result (HasBound (entry 0 (Bind job.var job.n)) f.old.seen f.new.seen) }
+        ensures taken { OnOk result (HadTurn (entry 0 (Bind job.var job.n) ∷ []) f.old f.new) }
+        ensures refused { OnErr result (HadTurn [] f.old f.new) }
         ensures back { IfErr result (λ e. e ≡ job) }
     {
         f.known();
@@ -153,6 +164,7 @@ impl Store {
         requires first { f.old.number ≡ 0 }
         requires derived { IsDerived (graph_seen f.old) job.var }
         ensures pass { HasSettled f.old f.new }
+        ensures turn { HadTurn [] f.old f.new }
         ensures seated { IsSeated self.now f.new }
     {
         f.known();
@@ -172,11 +184,14 @@ impl Store {
         requires seated { IsSeated self.now f.old }
         requires first { f.old.number ≡ 0 }
         requires job { IsJobNow (frame_of f.old) f.old.seen job.var job }
+        requires unclean { IsUnclean (frame_of f.old) f.old.seen job.var }
         requires below { AreEvaluatedBelow (frame_of f.old) f.old.seen job.var }
         requires fits { FitsAll (library_of (counted.library_of lib.old)) (graph_seen f.old) }
         ensures pass { HasSettled f.old f.new }
         ensures seated { IsSeated self.now f.new }
         ensures ok { OnOk result (AreEvaluatedBelow (frame_of f.new) f.new.seen (job.var + 1)) }
+        ensures once { OnOk result (HasPassed job.var (job.var + 1) 0 f.old f.new) }
+        ensures stopped { OnErr result (HasPassed job.var (job.var + 1) 2 f.old f.new) }
         ensures large { TellsFirst (first_large 0 (evaluation (frame_of f.new) f.new.seen)) result }
         ensures library { counted.library_of lib.new ≡ counted.library_of lib.old }
     {
@@ -219,6 +234,8 @@ impl Store {
         ensures pass { HasSettled f.old f.new }
         ensures seated { IsSeated self.now f.new }
         ensures ok { OnOk result (AreEvaluatedBelow (frame_of f.new) f.new.seen (var + 1)) }
+        ensures once { OnOk result (HasPassed var (var + 1) 1 f.old f.new) }
+        ensures stopped { OnErr result (HasPassed var (var + 1) 3 f.old f.new) }
         ensures large { TellsFirst (first_large 0 (evaluation (frame_of f.new) f.new.seen)) result }
         ensures library { counted.library_of lib.new ≡ counted.library_of lib.old }
     {
@@ -231,7 +248,7 @@ impl Store {
         }
     }
 
-    /// Brings every derived variable to what plain evaluation gives of the sources, whatever others do meanwhile. It goes through the variables once, in ascending order, passes over one that has taken in its inputs as they are at its turn, and evaluates the others while others may have the core. Each variable takes a turn, and one that is evaluated takes a second, or a third where its job has to be given back for want of memory; there is one turn before them and one behind. After a refusal the sources are as before, and derived variables may have grown.
+    /// Brings every derived variable to what plain evaluation gives of the sources, whatever others do meanwhile. It goes through the variables once, in ascending order, passes over one that has taken in its inputs as they are at its turn, and evaluates the others while others may have the core. Each variable takes a turn, and one that is evaluated takes a second, or a third where its job has to be given back for want of memory; there is one turn before them and one behind. After a refusal the sources are as before, and derived variables may have grown. It doesn't tell which reads its results released: who waits for one polls it.
     pub fn settle_all<R: Wait>(
         &self,
         rt: &R,
@@ -249,6 +266,7 @@ impl Store {
         ensures peer { peer_of (frame_of f.new) f.new.seen ≡ peer_of (frame_of f.old) f.old.seen }
         ensures length { IfOk result (λ n. n ≡ length f.new.seen) }
         ensures settled { OnOk result (vals (frame_of f.new) f.new.seen ≡ evaluation (frame_of f.new) f.new.seen) }
+        ensures once { HasPassed 0 (length (graph_seen f.new)) (length (graph_seen f.new) + 3) f.old f.new }
         ensures done { Settles (first_large 0 (evaluation (frame_of f.new) f.new.seen)) result }
     {
         let mut steps = StepLib::new(lib);

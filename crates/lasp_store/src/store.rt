@@ -1,7 +1,7 @@
 //! A store and its passes.
 
 ghost use Rattle.std.specs.Prelude.{◌≡◌, ◌≢◌, ◌⊎◌, ◌<◌, ◌≤◌, ◌++◌, true, false, All, length, Some, IfOk, IfSome, IfNone, IsNone, IsOkAnd};
-ghost use Rattle.lasp_store.specs.Prelude.{arc_value, MayMake, made_by, added, SomeOut, first_pass, new_pass, after_look, after_split, after_rejoin, IsSeated, graph_seen};
+ghost use Rattle.lasp_store.specs.Prelude.{arc_value, MayMake, made_by, added, SomeOut, peer_of, first_pass, new_pass, after_look, after_split, after_rejoin, IsSeated, frame_of, graph_seen};
 ghost use mathlib.Core.List.{IsPrefix};
 
 use lasp_core::Core;
@@ -73,6 +73,7 @@ impl Store {
         ensures frame { h.frame ≡ f.old.frame }
         ensures seated { IsSeated self.now f.old → IsSeated self.now h → IsSeated self.now f.new }
         ensures graph { graph_seen f.new ≡ graph_seen f.old }
+        ensures peer { IsSeated self.now f.old → IsSeated self.now h → peer_of (frame_of f.new) f.new.seen ≡ peer_of (frame_of f.old) f.old.seen }
     {
         f.known();
         self.lock.rejoin(f, h);

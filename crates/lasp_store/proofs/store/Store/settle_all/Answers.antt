@@ -1,4 +1,4 @@
-use Rattle.std.proofs.Common.{◌≤◌, List, length, sym, ap, subst, ◌∙◌, arith}
+use Rattle.std.proofs.Common.{◌+◌, ◌≤◌, List, length, ◌≡◌, sym, ap, subst, ◌∙◌, arith}
 use Rattle.model_graph.specs.Graph.{Decl}
 use Rattle.model_graph.specs.Evaluation.{first_large}
 use Rattle.model_readings.specs.Lawful.{FitsAll}
@@ -7,6 +7,7 @@ use Rattle.lasp_graph.specs.Library.{library_of}
 use Rattle.lasp_store.specs.Turn.{frame_of, graph_seen}
 use Rattle.lasp_store.specs.Settled.{evaluation}
 use Rattle.lasp_store.proofs.SettleLaws.{settled-both, settled-number, graph-settled, peer-settled, all-settled, none-large, told-settles}
+use Rattle.lasp_store.proofs.PassedLaws.{passed-both, passed-turn, passed-wider}
 use Rattle.lasp_store.proofs.store.Store.settle_all.Goals as goal
 
 pub loop-var-init : goal.loop-var-init
@@ -20,6 +21,7 @@ loop-var-init g c =
       number = settled-number old mid pass ∙ c.requires.first;
       long = c.settle_count-many.ensures.many;
       within = omega arith;
+      once = passed-turn 0 0 old mid c.settle_count-many.ensures.turn;
       below = λ y low. absurd (omega (arith, low));
       fits = subst (λ (ds : List Decl). FitsAll (library_of (counted.library_of c.new-steps.result)) ds) (sym (graph-settled old mid pass c.settle_count-many.ensures.seated.legal))
           (subst (λ l. FitsAll (library_of l) (graph_seen old)) (sym c.new-steps.ensures.library) c.requires.fits);
@@ -40,6 +42,7 @@ loop-var-preserved g c =
       number = settled-number old new pass ∙ c.loop-var.invariant.number;
       long = c.loop-var.invariant.long ∙ ap (λ (ds : List Decl). length ds) (sym same);
       within = omega (arith, c.loop-var-test.true);
+      once = passed-both 0 c.loop-var.var (c.loop-var.var + 1) (c.loop-var.var + 1) 1 c.args.f.now old new (omega arith) (omega arith) pass c.loop-var.invariant.once c.in-Ok.ensures.once;
       below = c.in-Ok.ensures.ok;
       fits = subst (λ (ds : List Decl). FitsAll (library_of (counted.library_of c.settle_var.new.lib)) ds) (sym same)
           (subst (λ l. FitsAll (library_of l) (graph_seen old)) (sym c.settle_var.ensures.library) c.loop-var.invariant.fits);
@@ -93,3 +96,23 @@ returns-clause-done g c =
     let legal = c.settle_length.ensures.seated.legal in
     let high : length (graph_seen old) ≤ c.loop-var.var = omega (arith, c.loop-var-test.false, c.loop-var.invariant.long) in
     none-large old new pass legal c.loop-var.var high (omega (arith, c.loop-var.invariant.within, c.loop-var.invariant.long)) c.loop-var.invariant.below
+
+pub returns-in-Err-clause-once : goal.returns-in-Err-clause-once
+returns-in-Err-clause-once g c =
+    let var = c.loop-var.var in
+    let old = c.loop-var.f in
+    let new = c.settle_var.new.f in
+    let pass = c.settle_var.ensures.pass in
+    let long : length (graph_seen new) ≡ length (graph_seen old) = ap (λ (ds : List Decl). length ds) (graph-settled old new pass c.settle_var.ensures.seated.legal) in
+    passed-wider 0 (var + 1) (length (graph_seen new)) ((var + 1) + 3) (length (graph_seen new) + 3) c.args.f.now new (omega (arith, c.loop-var-test.true, c.loop-var.invariant.long, long)) (omega (arith, c.loop-var-test.true, c.loop-var.invariant.long, long))
+    (passed-both 0 var (var + 1) (var + 1) 3 c.args.f.now old new (omega arith) (omega arith) pass c.loop-var.invariant.once c.in-Err.ensures.stopped)
+
+pub returns-clause-once : goal.returns-clause-once
+returns-clause-once g c =
+    let var = c.loop-var.var in
+    let old = c.loop-var.f in
+    let new = c.settle_length.new.f in
+    let pass = c.settle_length.ensures.pass in
+    let long : length (graph_seen new) ≡ length (graph_seen old) = ap (λ (ds : List Decl). length ds) (graph-settled old new pass c.settle_length.ensures.seated.legal) in
+    passed-wider 0 var (length (graph_seen new)) ((var + 1) + 1) (length (graph_seen new) + 3) c.args.f.now new (omega (arith, c.loop-var.invariant.within, c.loop-var.invariant.long, long)) (omega (arith, c.loop-var.invariant.within, c.loop-var.invariant.long, long))
+    (passed-both 0 var var (var + 1) 1 c.args.f.now old new (omega arith) (omega arith) pass c.loop-var.invariant.once (passed-turn var var old new c.settle_length.ensures.turn))

@@ -1,4 +1,4 @@
-use Rattle.std.proofs.Common.{◌≡◌, ◌<◌, ℕ, List, Err, Some, sym, ap, subst, ◌∙◌}
+use Rattle.std.proofs.Common.{◌≡◌, ◌<◌, ◌+◌, ℕ, List, [], ◌∷◌, Err, Some, sym, ap, subst, ◌∙◌, arith}
 use Rattle.std.specs.Arc.{arc_value}
 use Rattle.model_states.specs.Content.{Content, size_of, row_limit}
 use Rattle.model_graph.specs.Graph.{Decl, kind_at}
@@ -11,10 +11,11 @@ use Rattle.lasp_graph.specs.Evaluated.{process, Becomes, second_of}
 use Rattle.lasp_graph.specs.declared.inputs.EvalRefused.{EvalRefused}
 use Rattle.lasp_job.specs.declared.job.Job.{Job}
 use Rattle.lasp_core.proofs.JobLaws.{job-derived}
-use Rattle.lasp_store.specs.Turn.{frame_of, graph_seen}
+use Rattle.lasp_store.specs.Turn.{HadTurn, frame_of, graph_seen}
 use Rattle.lasp_store.specs.Settled.{HasBound}
 use Rattle.lasp_store.proofs.EvaluatedLaws.{first-too-large}
 use Rattle.lasp_store.proofs.SettleLaws.{evaluated-finished, large-settled, graph-settled, settled-both}
+use Rattle.lasp_store.proofs.PassedLaws.{passed-both, passed-bound, passed-turn, passed-wider}
 use Rattle.lasp_store.proofs.store.Store.settle_job.Goals as goal
 
 pub evaluate-requires : goal.evaluate-requires
@@ -55,3 +56,32 @@ returns-in-Err-TooManyRows-clause-large g c =
     (first-too-large (frame_of old) old.seen c.requires.seated.legal job.var (job-derived (frame_of old) old.seen job.var job now) c.requires.below
     (subst (λ (s : Content). row_limit < size_of s) (c.evaluated_jobs_have_results.ensures.present (frame_of old) old.seen job.var job now) large))
     ∙ ap (λ (x : ℕ). Some x) (sym c.in-Err-TooManyRows.ensures.var.0)
+
+pub returns-in-Ok-settle_finish-clause-once : goal.returns-in-Ok-settle_finish-clause-once
+returns-in-Ok-settle_finish-clause-once g c =
+    let old = c.args.f.now in
+    let new = c.settle_finish.new.f in
+    let job = c.args.job in
+    let now = c.requires.job in
+    passed-bound job.var job.n old new now.now c.requires.unclean
+    (subst (λ (z : ℕ × ℕ). HadTurn (entry 0 (Bind z.0 z.1) ∷ []) old new) (λ i. (c.in-Ok.ensures.var.0 i, c.in-Ok.ensures.var.1 i)) c.in-Ok-settle_finish.ensures.taken)
+
+pub returns-in-Err-clause-stopped : goal.returns-in-Err-clause-stopped
+returns-in-Err-clause-stopped g c =
+    let y = c.args.job.var in
+    let old = c.args.f.now in
+    let mid = c.settle_finish.new.f in
+    let new = c.settle_back.new.f in
+    passed-both y y (y + 1) 1 1 old mid new (omega arith) (omega arith) c.settle_back.ensures.pass (passed-turn y y old mid c.in-Err.ensures.refused) (passed-turn y (y + 1) mid new c.settle_back.ensures.turn)
+
+pub returns-in-Err-TooManyRows-clause-stopped : goal.returns-in-Err-TooManyRows-clause-stopped
+returns-in-Err-TooManyRows-clause-stopped g c =
+    let y = c.args.job.var in
+    let new = c.settle_back-in-Err-TooManyRows.new.f in
+    passed-wider y (y + 1) (y + 1) 1 2 c.args.f.now new (omega arith) (omega arith) (passed-turn y (y + 1) c.args.f.now new c.settle_back-in-Err-TooManyRows.ensures.turn)
+
+pub returns-in-Err-Memory-clause-stopped : goal.returns-in-Err-Memory-clause-stopped
+returns-in-Err-Memory-clause-stopped g c =
+    let y = c.args.job.var in
+    let new = c.settle_back-in-Err-Memory.new.f in
+    passed-wider y (y + 1) (y + 1) 1 2 c.args.f.now new (omega arith) (omega arith) (passed-turn y (y + 1) c.args.f.now new c.settle_back-in-Err-Memory.ensures.turn)
