@@ -23,7 +23,7 @@ use Rattle.model_known.proofs.VariableLaws.{IsOfSource}
 use Rattle.model_world.specs.Command.{Command}
 use Rattle.model_world.specs.Lawful.{opening_stage, stage_after, MayBeDone, AreLawful}
 use Rattle.model_world.specs.World.{Peer, Update, Take, Post, fresh_peer, no_peer, peer_at, sent_number, updated, delivered, message_at, shown_at}
-use Rattle.model_program.specs.Merge.{taking}
+use Rattle.model_program.specs.Merge.{merge_text, taking, joined}
 use Rattle.model_site.specs.History.{SiteCall, Sites, no_sites, kept_at, taken_by, IsCalled, AreCalled, none, more, updates_by, replica_of, told_by}
 use Rattle.model_site.specs.Site.{own, IsOwn, adds, removes, inserts, counts, raises, AreOwn, update_done, done_by, updates_done}
 use Rattle.model_site.specs.Told.{heard}
@@ -135,6 +135,17 @@ pub record Mirrors (g : List Decl) (nodes : ℕ) (calls : List SiteCall) (sites 
   pub many : length sites.kept ≡ nodes
   pub kept : (p : ℕ) → p < nodes → replica_of g nodes sites p ≡ peer_at f.run.peers p
   pub counted : (p : ℕ) → p < nodes → count_at (peer_at f.run.peers p).counts p ≡ updates_by p calls
+  pub wide : (i : ℕ) → i < length sites.written → length (sent_number sites.written i).counts ≡ nodes
+
+-- each state is of as many nodes as there are sites
+wide-push : (nodes : ℕ) (ms : List Message) (m : Message) → ((i : ℕ) → i < length ms → length (sent_number ms i).counts ≡ nodes) → length m.counts ≡ nodes
+    → (i : ℕ) → i < length (ms ++ m ∷ []) → length (sent_number (ms ++ m ∷ []) i).counts ≡ nodes
+wide-push nodes [] m all last zero low = last
+wide-push nodes [] m all last (suc i) low = absurd (none low) where
+  none : suc i < 1 → ⊥
+  none h = omega (arith, h)
+wide-push nodes (k ∷ ms) m all last zero low = all zero (omega arith)
+wide-push nodes (k ∷ ms) m all last (suc i) low = wide-push nodes ms m (λ j h. all (suc j) (omega (arith, h))) last i (omega (arith, low))
 
 at-none : (nodes p : ℕ) → slice_index_or {A = List Message} (replicate nodes []) p [] ≡ []
 at-none zero p = refl
@@ -184,6 +195,9 @@ updates-more : (p : ℕ) (calls : List SiteCall) (k : SiteCall) → updates_by p
 updates-more p [] k = omega arith
 updates-more p (j ∷ calls) k = omega (arith, updates-more p calls k)
 
+no-place : (i : ℕ) → i < 0 → ⊥
+no-place i low = omega (arith, low)
+
 mirror-none : (g : List Decl) (nodes : ℕ) → Mirrors g nodes [] (no_sites nodes) (begin g nodes)
 mirror-none g nodes = record {
   sound = sound-begin g nodes;
@@ -192,6 +206,7 @@ mirror-none g nodes = record {
   many = length-replicate nodes [];
   kept = λ p low. ap (heard g nodes) (at-none nodes p) ∙ sym (at-replicate nodes p (fresh_peer g nodes) no_peer low);
   counted = λ p low. ap (λ (r : Peer). count_at r.counts p) (at-replicate nodes p (fresh_peer g nodes) no_peer low) ∙ count_at-zeros nodes p;
+  wide = λ i low. absurd (no-place i low);
 }
 
 -- the world after a call
@@ -275,6 +290,7 @@ mirror-more g nodes calls sites next k f before call = (end, after) where
     many = ap (λ (ks : List (List Message)). length ks) call.kept ∙ set-length sites.kept p (message_at g call.last ∷ []) ∙ before.many;
     kept = λ q low. kept_now q low (q == p) refl;
     counted = λ q low. counted_now q low (q == p) refl ∙ sym (updates-more q calls k);
+    wide = subst (λ (ms : List Message). (i : ℕ) → i < length ms → length (sent_number ms i).counts ≡ nodes) (sym call.written) (wide-push nodes sites.written (message_at g call.last) before.wide holds.wide);
   }
 
 mirrored : (g : List Decl) (nodes : ℕ) (calls : List SiteCall) (sites : Sites) → AreCalled g nodes calls sites → (f : Followed) × Mirrors g nodes calls sites f
@@ -328,4 +344,21 @@ module _ (g : List Decl) (nodes : ℕ) (calls : List SiteCall) (sites : Sites) (
       (larger-commutative (replica_of g nodes sites p).counts (sent_number sites.written i).counts
       ∙ larger-at_most (sent_number sites.written i).counts (replica_of g nodes sites p).counts (omega (arith, (carries i).narrow, (kept-holds p low).wide)) counted)
 
-pub ruleset histories = (sites-agree, sites-show, states-agree, own-counted, nothing-lost)
+  taking-holds : (r : Peer) (files : List ℕ) → Holds g nodes f.deltas r.contents r.counts → Holds g nodes f.deltas (taking g r (map (sent_number sites.written) files)).contents (taking g r (map (sent_number sites.written) files)).counts
+  taking-holds r [] h = h
+  taking-holds r (i ∷ files) h = taking-holds (delivered g (sent_number sites.written i) r) files (takes-known g nodes f.deltas r.contents r.counts (sent_number sites.written i) sources h (carries i))
+
+  -- what states are merged to is what a site shows that counts the same
+  pub merges-show : (p i : ℕ) (files : List ℕ) → p < nodes → i < length sites.written → (joined g (map (sent_number sites.written) (i ∷ files))).counts ≡ (replica_of g nodes sites p).counts
+      → merge_text g (joined g (map (sent_number sites.written) (i ∷ files))) ≡ merge_text g (replica_of g nodes sites p)
+  merges-show p i files low there same = ap (merge_text g) (all ∙ peer-same g nodes f.deltas together (replica_of g nodes sites p) (taking-holds (fresh_peer g nodes) (i ∷ files) (fresh-holds g nodes f.deltas)) (kept-holds p low) (sym (ap (λ (r : Peer). r.counts) all) ∙ same)) where
+    ms : List Message
+    ms = map (sent_number sites.written) (i ∷ files)
+
+    together : Peer
+    together = heard g nodes ms
+
+    all : joined g ms ≡ together
+    all = ap (λ (n : ℕ). taking g (fresh_peer g n) ms) (here.wide i there)
+
+pub ruleset histories = (sites-agree, sites-show, states-agree, own-counted, nothing-lost, merges-show)

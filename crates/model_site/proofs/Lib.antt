@@ -6,3 +6,7 @@ pub mod TellLaws
 pub mod WorldLaws
 pub mod PromiseLaws
 pub mod HistoryLaws
+pub mod StatusLaws
+pub mod KeptLaws
+pub mod CallLaws
+pub mod BackLaws

@@ -1,4 +1,4 @@
--- A call that followed the plan of its words, and ended by its answer, keeps all that is promised of it.
+-- From a site's told files to what it writes: the state of its replica in the world in which it took them in.
 use Rattle.std.proofs.Common.{refl, sym, ap, subst, ◌∙◌, arith}
 use Rattle.std.specs.Prelude.{◌≡◌, ℕ, zero, suc, ◌+◌, ◌-◌, List, [], length, Option, Some, None, Result, Ok, Err}
 use Rattle.model_functions.specs.Library.{Library}
@@ -53,7 +53,7 @@ module _ (lib : Library) (content : List ℕ → Option (List ℕ)) (words : Lis
       ∙ told-checked content words (λ x. x) (state_taken p g state_file (fresh_peer g s.nodes) bytes) r (λ next. filing_more p g s first_file files next) e
 
   -- so many files are taken in
-  files-told : (f left files : ℕ) (ms : List Message) → AreTaken content words g s.nodes f ms → f + left ≡ first_file + files → told (taking_in p g s files) ≡ told (filing_more p g s f left (heard g s.nodes ms))
+  pub files-told : (f left files : ℕ) (ms : List Message) → AreTaken content words g s.nodes f ms → f + left ≡ first_file + files → told (taking_in p g s files) ≡ told (filing_more p g s f left (heard g s.nodes ms))
   files-told _ left files _ (nothing file) e =
       stating-next files [] (fresh_peer g s.nodes) file refl ∙ ap (λ (n : ℕ). told (filing_more p g s first_file n (fresh_peer g s.nodes))) (let same : files ≡ left = omega (arith, e) in same)
   files-told _ left files _ (state {m = m} some taken) e =
@@ -88,7 +88,7 @@ module _ (lib : Library) (content : List ℕ → Option (List ℕ)) (words : Lis
 
 -- ---- the world
 
-answer-bound : (p : ℕ) (g : List Decl) (s : Script) (r : Peer) (bytes : List ℕ) → site_answer p g s r ≡ Ok bytes
+pub answer-bound : (p : ℕ) (g : List Decl) (s : Script) (r : Peer) (bytes : List ℕ) → site_answer p g s r ≡ Ok bytes
     → (last : Peer) × (updates_done p g 1 r s.commands ≡ Ok last) × (first_large 0 (shown_at g last) ≡ None) × (spelled (message_at g last) ≡ bytes)
 answer-bound p g s r bytes e = choose (updates_done p g 1 r s.commands) refl e where
   choose : (a : Result Peer SiteRefusal) → updates_done p g 1 r s.commands ≡ a → (a >>= λ last. shown_checked p g (length s.commands + 1) last >>= λ _. Ok (spelled (message_at g last))) ≡ Ok bytes
@@ -112,25 +112,3 @@ world-ends lib words v p g s ms answer out err status tells follows ends done =
     let parts = answer-bound p g s (heard g s.nodes ms) written.0 is in
     let world = site-world v.content words p g s.nodes (length words) ms s.commands parts.0 tells.site.node tells.site.own tells.taken parts.1 parts.2 in
     (world.0, world.1, subst (λ (bytes : List ℕ). Writes out bytes) (sym parts.3 ∙ ap (λ (r : Peer). spelled (message_at g r)) (sym world.2)) written.2)
-
--- ---- all of it
-
-pub call-answered : {N : Type 0} (lib : Library) (words : List (List ℕ)) (files : Reading N) (answer : Result (List ℕ) SiteFailure) (out err : Writing) (status : ℕ)
-    → AreUnchanged files.content files.before files.after → AreLater files.faults files.before files.after → (site_of words ≡ None → files.after ≡ files.before)
-    → Follows words (view_of files) (plan lib words) answer → IsLater out → IsLater err → Ends words answer out err status → IsAnswered lib words files out err status
-call-answered lib words files answer out err status same later unread follows out_later err_later ends = record {
-  same = same;
-  later = later;
-  out_later = out_later;
-  err_later = err_later;
-  ends = (answer, follows, ends);
-  caused = λ a told. told-cause lib (files.content files.before) words a told;
-  refused = λ x told. refused-ends words (view_of files) (plan lib words) x answer out err status (follows-told words (view_of files) (plan lib words) answer (Err x) follows told) ends;
-  written = λ bytes told. written-ends words (view_of files) (plan lib words) bytes answer out err status (follows-told words (view_of files) (plan lib words) answer (Ok bytes) follows told) ends;
-  complete = λ bytes told quiet sound. complete-ends words (view_of files) (plan lib words) bytes answer out err status quiet sound (follows-told words (view_of files) (plan lib words) answer (Ok bytes) follows told) ends;
-  world = λ p g s messages tells done. world-ends lib words (view_of files) p g s messages answer out err status tells follows ends done;
-  unread = unread;
-  quiet = λ not_done not_fault. quiet-ends words answer out err status not_done not_fault ends;
-}
-
-pub ruleset answers = (told-cause, site-told)

@@ -1,5 +1,6 @@
 -- A call of a site over its files and outputs, and all that is promised of it.
-use Rattle.std.specs.Prelude.{◌≡◌, ◌≢◌, ◌⊎◌, ℕ, List, [], length, Option, Some, None, Result, Ok, Err}
+use Rattle.std.specs.Prelude.{◌≡◌, ◌≢◌, ◌<◌, ◌⊎◌, ℕ, List, [], length, Option, Some, None, Result, Ok, Err}
+use Rattle.std.specs.List.{AllByRecursion}
 use Rattle.model_functions.specs.Library.{Library}
 use Rattle.model_graph.specs.Graph.{Decl}
 use Rattle.model_messages.specs.Message.{Message}
@@ -12,12 +13,13 @@ use Rattle.model_program.specs.Call.{AreUnchanged, AreLater, IsLater, Reading, v
 use Rattle.model_program.specs.Ends.{Writing}
 use Rattle.model_program.specs.Follows.{View}
 use Rattle.model_site.specs.Cause.{HasCause}
-use Rattle.model_site.specs.Ends.{Ends, NoFault, MeetsFault}
+use Rattle.model_site.specs.Ends.{Ends, NoFault, MeetsFault, IsSiteStatus}
 use Rattle.model_site.specs.Follows.{Follows}
+use Rattle.model_site.specs.History.{SiteCall, Sites, taken_by, IsCallOf}
 use Rattle.model_site.specs.Line.{status_of}
 use Rattle.model_site.specs.Plan.{Answer, told_answer}
 use Rattle.model_site.specs.Program.{site_of, plan}
-use Rattle.model_site.specs.Told.{IsSite, AreTaken}
+use Rattle.model_site.specs.Told.{IsSite, AreTaken, IsKept}
 use Rattle.model_site.specs.World.{IsSiteWorld}
 use Rattle.model_site.specs.declared.site_failure.SiteFailure.{SiteFailure}
 use Rattle.model_site.specs.declared.site_failure.SiteFailure.TheVariants.{Refused}
@@ -44,6 +46,12 @@ pub record TellsSite (lib : Library) (content : List ℕ → Option (List ℕ)) 
   pub site : IsSite lib content words p g s
   pub taken : AreTaken content words g s.nodes (length words) messages
 
+-- and they are the call's among the sites: the states are the site's own and those of its files, all written by sites, and the commands are the call's
+pub record TellsCall (lib : Library) (content : List ℕ → Option (List ℕ)) (words : List (List ℕ)) (g : List Decl) (s : Script) (sites : Sites) (k : SiteCall) : Type 0 where
+  pub site : TellsSite lib content words k.site g s (taken_by sites k)
+  pub commands : s.commands ≡ k.commands
+  pub files : AllByRecursion (λ i. i < length sites.written) k.files
+
 -- A call of a site on these words, over these files and both outputs, that answered this status.
 pub record IsAnswered {N : Type 0} (lib : Library) (words : List (List ℕ)) (files : Reading N) (out err : Writing) (status : ℕ) : Type 0 where
   -- contents of files stay, and no count of faults falls
@@ -66,6 +74,12 @@ pub record IsAnswered {N : Type 0} (lib : Library) (words : List (List ℕ)) (fi
   -- with status 0 the bytes are the spelling of the message of replica p in the world in which it took these messages and then made the script's updates
   pub world : (p : ℕ) (g : List Decl) (s : Script) (messages : List Message) → TellsSite lib (files.content files.before) words p g s messages → status ≡ 0
       → (run : Run) × IsSiteWorld p g s.nodes messages s.commands run × Writes out (spelled (message_at g (peer_at run.peers p)))
+  -- with status 0 the state that is written counts all that the messages count, and the script's updates one by one
+  pub kept : (p : ℕ) (g : List Decl) (s : Script) (messages : List Message) → TellsSite lib (files.content files.before) words p g s messages → status ≡ 0 → (bytes : List ℕ) × IsKept p g s messages bytes × Writes out bytes
+  -- with status 0 a call on the states of sites is one among them, of which it is said what holds over time
+  pub called : (g : List Decl) (s : Script) (sites : Sites) (k : SiteCall) → TellsCall lib (files.content files.before) words g s sites k → status ≡ 0 → (bytes : List ℕ) × IsCallOf g s.nodes sites k bytes × Writes out bytes
+  -- there is no other status than these
+  pub few : IsSiteStatus status
   -- words of no listed form: no file is read
   pub unread : site_of words ≡ None → files.after ≡ files.before
   -- with another status than 0 and 5 nothing is written to `out`

@@ -33,3 +33,15 @@ MeetsFault words v p = (f : ℕ) × Comes v.content words p f × Rose (v.before 
 -- no count of a file to which the plan comes rose
 abbrev pub NoFault : List (List ℕ) → View → Plan → Type 0
 NoFault words v p = (f : ℕ) → Comes v.content words p f → ¬ Rose (v.before (word_at words f)) (v.after (word_at words f))
+
+-- The statuses that a site ends with. None says that a threshold isn't reached: no read stands in a site's own script.
+pub data IsSiteStatus : ℕ → Type 0 where
+  done : IsSiteStatus 0
+  usage : IsSiteStatus 1
+  graph : IsSiteStatus 2
+  script : IsSiteStatus 3
+  file : IsSiteStatus 4
+  output : IsSiteStatus 5
+  limit : IsSiteStatus 6
+  memory : IsSiteStatus 7
+  state : IsSiteStatus 9

@@ -3,6 +3,7 @@ use Rattle.std.specs.Prelude.{◌≡◌, ℕ, ◌+◌, ◌<◌, ◌==◌, if◌t
 use Rattle.std.specs.List.{AllByRecursion}
 use Rattle.model_graph.specs.Graph.{Decl}
 use Rattle.model_messages.specs.Message.{Message}
+use Rattle.model_messages.specs.Spelling.{spelled}
 use Rattle.model_world.specs.Command.{Command}
 use Rattle.model_world.specs.Lawful.{opening_stage, AreLawful}
 use Rattle.model_world.specs.World.{Peer, sent_number, message_at}
@@ -47,6 +48,12 @@ pub record IsCalled (g : List Decl) (nodes : ℕ) (sites : Sites) (k : SiteCall)
 pub data AreCalled (g : List Decl) (nodes : ℕ) : List SiteCall → Sites → Type 0 where
   none : AreCalled g nodes [] (no_sites nodes)
   more : {calls : List SiteCall} {sites next : Sites} {k : SiteCall} → AreCalled g nodes calls sites → IsCalled g nodes sites k next → AreCalled g nodes (calls ++ k ∷ []) next
+
+-- A call on told files is this call among the sites: it took in the site's own state and those that were written, so what it wrote is the next of all states that were written, and the one that the site keeps.
+pub record IsCallOf (g : List Decl) (nodes : ℕ) (sites : Sites) (k : SiteCall) (bytes : List ℕ) : Type 0 where
+  pub next : Sites
+  pub called : IsCalled g nodes sites k next
+  pub written : spelled (message_at g called.last) ≡ bytes
 
 -- how many updates site p made
 abbrev pub updates_by : ℕ → List SiteCall → ℕ

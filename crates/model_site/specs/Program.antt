@@ -71,12 +71,13 @@ stating p g nodes next = reading state_file (λ bytes. given (state_taken p g st
 abbrev pub filing : ℕ → List Decl → ℕ → Peer → (Peer → Plan) → Plan
 filing p g f r next = reading f (λ bytes. given (file_taken p g f r bytes) next)
 
--- what is written of the replica that took all states in: its state after the updates, where all that it shows is within the limit
+-- what is written of the replica at command number c: its state, where all that it shows is within the limit
+abbrev pub written_state : ℕ → List Decl → ℕ → Peer → Result (List ℕ) SiteRefusal
+written_state p g c r = shown_checked p g c r >>= (λ _. Ok (spelled (message_at g r)))
+
+-- what is written of the replica that took all states in: its state after the updates
 abbrev pub site_answer : ℕ → List Decl → Script → Peer → Result (List ℕ) SiteRefusal
-site_answer p g s r = do
-  last ← updates_done p g 1 r s.commands
-  _ ← shown_checked p g (length s.commands + 1) last
-  Ok (spelled (message_at g last))
+site_answer p g s r = updates_done p g 1 r s.commands >>= (λ last. written_state p g (length s.commands + 1) last)
 
 -- so many files more, the first of them being file f, and then the updates
 unfoldable pub filing_more : ℕ → List Decl → Script → ℕ → ℕ → Peer → Plan

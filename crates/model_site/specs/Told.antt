@@ -4,9 +4,11 @@ use Rattle.model_functions.specs.Library.{Library}
 use Rattle.model_graph.specs.Graph.{Decl}
 use Rattle.model_graph.specs.Evaluation.{first_large}
 use Rattle.model_messages.specs.Message.{Message}
+use Rattle.model_messages.specs.Spelling.{spelled}
+use Rattle.model_states.specs.Counts.{count_at, AreCountsAtMost}
 use Rattle.model_wire.specs.Message.{decoded}
 use Rattle.model_world.specs.Command.{Command, Script}
-use Rattle.model_world.specs.World.{Peer, fresh_peer, delivered}
+use Rattle.model_world.specs.World.{Peer, fresh_peer, sent_number, delivered, message_at}
 use Rattle.model_readings.specs.Graph.{graph_of}
 use Rattle.model_scripts.specs.Script.{script_of}
 use Rattle.model_program.specs.Merge.{taking}
@@ -64,3 +66,10 @@ pub record IsBefore (p : ℕ) (g : List Decl) (r : Peer) (commands : List Comman
   pub all : done ++ k ∷ rest ≡ commands
   pub number_is : number ≡ length done + 1
   pub reached : updates_done p g 1 r done ≡ Ok last
+
+-- The state of these bytes counts what any of the messages counts, and the replica's own updates behind those that it had made.
+pub record IsKept (p : ℕ) (g : List Decl) (s : Script) (messages : List Message) (bytes : List ℕ) : Type 0 where
+  pub last : Peer
+  pub written : spelled (message_at g last) ≡ bytes
+  pub taken : (i : ℕ) → AreCountsAtMost (sent_number messages i).counts last.counts
+  pub own : count_at last.counts p ≡ count_at (heard g s.nodes messages).counts p + length s.commands

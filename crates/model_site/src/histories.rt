@@ -1,13 +1,15 @@
 //! What who runs sites can rely on, whatever they exchange, however often and in whatever order. Each site goes on from its own last state, and no two share a number.
 
-ghost use Rattle.std.specs.Prelude.{◌≡◌, ◌<◌, ℕ, List};
+ghost use Rattle.std.specs.Prelude.{◌≡◌, ◌<◌, ◌∷◌, ℕ, List, length, map};
 ghost use Rattle.model_states.specs.Counts.{count_at, AreCountsAtMost};
 ghost use Rattle.model_graph.specs.Graph.{Decl};
 ghost use Rattle.model_world.specs.World.{delivered, shown_at, sent_number};
+ghost use Rattle.model_program.specs.Merge.{merge_text, joined};
 ghost use Rattle.model_site.specs.History.{SiteCall, Sites, AreCalled, updates_by, replica_of, told_by};
 
 /// Sites whose counts are equal hold the same and show the same, and so do two states with equal counts, whoever wrote them and when. No update is lost:
 /// a site counts each update that it made, and one that counts what a state counts has all that the state has, so that taking it in changes nothing.
+/// What `merge` prints of any states is what a site shows that counts the same.
 #[tactic(auto, using(crate::proofs::HistoryLaws::histories))]
 pub fn sites_agree_and_lose_nothing()
     ensures sites { (g : List Decl) (nodes : ℕ) (calls : List SiteCall) (sites : Sites) → AreCalled g nodes calls sites → (p q : ℕ) → p < nodes → q < nodes
@@ -21,4 +23,7 @@ pub fn sites_agree_and_lose_nothing()
     ensures kept { (g : List Decl) (nodes : ℕ) (calls : List SiteCall) (sites : Sites) → AreCalled g nodes calls sites → (p i : ℕ) → p < nodes
         → AreCountsAtMost (sent_number sites.written i).counts (replica_of g nodes sites p).counts
         → delivered g (sent_number sites.written i) (replica_of g nodes sites p) ≡ replica_of g nodes sites p }
+    ensures merged { (g : List Decl) (nodes : ℕ) (calls : List SiteCall) (sites : Sites) → AreCalled g nodes calls sites → (p i : ℕ) (files : List ℕ) → p < nodes → i < length sites.written
+        → (joined g (map (sent_number sites.written) (i ∷ files))).counts ≡ (replica_of g nodes sites p).counts
+        → merge_text g (joined g (map (sent_number sites.written) (i ∷ files))) ≡ merge_text g (replica_of g nodes sites p) }
 {}
