@@ -1,6 +1,5 @@
 -- The node of a site: what it has to have for what it does, and that it stays one.
-use Rattle.std.proofs.Common.{◌≡◌, ℕ, ◌+◌, ◌<◌, ◌≤◌, true, List, length, Option, Some, None, sym, ap, subst, ◌∙◌, arith}
-use Rattle.std.specs.List.{AllByRecursion}
+use Rattle.std.proofs.Common.{◌≡◌, ℕ, ◌+◌, ◌<◌, ◌≤◌, true, List, length, Some, None, sym, ap, subst, ◌∙◌, arith}
 use Rattle.model_values.proofs.ListLaws.{each-weaker}
 use Rattle.model_states.specs.Content.{size_of, row_limit}
 use Rattle.model_states.specs.Counts.{count_at}
@@ -10,7 +9,7 @@ use Rattle.model_graph.specs.Evaluation.{content_at, first_large}
 use Rattle.model_messages.specs.Message.{Message, brought}
 use Rattle.model_messages.proofs.MessageLaws.{gained-length}
 use Rattle.model_readings.specs.Lawful.{IsGraph}
-use Rattle.model_wire.specs.Lawful.{IsMessage, AreAtMost}
+use Rattle.model_wire.specs.Lawful.{IsMessage}
 use Rattle.model_world.specs.World.{Peer, fresh_peer, updated, delivered, message_at}
 use Rattle.model_runs.specs.Held.{AreBelow, IsHeld, IsSentTo, IsUpdate}
 use Rattle.model_runs.proofs.EachLaws.{each-set}

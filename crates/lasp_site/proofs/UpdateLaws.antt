@@ -1,5 +1,5 @@
 -- The updates of a site, command by command.
-use Rattle.std.proofs.Common.{◌≡◌, ℕ, ◌+◌, ◌<◌, ◌≤◌, ◌==◌, Bool, true, false, nat_lt, nat_le, if◌then◌else◌, IsTrue, List, [], ◌∷◌, length, drop, Option, Some, None, Result, Ok, Err, refl, sym, ap, subst, ◌∙◌, arith}
+use Rattle.std.proofs.Common.{◌≡◌, ℕ, ◌+◌, ◌<◌, ◌≤◌, Bool, true, false, nat_le, IsTrue, List, [], ◌∷◌, length, drop, Option, Some, None, Result, Ok, Err, refl, sym, ap, subst, ◌∙◌, arith}
 use Rattle.std.specs.Prelude.{slice_get, is_some, zero, suc, FitsSigned}
 use mir.Syntax.{w64}
 use Rattle.std.proofs.lemmas.Bool.{le-ltb, lt-ltb, le-leb, lt-leb}
@@ -9,15 +9,12 @@ use Rattle.model_values.specs.Size.{IsOfWidth}
 use Rattle.model_values.specs.Value.{Val}
 use Rattle.model_states.specs.Content.{size_of, row_limit}
 use Rattle.model_states.specs.Counts.{count_at}
-use Rattle.model_states.specs.Threshold.{Shape, set, grow, counter, register}
 use Rattle.model_states.specs.Update as plain
 use Rattle.model_graph.specs.Chain.{◌>>=◌, check}
 use Rattle.model_graph.specs.Evaluation.{content_at, first_large}
 use Rattle.model_graph.specs.Graph.{Kind, OrSet, GSet, Counter, MaxReg, Decl, kind_at, name_at}
 use Rattle.model_graph.specs.Lawful.{shape_of}
 use Rattle.model_graph.proofs.EvalLaws.{eval-length}
-use Rattle.model_wire.specs.Lawful.{IsSpellable}
-use Rattle.model_world.specs.Command as command
 use Rattle.model_world.specs.Command.{Command}
 use Rattle.model_world.specs.Lawful.{opening_stage, stage_after, MayBeDone, AreLawful}
 use Rattle.model_world.specs.World.{Peer, updated, shown_at}
@@ -25,7 +22,7 @@ use Rattle.model_runs.specs.Held.{IsUpdate}
 use Rattle.model_runs.proofs.StopLaws.{first-low}
 use Rattle.model_program.specs.declared.refusal.Refusal.TheVariants as shared
 use Rattle.model_site.specs.Follows.{Gives}
-use Rattle.model_site.specs.Site.{own_where, own, IsOwn, adds, removes, inserts, counts, raises, AreOwn, update_limit, update_done, done_by, updates_done, large_refused, shown_checked}
+use Rattle.model_site.specs.Site.{own_where, own, IsOwn, adds, removes, inserts, counts, raises, AreOwn, update_limit, update_done, done_by, updates_done, large_refused}
 use Rattle.model_site.specs.declared.site_refusal.SiteRefusal.{SiteRefusal}
 use Rattle.model_site.specs.declared.site_refusal.SiteRefusal.TheVariants.{Shared, UpdatesFull}
 use Rattle.model_site.specs.declared.site_failure.SiteFailure.{SiteFailure}

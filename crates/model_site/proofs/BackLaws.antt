@@ -1,6 +1,6 @@
 -- From a cause to the answer: what has a cause is what the contents decide.
 use Rattle.std.proofs.Common.{refl, sym, ap, subst, ◌∙◌, arith}
-use Rattle.std.specs.Prelude.{◌≡◌, ◌<◌, ◌≤◌, ℕ, zero, suc, ◌+◌, ◌-◌, ◌++◌, nat_lt, nat_le, Bool, true, false, if◌then◌else◌, List, [], ◌∷◌, length, take, slice_get, Option, Some, None, is_some, option_and_then, Result, Ok, Err}
+use Rattle.std.specs.Prelude.{◌≡◌, ◌<◌, ◌≤◌, ℕ, zero, suc, ◌+◌, ◌-◌, ◌++◌, nat_le, Bool, true, false, if◌then◌else◌, List, [], ◌∷◌, length, take, slice_get, Option, Some, None, is_some, option_and_then, Result, Ok, Err}
 use Rattle.std.proofs.lemmas.Bool.{le-ltb, lt-ltb, lt-leb}
 use Rattle.model_functions.specs.Library.{Library}
 use Rattle.model_graph.specs.Chain.{◌>>=◌, check, refusing}
@@ -24,12 +24,11 @@ use Rattle.model_program.specs.Told.{IsFileTold, IsOfGraph}
 use Rattle.model_program.specs.declared.refusal.Refusal.TheVariants as shared
 use Rattle.model_program.specs.declared.state_why.StateWhy.TheVariants.{Wire, WrongGraph}
 use Rattle.model_program.proofs.MergeLaws.{take-Decides}
-use Rattle.model_site.specs.Call.{TellsSite}
 use Rattle.model_site.specs.Cause.{IsFileRefused, file_long, no_message, wrong_graph, source_large, IsUpdateRefused, updates_full, update_large, HasCause, usage, graph_long, graph_bad, script_long, script_bad, no_such_node, not_local, state_refused, file_refused, update_refused, variable_large, written}
 use Rattle.model_site.specs.Plan.{Answer, Plan, Says, checked, given, within, reading, told_answer}
 use Rattle.model_site.specs.Program.{graph_file, state_file, script_file, first_file, site_of, graph_refused, script_refused, local_refused, is_for, written_state, site_answer, filing_more, taking_in, scripted, plan_of, plan}
 use Rattle.model_site.specs.Site.{own, first_other, IsOwn, AreOwn, IsFirstOther, state_refused as refused_state, large_refused, message_taken, state_taken, file_taken, update_limit, update_done, done_by, updates_done}
-use Rattle.model_site.specs.Told.{IsGraphTold, IsScriptTold, IsOpened, IsSite, heard, AreTaken, IsBefore}
+use Rattle.model_site.specs.Told.{IsGraphTold, IsOpened, IsSite, heard, AreTaken}
 use Rattle.model_site.specs.declared.site_refusal.SiteRefusal.{SiteRefusal}
 use Rattle.model_site.specs.declared.site_refusal.SiteRefusal.TheVariants.{Shared, NotLocal, FileTooLarge, UpdatesFull}
 use Rattle.model_site.proofs.CauseLaws.{told-cause, site-many}

@@ -1,15 +1,14 @@
 -- A site forgets nothing: what it writes counts what it took in and its own updates, and a call on told files is a call among the sites.
 use Rattle.std.proofs.Common.{refl, sym, ap, subst, ◌∙◌, arith}
-use Rattle.std.specs.Prelude.{◌≡◌, ◌<◌, ◌≤◌, ◌==◌, ℕ, zero, suc, ◌+◌, ◌++◌, Bool, true, false, if◌then◌else◌, List, [], ◌∷◌, length, Option, Some, Result, Ok, Err, slice_set}
+use Rattle.std.specs.Prelude.{◌≡◌, ◌<◌, ◌≤◌, ◌==◌, ℕ, zero, suc, ◌+◌, ◌++◌, Bool, true, false, if◌then◌else◌, List, [], ◌∷◌, length, Option, Result, Ok, slice_set}
 use Rattle.std.proofs.lemmas.Bool.{eqb-true, eq-eqb}
 use Rattle.model_functions.specs.Library.{Library}
-use Rattle.model_states.specs.Counts.{count_at, larger, AreCountsAtMost}
+use Rattle.model_states.specs.Counts.{count_at, AreCountsAtMost}
 use Rattle.model_states.specs.Update.{Op}
 use Rattle.model_states.proofs.CountLaws.{count_at-larger, count_at-set, length-larger, length-zeros}
 use Rattle.model_graph.specs.Graph.{Decl}
 use Rattle.model_graph.proofs.PlaceLaws.{set-length}
 use Rattle.model_messages.specs.Message.{Message}
-use Rattle.model_messages.specs.Spelling.{spelled}
 use Rattle.model_scripts.proofs.Reached.{accepted-script_of}
 use Rattle.model_world.specs.Command.{Command, Script}
 use Rattle.model_world.specs.Lawful.{opening_stage, AreLawful}
@@ -19,12 +18,11 @@ use Rattle.model_program.specs.Follows.{View}
 use Rattle.model_program.specs.Merge.{taking}
 use Rattle.model_site.specs.Call.{Writes, TellsSite, TellsCall}
 use Rattle.model_site.specs.Ends.{Ends, Settles}
-use Rattle.model_site.specs.History.{SiteCall, Sites, taken_by, IsCalled, IsCallOf}
+use Rattle.model_site.specs.History.{SiteCall, Sites, taken_by, IsCallOf}
 use Rattle.model_site.specs.Follows.{Follows}
 use Rattle.model_site.specs.Program.{site_answer, plan}
 use Rattle.model_site.specs.Site.{own, AreOwn, update_done, done_by, updates_done}
 use Rattle.model_site.specs.Told.{heard, IsKept}
-use Rattle.model_site.specs.declared.site_refusal.SiteRefusal.{SiteRefusal}
 use Rattle.model_site.specs.declared.site_failure.SiteFailure.{SiteFailure}
 use Rattle.model_site.proofs.AnswerLaws.{follows-told, done-ends}
 use Rattle.model_site.proofs.PromiseLaws.{answer-bound, site-told}

@@ -11,22 +11,21 @@ use Rattle.model_readings.specs.Graph.{graph_of}
 use Rattle.model_scripts.specs.Script.{script_of}
 use Rattle.model_world.specs.Command.{Script}
 use Rattle.model_world.specs.World.{Peer, Run, fresh_peer, delivered, peer_at, message_at, shown_at}
-use Rattle.model_program.specs.Call.{AreUnchanged, AreLater, IsLater, Reading, view_of}
 use Rattle.model_program.specs.Ends.{Writing}
 use Rattle.model_program.specs.Follows.{View}
 use Rattle.model_program.specs.Told.{IsFileTold}
-use Rattle.model_site.specs.Call.{Writes, TellsSite, IsAnswered}
+use Rattle.model_site.specs.Call.{Writes, TellsSite}
 use Rattle.model_site.specs.Ends.{Ends, Settles}
 use Rattle.model_site.specs.Follows.{Follows}
 use Rattle.model_site.specs.Plan.{Answer, Plan, checked, given, told_answer}
-use Rattle.model_site.specs.Program.{graph_file, state_file, script_file, first_file, site_of, graph_refused, script_refused, is_for, site_answer, filing_more, taking_in, scripted, plan_of, plan}
+use Rattle.model_site.specs.Program.{graph_file, state_file, script_file, first_file, graph_refused, script_refused, is_for, site_answer, filing_more, taking_in, scripted, plan_of, plan}
 use Rattle.model_site.specs.Site.{state_taken, file_taken, updates_done, shown_checked}
 use Rattle.model_site.specs.Told.{IsSite, heard, IsTaken, AreTaken, nothing, state, more}
 use Rattle.model_site.specs.World.{IsSiteWorld}
 use Rattle.model_site.specs.declared.site_refusal.SiteRefusal.{SiteRefusal}
 use Rattle.model_site.specs.declared.site_failure.SiteFailure.{SiteFailure}
-use Rattle.model_site.proofs.AnswerLaws.{follows-told, refused-ends, written-ends, complete-ends, done-ends, quiet-ends}
-use Rattle.model_site.proofs.CauseLaws.{told-cause, heard-more, site-many, says}
+use Rattle.model_site.proofs.AnswerLaws.{follows-told, done-ends}
+use Rattle.model_site.proofs.CauseLaws.{heard-more, site-many}
 use Rattle.model_site.proofs.SiteLaws.{large-passed, ok-same}
 use Rattle.model_site.proofs.TellLaws.{told-file, told-checked, file-taken, some-bytes, is-for}
 use Rattle.model_site.proofs.WorldLaws.{site-world}

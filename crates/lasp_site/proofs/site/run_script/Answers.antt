@@ -1,10 +1,7 @@
-use Rattle.std.proofs.Common.{◌≡◌, ◌-◌, length, refl, sym, ap, subst, Ok, Err, Result}
+use Rattle.std.proofs.Common.{◌-◌, length}
 use Rattle.std.specs.Arc.{arc_value}
 use Rattle.model_program.specs.Follows.{View, view}
-use Rattle.model_site.specs.Follows.{Follows}
-use Rattle.model_site.specs.Plan.{Plan, given}
 use Rattle.model_site.specs.Program.{is_for, taking_in}
-use Rattle.model_site.specs.declared.site_refusal.SiteRefusal.{SiteRefusal}
 use Rattle.lasp_site.specs.Words.{words_of, answered}
 use Rattle.lasp_site.proofs.OwnLaws.{script-own, script-node, follows-given, follows-refused}
 use Rattle.lasp_site.proofs.site.run_script.Goals as goal

@@ -1,4 +1,4 @@
-use Rattle.std.proofs.Common.{◌≡◌, ◌-◌, ◌∙◌, ℕ, length, refl, sym, subst, arith}
+use Rattle.std.proofs.Common.{◌-◌, ◌∙◌, ℕ, length, refl, sym, subst, arith}
 use Rattle.model_world.specs.World.{Peer}
 use Rattle.model_world.specs.Lawful.{opening_stage, AreLawful}
 use Rattle.model_program.specs.Follows.{View, view, IsPartOf}

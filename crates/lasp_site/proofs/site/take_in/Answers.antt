@@ -1,12 +1,9 @@
-use Rattle.std.proofs.Common.{◌≡◌, ◌-◌, ◌∙◌, ℕ, List, length, sym, ap, subst, arith}
+use Rattle.std.proofs.Common.{◌-◌, length}
 use Rattle.std.specs.Arc.{arc_value}
-use Rattle.model_graph.specs.Graph.{Decl}
 use Rattle.model_program.specs.Follows.{view}
 use Rattle.model_site.specs.Program.{taking_in}
 use Rattle.model_site.proofs.PlanLaws.{follows-memory}
-use Rattle.lasp_drive.specs.Node.{IsFresh}
 use Rattle.lasp_site.specs.Words.{words_of}
-use Rattle.lasp_site.proofs.NodeLaws.{node-new, node-fresh}
 use Rattle.lasp_site.proofs.site.take_in.Goals as goal
 
 pub returns-in-Err-clause-follows : goal.returns-in-Err-clause-follows

@@ -1,4 +1,4 @@
-use Rattle.std.proofs.Common.{◌≡◌, ℕ, sym, subst}
+use Rattle.std.proofs.Common.{ℕ, sym, subst}
 use Rattle.model_world.specs.Lawful.{opening_stage, AreLawful}
 use Rattle.model_program.specs.Follows.{View, view}
 use Rattle.model_site.specs.Program.{site_answer}

@@ -1,5 +1,4 @@
 use Rattle.std.proofs.Common.{◌≡◌, ◌+◌, ◌-◌, ◌≤◌, ℕ, length, refl, ◌∙◌, arith}
-use Rattle.model_world.specs.Command.{Script}
 use Rattle.model_program.specs.Follows.{View, view, IsPartOf}
 use Rattle.model_site.specs.Plan.{Plan}
 use Rattle.model_site.specs.Program.{filing_more}

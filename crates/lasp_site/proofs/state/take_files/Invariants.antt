@@ -1,4 +1,4 @@
-use Rattle.std.proofs.Common.{◌≡◌, ◌≤◌, ◌+◌, ◌-◌, ℕ, List, length}
+use Rattle.std.proofs.Common.{◌≡◌, ◌≤◌, ◌-◌, ℕ, List, length}
 use Rattle.model_world.specs.Command.{Script}
 use Rattle.model_program.specs.Follows.{view}
 use Rattle.model_site.specs.Program.{filing_more}

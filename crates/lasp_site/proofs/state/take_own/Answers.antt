@@ -1,4 +1,4 @@
-use Rattle.std.proofs.Common.{List, ℕ, Result, sym, subst, ◌∙◌}
+use Rattle.std.proofs.Common.{Result, sym, subst, ◌∙◌}
 use Rattle.model_world.specs.World.{Peer}
 use Rattle.model_site.specs.Follows.{Gives}
 use Rattle.model_site.specs.declared.site_refusal.SiteRefusal.{SiteRefusal}

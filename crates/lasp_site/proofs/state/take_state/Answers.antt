@@ -1,4 +1,4 @@
-use Rattle.std.proofs.Common.{List, ℕ, subst, sym}
+use Rattle.std.proofs.Common.{List, ℕ, subst}
 use Rattle.model_world.specs.World.{Peer, fresh_peer}
 use Rattle.model_program.specs.Follows.{View, view}
 use Rattle.model_site.specs.Follows.{Gives}

@@ -1,8 +1,8 @@
 use Rattle.std.proofs.Common.{ℕ, Option, subst}
 use Rattle.lasp_script.specs.Command.{command_of}
 use Rattle.lasp_state.specs.declared.op.Op.{Op}
-use Rattle.lasp_site.specs.Site.{peer_by, IsOperationOf}
-use Rattle.lasp_site.proofs.UpdateLaws.{told-may, told-done, told-none}
+use Rattle.lasp_site.specs.Site.{IsOperationOf}
+use Rattle.lasp_site.proofs.UpdateLaws.{told-may}
 use Rattle.lasp_site.proofs.update.do_command.Goals as goal
 
 pub update-requires-clause-may : goal.update-requires-clause-may

@@ -1,4 +1,4 @@
-use Rattle.std.proofs.Common.{◌≡◌, ◌+◌, ◌≤◌, ℕ, length, refl, sym, subst, ◌∙◌, arith}
+use Rattle.std.proofs.Common.{ℕ, refl, sym, subst, ◌∙◌, arith}
 use Rattle.model_world.specs.Lawful.{opening_stage, MayBeDone}
 use Rattle.model_site.specs.Site.{updates_done}
 use Rattle.lasp_script.specs.Command.{command_of}
