@@ -8,7 +8,7 @@ use lasp_edge::{Files, Sink};
 use std::alloc::{AllocError, Global};
 
 /// The words as texts, or `None` where one of them is none.
-fn texts_of(alloc: Global, words: &[Vec<u8>]) -> Result<Option<Vec<String>>, AllocError>
+pub fn texts_of(alloc: Global, words: &[Vec<u8>]) -> Result<Option<Vec<String>>, AllocError>
     ensures { IfOk result (TextsOrNone (bytes_of words.now)) }
 {
     let mut texts = Vec::new(alloc);

@@ -13,5 +13,8 @@ mod operations;
 mod words;
 
 pub use answer::answer_words;
-pub use call::answer_call;
+pub use call::{answer_call, texts_of};
+pub use functions::{Condition, LIFTS, MAPS, PREDICATES};
+pub use library::{add_lift, add_map, add_predicate};
+pub use operations::{conditions_of, steps_of};
 pub use words::words_after_name;
