@@ -1,4 +1,4 @@
-"""Whether the program that stands in the folder out/ of its crate is one that `rt ci` proved, built and ran for the sources as they stand.
+"""Whether a program that stands in the folder out/ of its crate is one that `rt ci` proved, built and ran for the sources as they stand.
 
 `rt ci` moves every folder out/ away before it begins. It begins with a crate once those that it uses are proved: it makes the crate's folder out/ anew,
 then reads the crate's sources. It builds a program only from what it proved, first by LLVM and then by the toolchain's own compiler. At its end,
@@ -16,10 +16,16 @@ import subprocess
 
 from . import sources
 
-OUT = f"{sources.TOP}/crates/{sources.PROGRAM}/out"
-NAME = f"{OUT}/{sources.PROGRAM}"
-# in the order in which a gate makes them
-MADE = (NAME, f"{NAME}.by-rattle", f"{OUT}/stdout", f"{OUT}/stdout.by-rattle")
+
+def built(program):
+    """Returns where a build leaves the program of this crate."""
+    return f"{sources.TOP}/crates/{program}/out/{program}"
+
+
+def made(program):
+    """Returns what a gate leaves, in the order in which it makes them."""
+    name, out = built(program), f"{sources.TOP}/crates/{program}/out"
+    return name, f"{name}.by-rattle", f"{out}/stdout", f"{out}/stdout.by-rattle"
 
 
 def births(crates):
@@ -30,16 +36,16 @@ def births(crates):
     return dict(zip(crates, map(int, told))) if len(told) == len(crates) and all(it.isdigit() for it in told) else {}
 
 
-def is_proved_since_changes():
+def is_proved_since_changes(program):
     """Returns whether each crate's folder was made after the crate's last change and after those of the crates that it uses, and the program after its own."""
-    uses, crates = sources.listed(), sources.crates()
+    uses, crates = sources.listed(), sources.crates(program)
     shared = sources.changed([f"{sources.TOP}/crates.txt", *filter(os.path.exists, [f"{sources.TOP}/HANDLES"])])
     born = births(crates)
     for crate in born:
         below = [born[it] for it in uses[crate] if it in born]
         if born[crate] <= max(shared, sources.last_change_of(crate)) or born[crate] < max(below, default=0):
             return False
-    return bool(born) and born[sources.PROGRAM] <= os.stat(NAME).st_mtime_ns
+    return bool(born) and born[program] <= os.stat(built(program)).st_mtime_ns
 
 
 def is_at_work():
@@ -59,18 +65,19 @@ def read(file):
         return it.read()
 
 
-def has_run_well():
+def has_run_well(program):
     """Returns whether both programs are there, and printed what they must after both were made."""
-    if os.path.exists(f"{NAME}.stamp") or not all(map(os.path.isfile, MADE)):
+    files = made(program)
+    if os.path.exists(f"{files[0]}.stamp") or not all(map(os.path.isfile, files)):
         return False
-    times = [os.stat(it).st_mtime_ns for it in MADE]
-    printed = {read(it) for it in (f"{sources.TOP}/crates/{sources.PROGRAM}/stdout", *MADE[2:])}
+    times = [os.stat(it).st_mtime_ns for it in files]
+    printed = {read(it) for it in (f"{sources.TOP}/crates/{program}/stdout", *files[2:])}
     return times == sorted(times) and len(printed) == 1
 
 
-def is_for_these_sources():
+def is_for_these_sources(program):
     """Returns whether the program counts. A file that goes meanwhile belongs to another run that begins."""
     try:
-        return has_run_well() and not is_at_work() and is_proved_since_changes()
+        return has_run_well(program) and not is_at_work() and is_proved_since_changes(program)
     except FileNotFoundError:
         return False

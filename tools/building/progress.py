@@ -8,8 +8,8 @@ import time
 class Seconds:
     """Counts the seconds, as no number of steps is known. Off a terminal nothing is shown: the line before the build is enough."""
 
-    def __init__(self, what):
-        self.what, self.began, self.shown = what, time.monotonic(), ""
+    def __init__(self, program, what):
+        self.program, self.what, self.began, self.shown = program, what, time.monotonic(), ""
 
     def __enter__(self):
         return self
@@ -27,18 +27,18 @@ class Seconds:
         if text == self.shown:
             return
         if sys.stderr.isatty():
-            sys.stderr.write(f"\rlasp: {text:<{len(self.shown)}}")
+            sys.stderr.write(f"\r{self.program}: {text:<{len(self.shown)}}")
             sys.stderr.flush()
         elif type(self) is not Seconds:
-            print(f"lasp: {text}", file=sys.stderr, flush=True)
+            print(f"{self.program}: {text}", file=sys.stderr, flush=True)
         self.shown = text
 
 
 class Crates(Seconds):
     """Tells which crate is proved, and how many there are, by what the log of `rt run` names."""
 
-    def __init__(self, what, log, crates):
-        super().__init__(what)
+    def __init__(self, program, what, log, crates):
+        super().__init__(program, what)
         self.log, self.crates, self.size, self.at = log, crates, 0, 0
 
     def text(self):

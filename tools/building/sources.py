@@ -1,11 +1,12 @@
-"""The sources of the program: the files of its crate and of the crates below it, and when they changed last."""
+"""The sources of a program: the files of its crate and of the crates below it, and when they changed last."""
 import hashlib
 import os
 import pathlib
 import re
 
 TOP = str(pathlib.Path(__file__).absolute().parents[2])
-PROGRAM = "lasp_cli"
+# by a program's name the crate that has its `main`
+PROGRAMS = {"lasp": "lasp_cli", "site": "lasp_site_cli"}
 PARTS = ("src", "specs", "proofs")
 
 
@@ -16,8 +17,8 @@ def listed():
     return {name.split()[0]: uses.split() for name, colon, uses in lines if colon}
 
 
-def crates():
-    """Returns the program's crates, each after those that it uses, and the program last."""
+def crates(program):
+    """Returns the crates of the program in this crate, each after those that it uses, and the program last."""
     uses, found = listed(), []
 
     def add(name):
@@ -26,13 +27,13 @@ def crates():
                 add(below)
         found.append(name)
 
-    add(PROGRAM)
+    add(program)
     return found
 
 
-def folders():
+def folders(program):
     """Returns the folders of sources, as paths below the top."""
-    every = [f"crates/{crate}/{part}" for crate in crates() for part in PARTS]
+    every = [f"crates/{crate}/{part}" for crate in crates(program) for part in PARTS]
     return [it for it in every if os.path.isdir(f"{TOP}/{it}")]
 
 
@@ -54,15 +55,15 @@ def last_change_of(crate):
     return changed([path for part in PARTS for path in entries(f"{TOP}/crates/{crate}/{part}") if os.path.lexists(path)])
 
 
-def last_change():
+def last_change(program):
     """Returns the time of the last change of any source of the program."""
-    return max(changed([f"{TOP}/crates.txt"]), *map(last_change_of, crates()))
+    return max(changed([f"{TOP}/crates.txt"]), *map(last_change_of, crates(program)))
 
 
-def checksum():
+def checksum(program):
     """Returns one checksum of all that the program is made of."""
     sum = hashlib.sha256()
-    paths = ["crates.txt", *[path[len(TOP) + 1 :] for it in folders() for path in entries(f"{TOP}/{it}")]]
+    paths = ["crates.txt", *[path[len(TOP) + 1 :] for it in folders(program) for path in entries(f"{TOP}/{it}")]]
     for path in paths:
         if re.search(r"\.(rt|antt|txt)\Z", path) and os.path.isfile(f"{TOP}/{path}"):
             with open(f"{TOP}/{path}", "rb") as it:
