@@ -3,8 +3,8 @@
 A line stands here as there: of its words, those in capitals stand for what the program puts there.
 """
 LINES = {
-    "usage": "The words have none of these forms: plain GRAPH SCRIPT, check GRAPH, export GRAPH SCRIPT NODE with NODE a digit from 0 to 7, "
-    "merge GRAPH FILE .. with one to eight files, dots SCRIPT.",
+    "usage": "The words have none of these forms: lasp plain GRAPH SCRIPT, lasp check GRAPH, lasp export GRAPH SCRIPT NODE with NODE a digit from 0 to 7, "
+    "lasp merge GRAPH FILE .. with one to eight files, lasp dots SCRIPT, site GRAPH NODE STATE SCRIPT FILE .. with NODE a digit and at most eight files.",
     "graph NUMBER CAUSE": "The graph is refused.",
     "script NUMBER CAUSE": "The script is refused.",
     "read fault FILE": "The file couldn't be read: it isn't there, is a folder, or isn't for you to read.",
@@ -15,6 +15,8 @@ LINES = {
     "out of memory": "There was no memory left for the program; the files themselves may be in order.",
     "not reached COMMAND": "The variable doesn't meet the threshold when the run comes to this await, so the run ends there and writes no report.",
     "state FILE PLACE CAUSE": "The file is no message that can be merged.",
+    "too large file FILE NODE NAME": "With the state in this file the variable would have more than 65,536 rows or elements.",
+    "updates full COMMAND NODE": "The site has made 100,000 updates, and a replica makes no more in all its life: go on under a number that no site had yet.",
 }
 
 NOT_JSON = "The bytes are no JSON text: a comma, a quote or a bracket is missing or too many, something follows the text, or a byte isn't UTF-8."
@@ -43,6 +45,7 @@ COMMAND = {
     "or the number of an inc or max is out of its range.",
     "NotSent": "No command before this one sends a message with this number; they are counted from 0, and a sync sends one for each node.",
     "NotDots": "Of all commands dots knows add, remove, send, deliver, sync, settle and print alone: its replicas keep no tombstones, and have no marks to bind, no reads and one variable.",
+    "NotLocal": "A site makes updates of its own number alone: add, remove, insert, inc and max, each with NODE. What other sites do comes in their states.",
     "TooMany": "There are too many: of commands 100,000, of reads and of marks 1,000 each, of variables 64.",
 }
 CAUSES = {
@@ -59,6 +62,6 @@ CAUSES = {
         "Order": "A row, an element, a value or a token isn't above the one before it.",
         "Rest": "More bytes follow where the message ends.",
         "WrongGraph": "The message was read, but its sources aren't the first of this graph, by name, kind and order, "
-        "or it is of another number of nodes than the first file.",
+        "or it is of another number of nodes than the first file, or for a site than the script.",
     },
 }

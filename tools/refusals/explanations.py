@@ -20,8 +20,10 @@ class Files:
     merged: list | None = None
 
 
-def files_of(words):
-    """Returns the files that these words of the program name."""
+def files_of(program, words):
+    """Returns the files that these words of the program lasp or site name."""
+    if program == "site":
+        return Files(*words[:1], *words[3:4])
     word, rest = (words[0], words[1:]) if words else ("", [])
     if word == "merge":
         return Files(*rest[:1], merged=rest[1:])
@@ -145,14 +147,19 @@ def of_state(file, place, cause):
     return [f"{file}, byte {place}{', where these stand' if found else ''}:", *([f"    {found}"] if found else []), causes.CAUSES["state"][cause]]
 
 
+def where(words):
+    """Returns the node and the variable of a line, as far as it has them."""
+    found = [f"{what} {words[word]}" for what, word in (("node", "NODE"), ("variable", "NAME")) if word in words]
+    return [", ".join(found)] if found else []
+
+
 def of_stop(form, words, files):
     """Returns the explanation of a run that stopped at a command, or of a merge that a file made too large."""
     number = int(words["COMMAND"])
     place = in_script(number, files)
     if files.merged is not None:
         place = [f"file {number}, {files.merged[number]}"] if number < len(files.merged) else ["all files together"]
-    where = [f"node {words['NODE']}, variable {words['NAME']}"] if "NAME" in words else []
-    return place + where + [causes.LINES[form]]
+    return place + where(words) + [causes.LINES[form]]
 
 
 def explained(line, files):
@@ -170,4 +177,4 @@ def explained(line, files):
         return of_refusal(part, whole, int(words["NUMBER"]), words["CAUSE"], files)
     if "COMMAND" in words:
         return of_stop(form, words, files)
-    return ([f"{words['FILE']}:"] if "FILE" in words else []) + [causes.LINES[form]]
+    return ([f"{words['FILE']}:"] if "FILE" in words else []) + where(words) + [causes.LINES[form]]
