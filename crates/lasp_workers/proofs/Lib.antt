@@ -1,0 +1,4 @@
+pub mod ListLaws
+pub mod DoneLaws
+pub mod WorkLaws
+pub mod LeaveLaws

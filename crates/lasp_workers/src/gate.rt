@@ -1,0 +1,15 @@
+//! What a worker goes through inside of each job.
+
+/// What a worker calls between taking a job and evaluating it, while others may have the replica. It changes nothing that a contract sees, so that a test can hold a worker in its job.
+pub trait Gate {
+    /// The worker with this number has a job of this variable of this node's replica.
+    fn pass(&self, worker: u32, node: u8, var: u8);
+}
+
+/// A gate that holds nobody.
+#[derive(Drop)]
+pub struct NoGate;
+
+impl Gate for NoGate {
+    fn pass(&self, _worker: u32, _node: u8, _var: u8) {}
+}
