@@ -27,3 +27,4 @@ pub use model_scripts::ScriptWhy;
 pub use read::read_script;
 pub use refused::ScriptRefused;
 pub use script::Script;
+pub use usual::usual_script;

@@ -20,8 +20,9 @@ use std::alloc::Global;
 /// How deep the parts of a script may nest.
 const NESTING_LIMIT: u8 = 126;
 
-/// The script that the bytes are, where they are in usual spellings and nothing is refused. Want of memory gives nothing, too.
-pub(crate) fn usual_script(alloc: Global, bytes: &[u8], g: &Graph, lib: &Library) -> Option<Script>
+/// The script that the bytes are against a graph and a library, where they are in usual spellings, as programs write them: texts without escapes, integers in decimal and arrays, with white space anywhere between these. Nothing where they aren't, where the script is refused, or for want of memory.
+/// It costs one pass over the bytes and takes memory for the commands, and for the trees of values and thresholds, one at a time.
+pub fn usual_script(alloc: Global, bytes: &[u8], g: &Graph, lib: &Library) -> Option<Script>
     ensures { IfSome result (λ s. script_of (library_of lib.now) g.now bytes.now ≡ Ok s) }
 {
     match std::str::from_utf8(bytes) {

@@ -6,4 +6,6 @@ mod errors;
 #[cfg(test)]
 mod nodes;
 #[cfg(test)]
+mod spellings;
+#[cfg(test)]
 mod stretches;
