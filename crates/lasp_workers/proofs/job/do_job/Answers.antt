@@ -13,7 +13,7 @@ returns-then-not-fits-clause-left g c = λ _.
     let h = g.J.Jobs.list c.args.jobs.now in
     unfit-behind lib X (g.J.Jobs.frame c.give_back.new.self) h (g.J.Jobs.list c.give_back.new.self) c.give_back.ensures.frame c.give_back.ensures.list
     (λ fits. let has : c.fits.result ≡ true = c.fits.ensures.1 (c.evaluated_jobs_have_results.ensures.fits X h c.args.job.var c.args.job c.requires.job lib fits) in
-        absurd (let both : true ≡ false = sym has ∙ c.if-not-fits.true in cc))
+    absurd (let both : true ≡ false = sym has ∙ c.if-not-fits.true in cc))
 
 pub returns-in-Ok-finish-clause-ended : goal.returns-in-Ok-finish-clause-ended
 returns-in-Ok-finish-clause-ended g c =

@@ -29,9 +29,11 @@ ask-requires g c = record {
 
 pub returns-in-Err-clause-worked : goal.returns-in-Err-clause-worked
 returns-in-Err-clause-worked g c =
-    let before = c.loop-i.invariant.worked in
-    (before.0 + 0, round-worked g.J.Jobs.place g.J.Jobs.frame g.J.Jobs.caller g.J.Jobs.list g.J.Jobs.looks g.J.Jobs.rows_owed before.0 0 (counted.ticks_of c.args.lib.now) (counted.ticks_of c.loop-i.lib) (counted.ticks_of c.ask.new.lib) c.loop-i.i c.index-replicas-i.result c.ask.new.replica
-    c.args.replicas.now c.loop-i.replicas (omega (arith, c.loop-i-test.true, c.loop-i.auto.replicas)) before.2 c.in-Err.ensures.asked)
+    let before = c.loop-i.invariant.worked in (
+      before.0 + 0,
+      round-worked g.J.Jobs.place g.J.Jobs.frame g.J.Jobs.caller g.J.Jobs.list g.J.Jobs.looks g.J.Jobs.rows_owed before.0 0 (counted.ticks_of c.args.lib.now) (counted.ticks_of c.loop-i.lib) (counted.ticks_of c.ask.new.lib) c.loop-i.i c.index-replicas-i.result c.ask.new.replica
+          c.args.replicas.now c.loop-i.replicas (omega (arith, c.loop-i-test.true, c.loop-i.auto.replicas)) before.2 c.in-Err.ensures.asked,
+    )
 
 pub returns-in-Err-clause-left : goal.returns-in-Err-clause-left
 returns-in-Err-clause-left g c =
@@ -47,8 +49,11 @@ loop-i-preserved g c =
     let size = length-set c.loop-i.replicas c.loop-i.i c.ask.new.replica in
     let one : ℕ = if c.in-Ok.is_finished then 1 else 0 in
     record {
-      worked = (before.0 + one, c.saturating_add-finished.ensures ∙ counted-on before.0 one c.loop-i.finished c.from.result before.1 (byte-counted c.in-Ok.is_finished c.from.result c.from.ensures),
-          round-worked g.J.Jobs.place g.J.Jobs.frame g.J.Jobs.caller g.J.Jobs.list g.J.Jobs.looks g.J.Jobs.rows_owed before.0 one (counted.ticks_of c.args.lib.now) (counted.ticks_of c.loop-i.lib) (counted.ticks_of c.ask.new.lib) c.loop-i.i c.index-replicas-i.result c.ask.new.replica c.args.replicas.now c.loop-i.replicas low before.2 c.in-Ok.ensures.asked);
+      worked = (
+        before.0 + one,
+        c.saturating_add-finished.ensures ∙ counted-on before.0 one c.loop-i.finished c.from.result before.1 (byte-counted c.in-Ok.is_finished c.from.result c.from.ensures),
+        round-worked g.J.Jobs.place g.J.Jobs.frame g.J.Jobs.caller g.J.Jobs.list g.J.Jobs.looks g.J.Jobs.rows_owed before.0 one (counted.ticks_of c.args.lib.now) (counted.ticks_of c.loop-i.lib) (counted.ticks_of c.ask.new.lib) c.loop-i.i c.index-replicas-i.result c.ask.new.replica c.args.replicas.now c.loop-i.replicas low before.2 c.in-Ok.ensures.asked,
+      );
       left = All-set (IsLeftDone g.J.Jobs.frame g.J.Jobs.list lib) c.loop-i.replicas c.loop-i.i c.ask.new.replica
           (subst (λ (l : Library). IsLeftDone g.J.Jobs.frame g.J.Jobs.list l c.ask.new.replica) (ap library_of c.loop-i.invariant.library) c.in-Ok.ensures.left) c.loop-i.invariant.left;
       done = λ none.

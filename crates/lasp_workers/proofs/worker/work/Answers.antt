@@ -18,9 +18,12 @@ loop-init g c =
     let lib = library_of (counted.library_of c.args.lib.now) in
     let there = written-back new rest c.args.replicas.now.items.len (c.leave_none.auto.replicas ∙ c.deref_mut.ensures.len) in
     record {
-      worked = (0, refl,
-          subst (λ (l : List (ℕ × _)). HaveWorked g.J.Jobs.place g.J.Jobs.frame g.J.Jobs.caller g.J.Jobs.list g.J.Jobs.looks g.J.Jobs.rows_owed 0 (counted.ticks_of c.args.lib.now) (counted.ticks_of c.args.lib.now) (pairs_of c.args.replicas.now) l)
-          (sym (ap (map pair_of) there ∙ c.leave_none.ensures.same ∙ ap (map pair_of) c.deref_mut.ensures.value)) (worked-itself g.J.Jobs.place g.J.Jobs.frame g.J.Jobs.caller g.J.Jobs.list g.J.Jobs.looks g.J.Jobs.rows_owed (counted.ticks_of c.args.lib.now) (pairs_of c.args.replicas.now)));
+      worked = (
+        0,
+        refl,
+        subst (λ (l : List (ℕ × _)). HaveWorked g.J.Jobs.place g.J.Jobs.frame g.J.Jobs.caller g.J.Jobs.list g.J.Jobs.looks g.J.Jobs.rows_owed 0 (counted.ticks_of c.args.lib.now) (counted.ticks_of c.args.lib.now) (pairs_of c.args.replicas.now) l)
+            (sym (ap (map pair_of) there ∙ c.leave_none.ensures.same ∙ ap (map pair_of) c.deref_mut.ensures.value)) (worked-itself g.J.Jobs.place g.J.Jobs.frame g.J.Jobs.caller g.J.Jobs.list g.J.Jobs.looks g.J.Jobs.rows_owed (counted.ticks_of c.args.lib.now) (pairs_of c.args.replicas.now)),
+      );
       left = subst (λ (l : List (Replica _)). All (IsLeftDone g.J.Jobs.frame g.J.Jobs.list lib) l) (sym there) (unleft-asks (λ r. IsDoneAt g.J.Jobs.frame g.J.Jobs.list lib (pair_of r)) new c.leave_none.ensures.none);
       library = refl;
       short = omega arith;
@@ -49,8 +52,12 @@ loop-preserved-then-done-gt0 g c =
     let before = c.loop.invariant.worked in
     let lib = library_of (counted.library_of c.args.lib.now) in
     record {
-      worked = (before.0 + c.in_ok-done.ensures.worked.0, c.saturating_add-finished.ensures ∙ counted-on before.0 c.in_ok-done.ensures.worked.0 c.loop.finished c.in_ok-done.done before.1 c.in_ok-done.ensures.worked.2, round-chain g.J.Jobs.place g.J.Jobs.frame g.J.Jobs.caller g.J.Jobs.list g.J.Jobs.looks g.J.Jobs.rows_owed before.0 c.in_ok-done.ensures.worked.0 (counted.ticks_of c.args.lib.now) (counted.ticks_of c.loop.lib) (counted.ticks_of c.go_round.new.lib) (pairs_of c.args.replicas.now) c.loop.items.items
-          c.deref_mut-in-loop.result.now c.go_round.new.replicas (drop (length c.go_round.new.replicas) c.loop.items.items) c.loop.items.len (c.go_round.auto.replicas ∙ c.deref_mut-in-loop.ensures.len) c.deref_mut-in-loop.ensures.value before.2 c.in_ok-done.ensures.worked.1);
+      worked = (
+        before.0 + c.in_ok-done.ensures.worked.0,
+        c.saturating_add-finished.ensures ∙ counted-on before.0 c.in_ok-done.ensures.worked.0 c.loop.finished c.in_ok-done.done before.1 c.in_ok-done.ensures.worked.2,
+        round-chain g.J.Jobs.place g.J.Jobs.frame g.J.Jobs.caller g.J.Jobs.list g.J.Jobs.looks g.J.Jobs.rows_owed before.0 c.in_ok-done.ensures.worked.0 (counted.ticks_of c.args.lib.now) (counted.ticks_of c.loop.lib) (counted.ticks_of c.go_round.new.lib) (pairs_of c.args.replicas.now) c.loop.items.items
+            c.deref_mut-in-loop.result.now c.go_round.new.replicas (drop (length c.go_round.new.replicas) c.loop.items.items) c.loop.items.len (c.go_round.auto.replicas ∙ c.deref_mut-in-loop.ensures.len) c.deref_mut-in-loop.ensures.value before.2 c.in_ok-done.ensures.worked.1,
+      );
       left = subst (λ (l : List (Replica _)). All (IsLeftDone g.J.Jobs.frame g.J.Jobs.list lib) l) (sym (written-back c.go_round.new.replicas (drop (length c.go_round.new.replicas) c.loop.items.items) c.loop.items.len (c.go_round.auto.replicas ∙ c.deref_mut-in-loop.ensures.len)))
           (subst (λ (l : Library). All (IsLeftDone g.J.Jobs.frame g.J.Jobs.list l) c.go_round.new.replicas) (ap library_of c.loop.invariant.library) c.in_ok-done.ensures.left);
       library = c.in_ok-done.ensures.library ∙ c.loop.invariant.library;
@@ -90,8 +97,12 @@ loop-preserved g c =
     let before = c.loop.invariant.worked in
     let lib = library_of (counted.library_of c.args.lib.now) in
     record {
-      worked = (before.0 + c.in_ok-done.ensures.worked.0, c.saturating_add-finished.ensures ∙ counted-on before.0 c.in_ok-done.ensures.worked.0 c.loop.finished c.in_ok-done.done before.1 c.in_ok-done.ensures.worked.2, round-chain g.J.Jobs.place g.J.Jobs.frame g.J.Jobs.caller g.J.Jobs.list g.J.Jobs.looks g.J.Jobs.rows_owed before.0 c.in_ok-done.ensures.worked.0 (counted.ticks_of c.args.lib.now) (counted.ticks_of c.loop.lib) (counted.ticks_of c.go_round.new.lib) (pairs_of c.args.replicas.now) c.loop.items.items
-          c.deref_mut-in-loop.result.now c.go_round.new.replicas (drop (length c.go_round.new.replicas) c.loop.items.items) c.loop.items.len (c.go_round.auto.replicas ∙ c.deref_mut-in-loop.ensures.len) c.deref_mut-in-loop.ensures.value before.2 c.in_ok-done.ensures.worked.1);
+      worked = (
+        before.0 + c.in_ok-done.ensures.worked.0,
+        c.saturating_add-finished.ensures ∙ counted-on before.0 c.in_ok-done.ensures.worked.0 c.loop.finished c.in_ok-done.done before.1 c.in_ok-done.ensures.worked.2,
+        round-chain g.J.Jobs.place g.J.Jobs.frame g.J.Jobs.caller g.J.Jobs.list g.J.Jobs.looks g.J.Jobs.rows_owed before.0 c.in_ok-done.ensures.worked.0 (counted.ticks_of c.args.lib.now) (counted.ticks_of c.loop.lib) (counted.ticks_of c.go_round.new.lib) (pairs_of c.args.replicas.now) c.loop.items.items
+            c.deref_mut-in-loop.result.now c.go_round.new.replicas (drop (length c.go_round.new.replicas) c.loop.items.items) c.loop.items.len (c.go_round.auto.replicas ∙ c.deref_mut-in-loop.ensures.len) c.deref_mut-in-loop.ensures.value before.2 c.in_ok-done.ensures.worked.1,
+      );
       left = subst (λ (l : List (Replica _)). All (IsLeftDone g.J.Jobs.frame g.J.Jobs.list lib) l) (sym (written-back c.go_round.new.replicas (drop (length c.go_round.new.replicas) c.loop.items.items) c.loop.items.len (c.go_round.auto.replicas ∙ c.deref_mut-in-loop.ensures.len)))
           (subst (λ (l : Library). All (IsLeftDone g.J.Jobs.frame g.J.Jobs.list l) c.go_round.new.replicas) (ap library_of c.loop.invariant.library) c.in_ok-done.ensures.left);
       library = c.in_ok-done.ensures.library ∙ c.loop.invariant.library;
