@@ -1,4 +1,4 @@
-use Rattle.std.proofs.Common.{◌≡◌, ◌<◌, length, map, arith, ◌∙◌}
+use Rattle.std.proofs.Common.{◌<◌, length, map, arith, ◌∙◌}
 use Rattle.std.proofs.lemmas.List.{length-set}
 use Rattle.lasp_drive.specs.Node.{IsSettled, AreSettled, AreNodes}
 use Rattle.lasp_drive.proofs.NodeLaws.{at-set, seen-at, seen-set, nodes-set, node-stays, learned-settled}
