@@ -1,0 +1,172 @@
+-- What a turn of a feed makes of the node that it has seen.
+use Rattle.std.proofs.Common.{ℕ, ◌≡◌, ◌==◌, ◌<◌, Bool, true, false, not, cond, zero, suc, List, [], ◌∷◌, ◌++◌, length, Result, Ok, Err, refl, sym, ap, subst, ◌∙◌, append-nil, arith}
+use Rattle.std.specs.Prelude.{All, OnOk, OnErr, IsTrue}
+use Rattle.std.proofs.lemmas.List.Elements.{All-head, All-tail, filter-append}
+use Rattle.model_states.specs.Content.{Content}
+use Rattle.model_graph.specs.Graph.{Decl, is_source, kind_at}
+use Rattle.model_graph.specs.Evaluation.{content_at}
+use Rattle.model_graph.specs.Lawful.{shape_of}
+use Rattle.model_world.specs.World.{Peer}
+use Rattle.model_journal.specs.Entry.{Act, Update, Deliver, Bind, Extend, Entry, Frame}
+use Rattle.model_journal.specs.Journal.{graph, vals, val}
+use Rattle.model_journal.specs.Callers.{MayMake, made_by}
+use Rattle.model_journal.specs.Legal.{IsLegal}
+use Rattle.model_journal.proofs.JournalLaws.{journal-later}
+use Rattle.model_journal.proofs.LegalLaws.{legal-first}
+use Rattle.model_core.specs.Peer.{peer_of}
+use Rattle.model_core.proofs.PeerLaws.{peer-fresh}
+use Rattle.model_core.proofs.ReadLaws.{meets-grows}
+use Rattle.model_core.proofs.SourceLaws.{sources-source}
+use Rattle.model_core.proofs.ValidLaws.{val-ordered}
+use Rattle.model_runs.specs.Calls.{is_bind, unbound}
+use Rattle.lasp_state.specs.declared.state.State.{State}
+use Rattle.lasp_graph.specs.States.{Held, held_of}
+use Rattle.lasp_core.specs.Core.{state_after}
+use Rattle.lasp_histlock.specs.Names.{LockId}
+use Rattle.lasp_histlock.specs.Passes.{first_pass}
+use Rattle.lasp_core.specs.Listed.{GoesOn}
+use Rattle.lasp_drive.specs.Node.{Learns, LearnsAnd, Holds, OnlyGrew, IsFresh}
+use Rattle.lasp_drive.specs.Reads.{Reads, Grows, as_they_are}
+use Rattle.lasp_store.specs.Turn.{Knows, HadTurn, frame_of, graph_seen}
+use Rattle.lasp_store.specs.Settled.{KnowsOwn, HasSettled, AreBinds, IsBind, AreEvaluatedBelow, evaluation}
+use Rattle.lasp_store.proofs.EvaluatedLaws.{IsKept, kept-binds, same-evaluation, evaluated-stays, all-evaluated}
+use Rattle.lasp_store.proofs.SettleLaws.{turn-settles}
+use Rattle.lasp_store_node.specs.View.{node_of, place_of, IsFeed}
+
+-- ---- the calls
+
+-- who isn't the feed makes results alone
+others-bind : (by : ℕ) (act : Act) → (by == 0) ≡ false → MayMake by act → is_bind act ≡ true
+others-bind zero act other may = absurd (let same : true ≡ false = other in cc)
+others-bind (suc by) (Update x op) other may = absurd (omega (arith, may))
+others-bind (suc by) (Deliver i m) other may = absurd (omega (arith, may))
+others-bind (suc by) (Bind y n) other may = refl
+others-bind (suc by) (Extend d) other may = absurd (omega (arith, may))
+
+-- so what is no result is the feed's
+unbound-mine : (seen : List Entry) → All (λ e. (e.by ≡ e.by) × MayMake e.by e.act) seen → unbound seen ≡ unbound (made_by 0 seen)
+unbound-mine [] may = refl
+unbound-mine (e ∷ seen) may = choose (unbound-mine seen (All-tail (λ e. (e.by ≡ e.by) × MayMake e.by e.act) e seen may)) (e.by == 0) refl where
+  choose : unbound seen ≡ unbound (made_by 0 seen) → (b : Bool) → (e.by == 0) ≡ b → unbound (e ∷ seen) ≡ unbound (made_by 0 (e ∷ seen))
+  choose rest true own =
+      ap (λ (l : List Entry). cond (not (is_bind e.act)) (e ∷ l) l) rest
+      ∙ sym (ap (λ (b : Bool). unbound (cond b (e ∷ made_by 0 seen) (made_by 0 seen))) own)
+  choose rest false other =
+      ap (λ (b : Bool). cond (not b) (e ∷ unbound seen) (unbound seen)) (others-bind e.by e.act other (All-head (λ e. (e.by ≡ e.by) × MayMake e.by e.act) e seen may).1)
+      ∙ rest
+      ∙ sym (ap (λ (b : Bool). unbound (cond b (e ∷ made_by 0 seen) (made_by 0 seen))) other)
+
+calls-own : (p : Knows) → KnowsOwn p → p.number ≡ 0 → unbound p.seen ≡ unbound p.own
+calls-own p own first = unbound-mine p.seen own.allowed ∙ ap unbound (ap (λ (n : ℕ). made_by n p.seen) (sym first) ∙ sym own.own)
+
+unbound-append : (h k : List Entry) → unbound (h ++ k) ≡ unbound h ++ unbound k
+unbound-append h k = filter-append (λ (e : Entry). not (is_bind e.act)) h k
+
+-- the feed's own entries of a turn tell the calls
+pub calls-after : (old new : Knows) (more : List Entry) → KnowsOwn old → KnowsOwn new → old.number ≡ 0 → new.number ≡ 0 → new.own ≡ old.own ++ more → unbound new.seen ≡ unbound old.seen ++ unbound more
+calls-after old new more own-old own-new first same grown =
+    calls-own new own-new same ∙ ap unbound grown ∙ unbound-append old.own more ∙ ap (λ (l : List Entry). l ++ unbound more) (sym (calls-own old own-old first))
+
+-- ---- what is shown
+
+-- more entries, and each variable holds at least what it held
+grows-behind : (X : Frame) (h more : List Entry) → IsLegal X (h ++ more) → Grows (vals X h) (vals X (h ++ more))
+grows-behind X h more legal x threshold met =
+    meets-grows threshold (val X h x) (val X (h ++ more) x) (val-ordered X h (legal-first X h more legal) x) (val-ordered X (h ++ more) legal x) ((journal-later X h more).grown x) met
+
+pub feed-grows : (old new : Knows) → frame_of new ≡ frame_of old → GoesOn old.seen new.seen → IsLegal (frame_of new) new.seen → Grows (vals (frame_of old) old.seen) (vals (frame_of new) new.seen)
+feed-grows old new frame on legal =
+    subst (λ (z : Frame × List Entry). Grows (vals (frame_of old) old.seen) (vals z.0 z.1)) (λ i. (sym frame i, sym on.1 i))
+    (grows-behind (frame_of old) old.seen on.0 (subst (λ (z : Frame × List Entry). IsLegal z.0 z.1) (λ i. (frame i, on.1 i)) legal))
+
+-- results add nothing to what is as plain evaluation gives it
+binds-add-nothing : (X : Frame) (h more : List Entry) → IsLegal X (h ++ more) → AreBinds more → vals X h ≡ evaluation X h → vals X (h ++ more) ≡ vals X h
+binds-add-nothing X h more legal are is = all-evaluated X (h ++ more) legal below ∙ same-evaluation X h (h ++ more) kept ∙ sym is where
+  kept : IsKept X h (h ++ more)
+  kept = kept-binds X h more legal are
+
+  below : AreEvaluatedBelow X (h ++ more) (length (graph X (h ++ more)))
+  below = subst (AreEvaluatedBelow X (h ++ more)) (sym (ap (λ (g : List Decl). length g) kept.graph_is))
+      (evaluated-stays X h more (length (graph X h)) legal are (omega arith) (λ y low. ap (λ (ss : List Content). content_at ss y) is))
+
+-- ---- a node that was asked
+
+settled-learns : (change : List Content → Reads → Reads) (old new : Knows) → KnowsOwn old → KnowsOwn new → old.number ≡ 0 → IsLegal (frame_of new) new.seen → HasSettled old new → unbound new.own ≡ unbound old.own → LearnsAnd change (node_of old) (node_of new)
+settled-learns change old new own-old own-new first legal s same = record {
+  learns = record {
+    still = record { graph = (λ i. graph (frame i) (on i)) ∙ kept.graph_is; replica = ap (λ (X : Frame). X.replica) frame; nodes = ap (λ (X : Frame). X.nodes) frame };
+    peer = (λ i. peer_of (frame i) (on i)) ∙ kept.peer;
+    calls = calls-own new own-new (ap (λ (p : Knows). p.number) s.pass ∙ first) ∙ same ∙ sym (calls-own old own-old first);
+    more = feed-grows old new frame (s.seen.0, on) legal;
+    settled = λ settled. (λ i. vals (frame i) (on i)) ∙ binds-add-nothing (frame_of old) old.seen s.seen.0 there s.seen.2 settled;
+  };
+  reads = refl;
+} where
+  frame : frame_of new ≡ frame_of old
+  frame = ap (λ (p : Knows). frame_of p) s.pass
+
+  on : new.seen ≡ old.seen ++ s.seen.0
+  on = s.seen.1
+
+  there : IsLegal (frame_of old) (old.seen ++ s.seen.0)
+  there = subst (λ (z : Frame × List Entry). IsLegal z.0 z.1) (λ i. (frame i, on i)) legal
+
+  kept : IsKept (frame_of old) old.seen (old.seen ++ s.seen.0)
+  kept = kept-binds (frame_of old) old.seen s.seen.0 there s.seen.2
+
+-- a turn of the feed that adds nothing
+pub turn-learns : (change : List Content → Reads → Reads) (store : LockId) (inside old new : Knows) → inside ≡ old → IsFeed store inside → KnowsOwn inside → KnowsOwn new → HadTurn [] inside new → LearnsAnd change (node_of old) (node_of new)
+turn-learns change store old seen new is f own-old own-new t = subst (λ (p : Knows). LearnsAnd change (node_of p) (node_of new)) is (
+    settled-learns change old new own-old own-new f.first t.legal (turn-settles old new [] own-old own-new f.first f.seated.idle tt t)
+    (ap unbound (ap (λ (p : Knows). p.own) t.pass ∙ append-nil old.own)))
+
+pub where-ok : {A E P : Type 0} (r : Result A E) → P → OnOk r P
+where-ok (Ok a) p = p
+where-ok (Err e) p = tt
+
+pub where-err : {A E P : Type 0} (r : Result A E) → P → OnErr r P
+where-err (Ok a) p = tt
+where-err (Err e) p = p
+
+-- the state of a source is what the node's replica holds of it
+pub held-source : (old new : Knows) (x : ℕ) (s : State) → Learns (node_of old) (node_of new) → x < length (graph_seen old) → IsTrue (is_source (kind_at (graph_seen old) x)) → held_of s ≡ state_after (frame_of new) new.seen x → Holds (node_of old) x s
+held-source old new x s l low source is = record {
+  content = ap (λ (h : Held). h.content) is ∙ sym (sources-source (graph_seen new) (vals (frame_of new) new.seen) x there kind) ∙ ap (λ (p : Peer). content_at p.contents x) l.peer;
+  shape = ap (λ (h : Held). h.shape) is ∙ (λ i. shape_of (l.still.nodes i) (kind_at (l.still.graph i) x));
+} where
+  there : x < length (graph_seen new)
+  there = subst (λ (g : List Decl). x < length g) (sym l.still.graph) low
+
+  kind : IsTrue (is_source (kind_at (graph_seen new) x))
+  kind = subst (λ (g : List Decl). IsTrue (is_source (kind_at g x))) (sym l.still.graph) source
+
+-- ---- settling
+
+binds-unbound : (more : List Entry) → AreBinds more → unbound more ≡ []
+binds-unbound [] are = refl
+binds-unbound (e ∷ more) are = ap (λ (b : Bool). cond (not b) (e ∷ unbound more) (unbound more)) (is-bind e.act are.0) ∙ binds-unbound more are.1 where
+  is-bind : (a : Act) → IsBind a → is_bind a ≡ true
+  is-bind (Update x op) is = absurd is
+  is-bind (Deliver i m) is = absurd is
+  is-bind (Bind y n) is = refl
+  is-bind (Extend d) is = absurd is
+
+pub settled-grew : (old new : Knows) → KnowsOwn old → KnowsOwn new → old.number ≡ 0 → IsLegal (frame_of new) new.seen → HasSettled old new → OnlyGrew (node_of old) (node_of new)
+settled-grew old new own-old own-new first legal s =
+    let learned = settled-learns as_they_are old new own-old own-new first legal s (ap unbound s.own.1 ∙ unbound-append old.own s.own.0 ∙ ap (λ (l : List Entry). unbound old.own ++ l) (binds-unbound s.own.0 s.own.2) ∙ append-nil (unbound old.own)) in
+    record { still = learned.learns.still; peer = learned.learns.peer; calls = learned.learns.calls; grew = record { more = learned.learns.more; released = refl } }
+
+-- ---- where it is
+
+pub turn-place : (old new : Knows) (more : List Entry) → old.turn ≡ false → HadTurn more old new → place_of new ≡ place_of old
+turn-place old new more idle t = ap place_of t.pass ∙ (λ i. record (place_of old) { turn = sym idle i })
+
+-- ---- nothing has happened
+
+pub fresh-node : (lock : LockId) (X : Frame) (p : Knows) → p ≡ first_pass lock X → IsFresh X.opening X.nodes X.replica (node_of p)
+fresh-node lock X p is = subst (λ (q : Knows). IsFresh X.opening X.nodes X.replica (node_of q)) (sym is) (record {
+  node = record { graph = refl; replica = refl; nodes = refl };
+  peer = peer-fresh X;
+  calls = refl;
+  reads = tt;
+})
