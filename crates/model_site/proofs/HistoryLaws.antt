@@ -1,20 +1,22 @@
 -- Sites over time are the replicas of a world, beside which it is followed what each update brought: so each holds what is known by its counts.
-use Rattle.std.proofs.Common.{refl, sym, ap, subst, ◌∙◌, arith}
+use Rattle.std.proofs.Common.{refl, sym, ap, subst, ◌∙◌, arith, append-nil, append_assoc}
 use Rattle.std.specs.Prelude.{◌≡◌, ◌<◌, ◌==◌, ℕ, zero, suc, ◌+◌, ◌++◌, Bool, true, false, if◌then◌else◌, IsTrue, List, [], ◌∷◌, length, map, replicate, slice_index_or, slice_set, Option, Ok}
 use Rattle.std.proofs.lemmas.Bool.{eqb-true, eq-eqb}
 use Rattle.model_states.specs.Counts.{count_at, larger, zeros, AreCountsAtMost}
 use Rattle.model_states.proofs.CountLaws.{count_at-set, count_at-zeros, larger-commutative, larger-at_most, length-zeros}
 use Rattle.model_states.specs.Update.{Op, Join}
-use Rattle.model_states.specs.Content.{Content, least}
-use Rattle.model_graph.specs.Evaluation.{least_of}
+use Rattle.model_states.specs.Content.{Content, IsContentAtMost, least}
+use Rattle.model_graph.specs.Evaluation.{content_at, least_of}
 use Rattle.model_graph.specs.Graph.{Decl, OrSet, GSet, Counter, MaxReg, is_source, kind_at, no_decl}
 use Rattle.model_graph.proofs.PlaceLaws.{at-set, set-length, at-replicate, length-replicate, map-length, at-map-low}
 use Rattle.model_messages.specs.Message.{Message}
 use Rattle.model_known.specs.Delta.{Delta, deltas_at, first_deltas, brought_to, join_all, known_contents}
-use Rattle.model_known.specs.Follow.{Followed, begin}
+use Rattle.model_known.specs.Follow.{Followed, begin, delta_of}
 use Rattle.model_known.specs.Holds.{Holds, Carries}
+use Rattle.model_known.specs.Owner.{delta_at}
 use Rattle.model_known.proofs.EffectLaws.{followed}
 use Rattle.model_known.proofs.HoldLaws.{sends-known, takes-known}
+use Rattle.model_known.proofs.KnownLaws.{known-above}
 use Rattle.model_known.proofs.MeasureLaws.{Each}
 use Rattle.model_known.proofs.PlaceLaws.{holds-contents}
 use Rattle.model_known.proofs.PlayLaws.{source-of}
@@ -24,7 +26,7 @@ use Rattle.model_world.specs.Command.{Command}
 use Rattle.model_world.specs.Lawful.{opening_stage, stage_after, MayBeDone, AreLawful}
 use Rattle.model_world.specs.World.{Peer, Update, Take, Post, fresh_peer, no_peer, peer_at, sent_number, updated, delivered, message_at, shown_at}
 use Rattle.model_program.specs.Merge.{merge_text, taking, joined}
-use Rattle.model_site.specs.History.{SiteCall, Sites, no_sites, kept_at, taken_by, IsCalled, AreCalled, none, more, updates_by, replica_of, told_by}
+use Rattle.model_site.specs.History.{SiteCall, Sites, no_sites, kept_at, taken_by, IsCalled, AreCalled, none, more, HaveBrought, nothing, brings, delta_by, after_own, deltas_by, brought_after, updates_by, replica_of, told_by}
 use Rattle.model_site.specs.Site.{own, IsOwn, adds, removes, inserts, counts, raises, AreOwn, update_done, done_by, updates_done}
 use Rattle.model_site.specs.Told.{heard}
 use Rattle.model_site.proofs.SiteLaws.{own-told, ok-same, one-more, none-left}
@@ -105,15 +107,52 @@ update-one p nodes g written base f r x op member low source plain at = record {
   others = λ q low apart. left-alone nodes p q f.run.peers (updated p x op (peer_at f.run.peers p)) at.sound.many low apart ∙ at.others q low apart;
 }
 
+-- a list with an item of its own put at its place again
+set-own : (all : List (List Delta)) (p : ℕ) → p < length all → slice_set all p (deltas_at all p ++ []) ≡ all
+set-own [] p low = absurd (omega (arith, low))
+set-own (ds ∷ all) zero low = ap (λ (es : List Delta). es ∷ all) (append-nil ds)
+set-own (ds ∷ all) (suc p) low = ap (λ (rest : List (List Delta)). ds ∷ rest) (set-own all p (omega (arith, low)))
+
+-- an item put in a place twice
+set-twice : (all : List (List Delta)) (p : ℕ) (first second : List Delta) → slice_set (slice_set all p first) p second ≡ slice_set all p second
+set-twice [] p first second = refl
+set-twice (ds ∷ all) zero first second = refl
+set-twice (ds ∷ all) (suc p) first second = ap (λ (rest : List (List Delta)). ds ∷ rest) (set-twice all p first second)
+
+-- what stands where it was put
+set-there : (all : List (List Delta)) (p : ℕ) (new : List Delta) → p < length all → deltas_at (slice_set all p new) p ≡ new
+set-there all p new low = at-set (λ (ds : List Delta). ds ≡ new) all p new [] p low (λ _. refl) (λ apart. absurd (apart refl))
+
+-- the updates were made, and brought this
+record IsUpdated (p nodes : ℕ) (g : List Decl) (written : List Message) (base f end : Followed) (r last : Peer) (commands : List Command) : Type 0 where
+  pub at : IsAtWork p nodes g written base end last
+  pub count : count_at last.counts p ≡ count_at r.counts p + length commands
+  pub deltas : end.deltas ≡ slice_set f.deltas p (deltas_at f.deltas p ++ deltas_by p r commands)
+
+brings-none : (p : ℕ) (r : Peer) → deltas_by p r [] ≡ []
+unfolding deltas_by
+brings-none p r = refl
+
+brings-more : (p : ℕ) (r : Peer) (k : Command) (rest : List Command) → deltas_by p r (k ∷ rest) ≡ delta_by p r (own p k) ++ deltas_by p (after_own p r (own p k)) rest
+unfolding deltas_by
+brings-more p r k rest = refl
+
 update-all : (p nodes : ℕ) (g : List Decl) (written : List Message) (base f : Followed) (c : ℕ) (r last : Peer) (commands : List Command) → p < nodes → AreLawful nodes (opening_stage g) commands → AreOwn p commands → IsAtWork p nodes g written base f r
-    → updates_done p g c r commands ≡ Ok last → (end : Followed) × IsAtWork p nodes g written base end last × (count_at last.counts p ≡ count_at r.counts p + length commands)
+    → updates_done p g c r commands ≡ Ok last → (end : Followed) × IsUpdated p nodes g written base f end r last commands
 update-all p nodes g written base f c r last [] member lawful mine at e =
-    let same : r ≡ last = ok-same r last (sym (none-left p g c r) ∙ e) in
-    (f, subst (IsAtWork p nodes g written base f) same at, omega (arith, ap (λ (x : Peer). count_at x.counts p) same))
+    let same : r ≡ last = ok-same r last (sym (none-left p g c r) ∙ e) in (
+      f,
+      record {
+        at = subst (IsAtWork p nodes g written base f) same at;
+        count = omega (arith, ap (λ (x : Peer). count_at x.counts p) same);
+        deltas = sym (ap (λ (ds : List Delta). slice_set f.deltas p (deltas_at f.deltas p ++ ds)) (brings-none p r) ∙ set-own f.deltas p (omega (arith, at.sound.logs, member)));
+      },
+    )
 update-all p nodes g written base f c r last (k ∷ rest) member lawful mine at e =
     let one = mine.0 in
     let both = bound-ok (done_by p g c r (own p k)) (λ next. updates_done p g (c + 1) next rest) last (sym (one-more p g c r k rest) ∙ e) in
-    let done : update_done p g c r (one.0, one.1) ≡ Ok both.0 = ap (λ (o : Option (ℕ × Op)). done_by p g c r o) (sym (own-told p k one.0 one.1 one.2)) ∙ both.1 in
+    let told = own-told p k one.0 one.1 one.2 in
+    let done : update_done p g c r (one.0, one.1) ≡ Ok both.0 = ap (λ (o : Option (ℕ × Op)). done_by p g c r o) (sym told) ∙ both.1 in
     let is : both.0 ≡ updated p one.0 one.1 r = (update-passed p g c r both.0 (one.0, one.1) done).0 in
     let fits = own-fits p nodes g k one.0 one.1 one.2 lawful.0 in
     let next = update-one p nodes g written base f r one.0 one.1 member fits.0 fits.1 fits.2 at in
@@ -124,7 +163,22 @@ update-all p nodes g written base f c r last (k ∷ rest) member lawful mine at 
     let long : length r.counts ≡ nodes = ap (λ (x : Peer). length x.counts) (sym at.peer) ∙ wide in
     let counted : count_at (updated p one.0 one.1 r).counts p ≡ count_at r.counts p + 1 =
     count_at-set r.counts p (count_at r.counts p + 1) p (omega (arith, long, member)) ∙ ap (λ (b : Bool). if b then count_at r.counts p + 1 else count_at r.counts p) (eq-eqb p p refl) in
-    (later.0, later.1, omega (arith, later.2, counted))
+    let first : List Delta = deltas_at f.deltas p ++ delta_of (peer_at f.run.peers p) p one.0 one.1 ∷ [] in
+    let behind : List Delta = deltas_by p (updated p one.0 one.1 r) rest in
+    let brought : deltas_by p r (k ∷ rest) ≡ delta_of r p one.0 one.1 ∷ behind =
+    brings-more p r k rest ∙ ap (λ (o : Option (ℕ × Op)). delta_by p r o ++ deltas_by p (after_own p r o) rest) told in
+    let joined : first ++ behind ≡ deltas_at f.deltas p ++ deltas_by p r (k ∷ rest) =
+    append_assoc (deltas_at f.deltas p) (delta_of (peer_at f.run.peers p) p one.0 one.1 ∷ []) behind
+    ∙ ap (λ (x : Peer). deltas_at f.deltas p ++ delta_of x p one.0 one.1 ∷ behind) at.peer ∙ ap (λ (ds : List Delta). deltas_at f.deltas p ++ ds) (sym brought) in (
+      later.0,
+      record {
+        at = later.1.at;
+        count = omega (arith, later.1.count, counted);
+        deltas = later.1.deltas ∙ set-twice f.deltas p first (deltas_at (slice_set f.deltas p first) p ++ behind)
+            ∙ ap (λ (ds : List Delta). slice_set f.deltas p (ds ++ behind)) (set-there f.deltas p first (omega (arith, at.sound.logs, member)))
+            ∙ ap (slice_set f.deltas p) joined;
+      },
+    )
 
 -- ---- all sites
 
@@ -211,8 +265,8 @@ mirror-none g nodes = record {
 
 -- the world after a call
 mirror-more : (g : List Decl) (nodes : ℕ) (calls : List SiteCall) (sites next : Sites) (k : SiteCall) (f : Followed) → Mirrors g nodes calls sites f → IsCalled g nodes sites k next
-    → (end : Followed) × Mirrors g nodes (calls ++ k ∷ []) next end
-mirror-more g nodes calls sites next k f before call = (end, after) where
+    → (end : Followed) × Mirrors g nodes (calls ++ k ∷ []) next end × (end.deltas ≡ brought_after g nodes sites k f.deltas)
+mirror-more g nodes calls sites next k f before call = (end, after, brought) where
   p : ℕ
   p = k.site
 
@@ -226,7 +280,7 @@ mirror-more g nodes calls sites next k f before call = (end, after) where
   same : taking g (peer_at f.run.peers p) (map (sent_number sites.written) k.files) ≡ heard g nodes (taken_by sites k)
   same = ap (λ (r : Peer). taking g r (map (sent_number sites.written) k.files)) (sym (before.kept p call.member)) ∙ sym (taking-append g (fresh_peer g nodes) (kept_at sites p) (map (sent_number sites.written) k.files))
 
-  done : (mid : Followed) × IsAtWork p nodes g sites.written f mid call.last × (count_at call.last.counts p ≡ count_at (heard g nodes (taken_by sites k)).counts p + length k.commands)
+  done : (mid : Followed) × IsUpdated p nodes g sites.written f taken.0 mid (heard g nodes (taken_by sites k)) call.last k.commands
   done = update-all p nodes g sites.written f taken.0 1 (heard g nodes (taken_by sites k)) call.last k.commands call.member call.lawful call.own
       (subst (IsAtWork p nodes g sites.written f taken.0) same taken.1.at) call.done
 
@@ -237,13 +291,13 @@ mirror-more g nodes calls sites next k f before call = (end, after) where
   end = followed mid (Post p)
 
   sound : IsSound nodes end
-  sound = sound-act nodes mid (Post p) done.1.sound tt
+  sound = sound-act nodes mid (Post p) done.1.at.sound tt
 
   holds : Holds g nodes mid.deltas call.last.contents call.last.counts
-  holds = subst (λ (r : Peer). Holds g nodes mid.deltas r.contents r.counts) done.1.peer (subst (λ (h : List Decl). Holds h nodes mid.deltas (peer_at mid.run.peers p).contents (peer_at mid.run.peers p).counts) done.1.graph (done.1.sound.holds p call.member))
+  holds = subst (λ (r : Peer). Holds g nodes mid.deltas r.contents r.counts) done.1.at.peer (subst (λ (h : List Decl). Holds h nodes mid.deltas (peer_at mid.run.peers p).contents (peer_at mid.run.peers p).counts) done.1.at.graph (done.1.at.sound.holds p call.member))
 
   again : told_by g nodes (message_at g call.last) ≡ call.last
-  again = told-again g nodes mid.deltas call.last (subst (λ (h : List Decl). Each (IsOfSource h) mid.deltas) done.1.graph done.1.sound.sources) holds
+  again = told-again g nodes mid.deltas call.last (subst (λ (h : List Decl). Each (IsOfSource h) mid.deltas) done.1.at.graph done.1.at.sound.sources) holds
 
   -- the site counts its own updates alone as they are made
   own_before : count_at (heard g nodes (taken_by sites k)).counts p ≡ updates_by p calls
@@ -260,32 +314,35 @@ mirror-more g nodes calls sites next k f before call = (end, after) where
       ap (λ (ks : List (List Message)). heard g nodes (slice_index_or ks q [])) call.kept
       ∙ ap (λ (ms : List Message). heard g nodes ms)
       (at-set (λ (ms : List Message). ms ≡ message_at g call.last ∷ []) sites.kept p (message_at g call.last ∷ []) [] q (omega (arith, low, before.many)) (λ _. refl) (λ apart. absurd (apart here)))
-      ∙ again ∙ sym done.1.peer ∙ ap (λ (n : ℕ). peer_at mid.run.peers n) (sym here)
+      ∙ again ∙ sym done.1.at.peer ∙ ap (λ (n : ℕ). peer_at mid.run.peers n) (sym here)
   kept_now q low false e =
       let apart : q ≡ p → ⊥ = λ h. other q p e h in
       ap (λ (ks : List (List Message)). heard g nodes (slice_index_or ks q [])) call.kept
       ∙ ap (λ (ms : List Message). heard g nodes ms)
       (at-set (λ (ms : List Message). ms ≡ kept_at sites q) sites.kept p (message_at g call.last ∷ []) [] q (omega (arith, low, before.many)) (λ h. absurd (apart h)) (λ _. refl))
-      ∙ before.kept q low ∙ sym (done.1.others q low apart)
+      ∙ before.kept q low ∙ sym (done.1.at.others q low apart)
 
   counted_now : (q : ℕ) → q < nodes → (b : Bool) → (q == p) ≡ b → count_at (peer_at end.run.peers q).counts q ≡ updates_by q calls + (if b then length k.commands else 0)
   counted_now q low true e =
       let here : q ≡ p = eqb-true q p e in
       ap (λ (n : ℕ). count_at (peer_at mid.run.peers n).counts n) here
-      ∙ ap (λ (r : Peer). count_at r.counts p) done.1.peer
-      ∙ done.2
+      ∙ ap (λ (r : Peer). count_at r.counts p) done.1.at.peer
+      ∙ done.1.count
       ∙ ap (λ (n : ℕ). n + length k.commands) own_before
       ∙ ap (λ (n : ℕ). updates_by n calls + length k.commands) (sym here)
   counted_now q low false e =
-      ap (λ (r : Peer). count_at r.counts q) (done.1.others q low (λ h. other q p e h)) ∙ before.counted q low ∙ (let nothing : updates_by q calls ≡ updates_by q calls + 0 = omega arith in nothing)
+      ap (λ (r : Peer). count_at r.counts q) (done.1.at.others q low (λ h. other q p e h)) ∙ before.counted q low ∙ (let nothing : updates_by q calls ≡ updates_by q calls + 0 = omega arith in nothing)
+
+  brought : end.deltas ≡ brought_after g nodes sites k f.deltas
+  brought = done.1.deltas ∙ ap (λ (all : List (List Delta)). brought_after g nodes sites k all) taken.1.deltas
 
   after : Mirrors g nodes (calls ++ k ∷ []) next end
   after = record {
     sound = sound;
-    graph = done.1.graph;
-    sent = ap (λ (ms : List Message). ms ++ message_at mid.run.graph (peer_at mid.run.peers p) ∷ []) done.1.sent
-        ∙ ap (λ (h : List Decl). sites.written ++ message_at h (peer_at mid.run.peers p) ∷ []) done.1.graph
-        ∙ ap (λ (r : Peer). sites.written ++ message_at g r ∷ []) done.1.peer
+    graph = done.1.at.graph;
+    sent = ap (λ (ms : List Message). ms ++ message_at mid.run.graph (peer_at mid.run.peers p) ∷ []) done.1.at.sent
+        ∙ ap (λ (h : List Decl). sites.written ++ message_at h (peer_at mid.run.peers p) ∷ []) done.1.at.graph
+        ∙ ap (λ (r : Peer). sites.written ++ message_at g r ∷ []) done.1.at.peer
         ∙ sym call.written;
     many = ap (λ (ks : List (List Message)). length ks) call.kept ∙ set-length sites.kept p (message_at g call.last ∷ []) ∙ before.many;
     kept = λ q low. kept_now q low (q == p) refl;
@@ -293,9 +350,22 @@ mirror-more g nodes calls sites next k f before call = (end, after) where
     wide = subst (λ (ms : List Message). (i : ℕ) → i < length ms → length (sent_number ms i).counts ≡ nodes) (sym call.written) (wide-push nodes sites.written (message_at g call.last) before.wide holds.wide);
   }
 
+-- sites that have brought this are a world in which this was brought
+mirrored-brought : (g : List Decl) (nodes : ℕ) (calls : List SiteCall) (sites : Sites) (all : List (List Delta)) → HaveBrought g nodes calls sites all → (f : Followed) × Mirrors g nodes calls sites f × (f.deltas ≡ all)
+mirrored-brought g nodes _ _ _ nothing = (begin g nodes, mirror-none g nodes, refl)
+mirrored-brought g nodes _ _ _ (brings {calls = calls} {sites = sites} {next = next} {k = k} {all = all} had call) =
+    let before = mirrored-brought g nodes calls sites all had in
+    let after = mirror-more g nodes calls sites next k before.0 before.1 call in
+    (after.0, after.1, after.2 ∙ ap (λ (ds : List (List Delta)). brought_after g nodes sites k ds) before.2)
+
+-- of all calls it is told what they brought
+pub calls-brought : (g : List Decl) (nodes : ℕ) (calls : List SiteCall) (sites : Sites) → AreCalled g nodes calls sites → (all : List (List Delta)) × HaveBrought g nodes calls sites all
+calls-brought g nodes _ _ none = (replicate nodes [], nothing)
+calls-brought g nodes _ _ (more {calls = calls} {sites = sites} {next = next} {k = k} called call) =
+    let before = calls-brought g nodes calls sites called in (brought_after g nodes sites k before.0, brings before.1 call)
+
 mirrored : (g : List Decl) (nodes : ℕ) (calls : List SiteCall) (sites : Sites) → AreCalled g nodes calls sites → (f : Followed) × Mirrors g nodes calls sites f
-mirrored g nodes _ _ none = (begin g nodes, mirror-none g nodes)
-mirrored g nodes _ _ (more {calls = calls} {sites = sites} {next = next} {k = k} called call) = let before = mirrored g nodes calls sites called in mirror-more g nodes calls sites next k before.0 before.1 call
+mirrored g nodes calls sites called = let all = calls-brought g nodes calls sites called in let same = mirrored-brought g nodes calls sites all.0 all.1 in (same.0, same.1)
 
 -- ---- in a user's words
 
@@ -362,3 +432,46 @@ module _ (g : List Decl) (nodes : ℕ) (calls : List SiteCall) (sites : Sites) (
     all = ap (λ (n : ℕ). taking g (fresh_peer g n) ms) (here.wide i there)
 
 pub ruleset histories = (sites-agree, sites-show, states-agree, own-counted, nothing-lost, merges-show)
+
+-- ---- what updates brought
+
+module _ (g : List Decl) (nodes : ℕ) (calls : List SiteCall) (sites : Sites) (all : List (List Delta)) (had : HaveBrought g nodes calls sites all) where
+  abbrev world : Followed
+  world = (mirrored-brought g nodes calls sites all had).0
+
+  mirrors : Mirrors g nodes calls sites world
+  mirrors = (mirrored-brought g nodes calls sites all had).1
+
+  same-deltas : world.deltas ≡ all
+  same-deltas = (mirrored-brought g nodes calls sites all had).2
+
+  site-holds : (p : ℕ) → p < nodes → Holds g nodes all (replica_of g nodes sites p).contents (replica_of g nodes sites p).counts
+  site-holds p low = subst (λ (ds : List (List Delta)). Holds g nodes ds (replica_of g nodes sites p).contents (replica_of g nodes sites p).counts) same-deltas
+      (subst (λ (r : Peer). Holds g nodes world.deltas r.contents r.counts) (sym (mirrors.kept p low))
+      (subst (λ (h : List Decl). Holds h nodes world.deltas (peer_at world.run.peers p).contents (peer_at world.run.peers p).counts) mirrors.graph (mirrors.sound.holds p low)))
+
+  pub updates-made : (p : ℕ) → p < nodes → length (deltas_at all p) ≡ updates_by p calls
+  updates-made p low = ap (λ (ds : List (List Delta)). length (deltas_at ds p)) (sym same-deltas) ∙ sym (mirrors.sound.own p low) ∙ mirrors.counted p low
+
+  pub updates-stand : (p q j x : ℕ) → p < nodes → x < length g → j < count_at (replica_of g nodes sites p).counts q → (delta_at all q j).var ≡ x
+      → IsContentAtMost (delta_at all q j).content (content_at (replica_of g nodes sites p).contents x)
+  updates-stand p q j x low there counted e =
+      let holds = site-holds p low in
+      subst (IsContentAtMost (delta_at all q j).content) (sym (holds.knows x there)) (known-above g nodes all (replica_of g nodes sites p).counts x q j counted (omega (arith, counted, holds.made q)) e)
+
+  pub sites-know : (p : ℕ) → p < nodes → (replica_of g nodes sites p).contents ≡ known_contents g nodes all (replica_of g nodes sites p).counts
+  sites-know p low = holds-contents g nodes all (replica_of g nodes sites p).contents (replica_of g nodes sites p).counts (site-holds p low)
+
+  pub states-know : (i : ℕ) → (told_by g nodes (sent_number sites.written i)).contents ≡ known_contents g nodes all (told_by g nodes (sent_number sites.written i)).counts
+  states-know i = holds-contents g nodes all (told_by g nodes m).contents (told_by g nodes m).counts (told-holds g nodes all m sources carries) where
+    m : Message
+    m = sent_number sites.written i
+
+    sources : Each (IsOfSource g) all
+    sources = subst (λ (ds : List (List Delta)). Each (IsOfSource g) ds) same-deltas (subst (λ (h : List Decl). Each (IsOfSource h) world.deltas) mirrors.graph mirrors.sound.sources)
+
+    carries : Carries g nodes all m
+    carries = subst (λ (ds : List (List Delta)). Carries g nodes ds m) same-deltas (subst (λ (ms : List Message). Carries g nodes world.deltas (sent_number ms i)) mirrors.sent
+        (subst (λ (h : List Decl). Carries h nodes world.deltas (sent_number world.run.sent i)) mirrors.graph (mirrors.sound.carries i)))
+
+pub ruleset standing = (calls-brought, updates-made, updates-stand, sites-know, states-know)

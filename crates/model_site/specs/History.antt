@@ -1,13 +1,16 @@
 -- Sites over time: calls one after the other, each of a site that goes on from its own last state and takes in any states that were ever written, however often and in whatever order.
-use Rattle.std.specs.Prelude.{◌≡◌, ℕ, ◌+◌, ◌<◌, ◌==◌, if◌then◌else◌, List, [], ◌∷◌, ◌++◌, length, map, replicate, slice_index_or, slice_set, Ok}
+use Rattle.std.specs.Prelude.{◌≡◌, ℕ, ◌+◌, ◌<◌, ◌==◌, if◌then◌else◌, List, [], ◌∷◌, ◌++◌, length, map, replicate, slice_index_or, slice_set, Option, Some, None, Ok}
 use Rattle.std.specs.List.{AllByRecursion}
 use Rattle.model_graph.specs.Graph.{Decl}
 use Rattle.model_messages.specs.Message.{Message}
 use Rattle.model_messages.specs.Spelling.{spelled}
+use Rattle.model_known.specs.Delta.{Delta, deltas_at}
+use Rattle.model_known.specs.Follow.{delta_of}
+use Rattle.model_states.specs.Update.{Op}
 use Rattle.model_world.specs.Command.{Command}
 use Rattle.model_world.specs.Lawful.{opening_stage, AreLawful}
-use Rattle.model_world.specs.World.{Peer, sent_number, message_at}
-use Rattle.model_site.specs.Site.{AreOwn, updates_done}
+use Rattle.model_world.specs.World.{Peer, sent_number, updated, message_at}
+use Rattle.model_site.specs.Site.{own, AreOwn, updates_done}
 use Rattle.model_site.specs.Told.{heard}
 
 -- a call: the site's number, the states that it takes in beside its own, each by its place among all that were written, and its updates
@@ -66,3 +69,29 @@ replica_of g nodes sites p = heard g nodes (kept_at sites p)
 
 abbrev pub told_by : List Decl → ℕ → Message → Peer
 told_by g nodes m = heard g nodes (m ∷ [])
+
+-- ---- what updates brought
+
+-- what a command of site p brings to its replica, and the replica behind it
+abbrev pub delta_by : ℕ → Peer → Option (ℕ × Op) → List Delta
+delta_by p r None = []
+delta_by p r (Some u) = delta_of r p u.0 u.1 ∷ []
+
+abbrev pub after_own : ℕ → Peer → Option (ℕ × Op) → Peer
+after_own p r None = r
+after_own p r (Some u) = updated p u.0 u.1 r
+
+-- what commands of site p bring, one after the other
+unfoldable pub deltas_by : ℕ → Peer → List Command → List Delta
+deltas_by p r [] = []
+deltas_by p r (k ∷ rest) = delta_by p r (own p k) ++ deltas_by p (after_own p r (own p k)) rest
+
+-- what the updates of each site brought after a call, where this is what they brought before it
+abbrev pub brought_after : List Decl → ℕ → Sites → SiteCall → List (List Delta) → List (List Delta)
+brought_after g nodes sites k all = slice_set all k.site (deltas_at all k.site ++ deltas_by k.site (heard g nodes (taken_by sites k)) k.commands)
+
+-- what there is after some calls, and what the updates of each site brought, its first update first
+pub data HaveBrought (g : List Decl) (nodes : ℕ) : List SiteCall → Sites → List (List Delta) → Type 0 where
+  nothing : HaveBrought g nodes [] (no_sites nodes) (replicate nodes [])
+  brings : {calls : List SiteCall} {sites next : Sites} {k : SiteCall} {all : List (List Delta)} → HaveBrought g nodes calls sites all → IsCalled g nodes sites k next
+      → HaveBrought g nodes (calls ++ k ∷ []) next (brought_after g nodes sites k all)
