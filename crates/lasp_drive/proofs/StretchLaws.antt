@@ -1,6 +1,6 @@
 -- A run goes on stretch by stretch.
 use Rattle.std.proofs.Common.{ap, sym, subst, ◌∙◌, arith, drop, ◌⊎◌, inl, inr}
-use Rattle.std.specs.Prelude.{◌≡◌, ℕ, ◌+◌, ◌≤◌, ◌<◌, List, [], ◌∷◌, length, Some, slice_get, Result, OnOk, IsTrue, true, false}
+use Rattle.std.specs.Prelude.{◌≡◌, ℕ, ◌+◌, ◌≤◌, ◌<◌, List, [], ◌∷◌, length, Some, slice_get, Result, Ok, Err, OnOk, IsTrue, true, false}
 use Rattle.std.proofs.Math.Nat.{eq-or-lt_of_le}
 use Rattle.std.proofs.lemmas.Option.{slice_get_within, get_or_from_slice_get}
 use Rattle.model_functions.specs.Library.{Library}
@@ -13,7 +13,7 @@ use Rattle.lasp_drive.specs.Node.{NodeView, AreSettled}
 use Rattle.lasp_drive.specs.Driver.{DriverView, run_of, stage_of, Stands}
 use Rattle.lasp_drive.specs.Acts.{Acted, ActsSeen, StopsWithin}
 use Rattle.lasp_drive.specs.Play.{MayPlay, StopsAmong, PlaysSeen}
-use Rattle.lasp_drive.specs.Stretch.{is_point, HaveNoPoint, MayGoOn, GoesOn, IsAt}
+use Rattle.lasp_drive.specs.Stretch.{is_point, HaveNoPoint, MayGoOn, GoesOn, IsAt, HasAdvanced, CrossesSeen, PassesOnSeen}
 use Rattle.lasp_drive.specs.declared.halt.Halt.{Halt}
 use Rattle.lasp_drive.proofs.PlayLaws.{drop-at, drop-past, graph-so-far, fits-so-far, way-begins, way-next, way-stops, way-then, way-halts, way-ends, may-next, may-begin}
 
@@ -92,3 +92,11 @@ between-next commands from i here at is none j past low k there = by (eq-or-lt_o
 -- there is none at the end
 pub at-end : (commands : List Command) (i : ℕ) → length commands ≤ i → (k : Command) → slice_get commands i ≡ Some k → IsTrue (is_point k)
 at-end commands i past k at = absurd (omega (arith, past, slice_get_within commands i k at))
+
+-- the point behind a stretch was done with it, or the run stopped there
+pub passes-on : (lib : Library) (from i : ℕ) (commands : List Command) (old mid new : DriverView) (result : Result ℕ Halt) → from < length commands → HasAdvanced lib from i commands old mid → CrossesSeen lib i commands mid result new → PassesOnSeen lib from commands old result new
+passes-on lib from i commands old mid new (Ok j) more far crossed = (by crossed.0, at-then lib from i j commands old mid new far.there crossed.1) where
+  by : (i < j) ⊎ (j ≡ length commands) → from < j
+  by (inl later) = omega (arith, later, far.past)
+  by (inr end) = omega (arith, end, more)
+passes-on lib from i commands old mid new (Err why) more far stop = at-halts lib from i commands old mid why new.nodes far.there stop

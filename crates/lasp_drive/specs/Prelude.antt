@@ -22,6 +22,6 @@ pub use Rattle.lasp_drive.specs.Calls.{GoesOnWithin}
 pub use Rattle.lasp_drive.specs.Driver.{read_seen, seen, marked_of, opened_of, run_of, IsReady}
 pub use Rattle.lasp_drive.specs.Acts.{Acts, Passes, Steps, MayAct, MayStep, HasOpened, Reaches, UnlessMemory}
 pub use Rattle.lasp_drive.specs.Play.{IsUntilWithin, MayPlay, Plays}
-pub use Rattle.lasp_drive.specs.Stretch.{is_point, MayGoOn, Advances}
+pub use Rattle.lasp_drive.specs.Stretch.{is_point, MayGoOn, Advances, Crosses, PassesOn}
 pub use Rattle.lasp_drive.specs.Report.{OnlyAsked, MayPoll, AreOpened, OfTheirRun, exported}
 pub use Rattle.lasp_drive.specs.Run.{IsRunnable, RunsTo, Reports}

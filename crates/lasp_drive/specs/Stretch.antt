@@ -1,5 +1,5 @@
 -- What a driver does on the way through a script: stretches of commands, and the points between them.
-use Rattle.std.specs.Prelude.{◌≡◌, ℕ, ◌+◌, ◌<◌, ◌≤◌, Bool, true, false, IsTrue, List, drop, length, map, slice_get, Some, Result, Ok, Err}
+use Rattle.std.specs.Prelude.{◌≡◌, ◌⊎◌, ℕ, ◌+◌, ◌<◌, ◌≤◌, Bool, true, false, IsTrue, List, drop, length, map, slice_get, Some, Result, Ok, Err}
 use Rattle.model_functions.specs.Library.{Library}
 use Rattle.model_world.specs.Command as plain
 use Rattle.model_world.specs.Lawful.{AreLawful}
@@ -66,4 +66,24 @@ AdvancesSeen lib from commands old (Err why) new = StopsAmong (from + 1) old (dr
 -- the same, and each node is where it was
 pub record Advances {N R P : Type 0} (view : N → NodeView) (read : R → Read) (place : N → P) (lib : Library) (from : ℕ) (commands : List plain.Command) (old : Driver N R) (result : Result ℕ Halt) (new : Driver N R) : Type 0 where
   pub advances : AdvancesSeen lib from commands (seen view read old) result (seen view read new)
+  pub in_place : map place new.nodes.items ≡ map place old.nodes.items
+
+-- the point at a place was done, and the next stretch begins behind it; or there is none, at the script's end
+abbrev pub CrossesSeen : Library → ℕ → List plain.Command → DriverView → Result ℕ Halt → DriverView → Type 0
+CrossesSeen lib i commands old (Ok j) new = ((i < j) ⊎ (j ≡ length commands)) × IsAt lib i j commands old new
+CrossesSeen lib i commands old (Err why) new = StopsAmong (i + 1) old (drop i commands) why new.nodes
+
+-- the same, and each node is where it was
+pub record Crosses {N R P : Type 0} (view : N → NodeView) (read : R → Read) (place : N → P) (lib : Library) (i : ℕ) (commands : List plain.Command) (old : Driver N R) (result : Result ℕ Halt) (new : Driver N R) : Type 0 where
+  pub crosses : CrossesSeen lib i commands (seen view read old) result (seen view read new)
+  pub in_place : map place new.nodes.items ≡ map place old.nodes.items
+
+-- a stretch was done and the point behind it, or the run stopped on the way
+abbrev pub PassesOnSeen : Library → ℕ → List plain.Command → DriverView → Result ℕ Halt → DriverView → Type 0
+PassesOnSeen lib from commands old (Ok i) new = (from < i) × IsAt lib from i commands old new
+PassesOnSeen lib from commands old (Err why) new = StopsAmong (from + 1) old (drop from commands) why new.nodes
+
+-- the same, and each node is where it was
+pub record PassesOn {N R P : Type 0} (view : N → NodeView) (read : R → Read) (place : N → P) (lib : Library) (from : ℕ) (commands : List plain.Command) (old : Driver N R) (result : Result ℕ Halt) (new : Driver N R) : Type 0 where
+  pub passes : PassesOnSeen lib from commands (seen view read old) result (seen view read new)
   pub in_place : map place new.nodes.items ≡ map place old.nodes.items

@@ -1,15 +1,18 @@
 //! Runs a script, command by command.
 
 ghost use Rattle.std.specs.Prelude.{◌<◌, ◌∷◌, []};
-ghost use Rattle.lasp_drive.specs.Prelude.{arc_value, IsGraph, FitsAll, report_of, ended, grown, library_of, command_of, seen, MayStep, Steps, MayPlay, Plays, exported, IsRunnable, RunsTo, Reports};
+ghost use Rattle.lasp_drive.specs.Prelude.{arc_value, IsGraph, FitsAll, report_of, ended, grown, library_of, command_of, seen, MayStep, Steps, exported, IsRunnable, RunsTo, Reports};
 
+mod beside;
 mod point;
 mod stretch;
 mod update;
 
+use crate::beside::Alone;
 use crate::driver::Driver;
 use crate::halt::Halt;
 use crate::node::{FreshNode, Node};
+pub use beside::run_through;
 use lasp_fns::Library;
 use lasp_graph::Graph;
 use lasp_script::{Command, Script};
@@ -50,21 +53,6 @@ impl<N: Node> Driver<N> {
             Command::Declare(decl) => self.declare(alloc, lib, c, decl),
         }
     }
-
-    /// Does the commands of a script in order, and settles every node at the end. At that end each node has got exactly the calls that the script makes at it, behind those that it had.
-    pub fn run_through(&mut self, alloc: Global, lib: &Library, script: &Script) -> Result<(), Halt>
-        requires { MayPlay (library_of lib.now) (seen N.view N.read self.old) script.now.commands }
-        ensures { Plays N.view N.read N.place self.old script.now.commands result self.new }
-    {
-        let mut c: u32 = 1;
-        for i in 0..script.len() {
-            match self.step(alloc, lib, c, script.at(i)) {
-                Ok(()) => c += 1,
-                Err(halt) => return Err(halt),
-            }
-        }
-        self.point(alloc, lib, c)
-    }
 }
 
 /// Runs a script against its graph on nodes of one engine. The driver stands at the end of the script, every node is settled, and each has got exactly the calls that the script makes at it, in their order.
@@ -77,8 +65,9 @@ pub fn run_on<N: FreshNode>(
     requires { IsRunnable (library_of lib.now) (arc_value graph.now) script.now }
     ensures { RunsTo N.view N.read (arc_value graph.now) script.now result }
 {
-    let mut driver: Driver<N> = Driver::new(alloc, graph, script.nodes())?;
-    match driver.run_through(alloc, lib, script) {
+    let fresh: Driver<N> = Driver::new(alloc, graph, script.nodes())?;
+    let (driver, end) = run_through(fresh, alloc, lib, script, &mut Alone);
+    match end {
         Ok(()) => Ok(driver),
         Err(halt) => Err(halt),
     }

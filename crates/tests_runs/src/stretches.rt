@@ -8,7 +8,7 @@ ghost use Rattle.lasp_drive.specs.Node.{AreFresh};
 ghost use Rattle.lasp_drive.specs.Run.{IsRunnable};
 
 use crate::nodes::graph_of;
-use lasp_drive::{Driver, FreshNode, Node, advance};
+use lasp_drive::{Alone, Driver, FreshNode, Node, advance, run_through};
 use lasp_fns::Library;
 use lasp_graph::Graph;
 use lasp_node::CoreNode;
@@ -53,8 +53,8 @@ fn tell_run<N: FreshNode>(
 {
     let share = Arc::try_clone(graph)?;
     let nodes = alone::<N>(alloc, graph)?;
-    let mut driver = Driver::of(alloc, share, nodes);
-    let end = driver.run_through(alloc, lib, script);
+    let fresh = Driver::of(alloc, share, nodes);
+    let (driver, end) = run_through(fresh, alloc, lib, script, &mut Alone);
     write!(told, "run: {end:?}, knows")?;
     tell_counts(told, alloc, driver)
 }

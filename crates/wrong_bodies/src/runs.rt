@@ -1,6 +1,6 @@
 //! Runs of scripts over nodes of any engine.
 
-ghost use Rattle.std.specs.Prelude.{◌+◌, ◌≤◌, drop, length};
+ghost use Rattle.std.specs.Prelude.{◌≡◌, ◌+◌, ◌≤◌, drop, length};
 ghost use Rattle.std.specs.Arc.{arc_value};
 ghost use Rattle.lasp_graph.specs.Library.{library_of};
 ghost use Rattle.lasp_drive.specs.Driver.{seen};
@@ -8,7 +8,7 @@ ghost use Rattle.lasp_drive.specs.Play.{MayPlay, Plays};
 ghost use Rattle.lasp_drive.specs.Run.{IsRunnable, RunsTo};
 ghost use Rattle.lasp_drive.specs.Stretch.{MayGoOn, Advances};
 
-use lasp_drive::{Driver, FreshNode, Halt, Node};
+use lasp_drive::{Beside, Driver, FreshNode, Halt, Node};
 use lasp_fns::Library;
 use lasp_graph::Graph;
 use lasp_script::Script;
@@ -28,17 +28,19 @@ pub fn run_on<N: FreshNode>(
     lasp_drive::run_on::<N>(alloc, graph, lib, script)
 }
 
-/// `lasp_drive::Driver::run_through`.
-pub fn run_through<N: Node>(
-    driver: &mut Driver<N>,
+/// `lasp_drive::run_through`.
+pub fn run_through<N: Node, B: Beside>(
+    driver: Driver<N>,
     alloc: Global,
     lib: &Library,
     script: &Script,
-) -> Result<(), Halt>
-    requires { MayPlay (library_of lib.now) (seen N.view N.read driver.old) script.now.commands }
-    ensures { Plays N.view N.read N.place driver.old script.now.commands result driver.new }
+    beside: &mut B,
+) -> (Driver<N>, Result<(), Halt>)
+    requires { MayPlay (library_of lib.now) (seen N.view N.read driver) script.now.commands }
+    ensures plays { Plays N.view N.read N.place driver script.now.commands result.1 result.0 }
+    ensures place { B.place beside.new ≡ B.place beside.old }
 {
-    driver.run_through(alloc, lib, script)
+    lasp_drive::run_through(driver, alloc, lib, script, beside)
 }
 
 /// `lasp_drive::advance`.

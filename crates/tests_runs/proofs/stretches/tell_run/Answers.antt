@@ -9,25 +9,25 @@ use Rattle.lasp_drive.specs.Driver.{seen, Starts}
 use Rattle.lasp_drive.proofs.PlayLaws.{may-play}
 use Rattle.tests_runs.proofs.stretches.tell_run.Goals as goal
 
-pub of-driver-requires-clause-some : goal.of-driver-requires-clause-some
-of-driver-requires-clause-some g c = omega (arith, c.in_ok-nodes.ensures.size, length-map c.in_ok-nodes.nodes.items g.N.Node.view)
+pub of-fresh-requires-clause-some : goal.of-fresh-requires-clause-some
+of-fresh-requires-clause-some g c = omega (arith, c.in_ok-nodes.ensures.size, length-map c.in_ok-nodes.nodes.items g.N.Node.view)
 
-pub of-driver-requires-clause-few : goal.of-driver-requires-clause-few
-of-driver-requires-clause-few g c = omega (arith, c.in_ok-nodes.ensures.size, length-map c.in_ok-nodes.nodes.items g.N.Node.view)
+pub of-fresh-requires-clause-few : goal.of-fresh-requires-clause-few
+of-fresh-requires-clause-few g c = omega (arith, c.in_ok-nodes.ensures.size, length-map c.in_ok-nodes.nodes.items g.N.Node.view)
 
-pub of-driver-requires-clause-fresh : goal.of-driver-requires-clause-fresh
-of-driver-requires-clause-fresh g c =
+pub of-fresh-requires-clause-fresh : goal.of-fresh-requires-clause-fresh
+of-fresh-requires-clause-fresh g c =
     let nodes = c.in_ok-nodes.nodes in
     let size : 1 ≡ length nodes.items = sym c.in_ok-nodes.ensures.size ∙ length-map nodes.items g.N.Node.view in
     let graph : arc_value c.in_ok-share.share ≡ arc_value c.args.graph.now = search rules in
     subst (λ (h : List Decl). AreFresh h (length nodes.items) (length nodes.items) (map g.N.Node.view nodes.items)) (sym graph)
     (subst (λ (k : ℕ). AreFresh (arc_value c.args.graph.now) k k (map g.N.Node.view nodes.items)) size c.in_ok-nodes.ensures)
 
-pub run_through-end-requires : goal.run_through-end-requires
-run_through-end-requires g c =
+pub run_through-driver-requires : goal.run_through-driver-requires
+run_through-driver-requires g c =
     let nodes = c.in_ok-nodes.nodes in
-    let d = seen g.N.Node.view g.N.Node.read c.of-driver.result in
+    let d = seen g.N.Node.view g.N.Node.read c.of-fresh.result in
     let size : length nodes.items ≡ c.args.script.now.nodes = sym (length-map nodes.items g.N.Node.view) ∙ c.in_ok-nodes.ensures.size ∙ sym c.requires.one in
     let graph : arc_value c.in_ok-share.share ≡ arc_value c.args.graph.now = search rules in
     may-play (library_of c.args.lib.now) (arc_value c.args.graph.now) c.args.script.now d c.requires.runnable
-    (subst (λ (h : List Decl). Starts h c.args.script.now.nodes d) graph (subst (λ (k : ℕ). Starts (arc_value c.in_ok-share.share) k d) size c.of-driver.ensures.starts))
+    (subst (λ (h : List Decl). Starts h c.args.script.now.nodes d) graph (subst (λ (k : ℕ). Starts (arc_value c.in_ok-share.share) k d) size c.of-fresh.ensures.starts))
