@@ -7,7 +7,7 @@ use Rattle.std.specs.declared.vec.Vec.{Vec}
 use Rattle.std.proofs.lemmas.Option.{same_Some}
 use Rattle.std.proofs.lemmas.List.{map-append, take_all}
 use Rattle.model_program.specs.Call.{AreTexts}
-use Rattle.lasp_run.specs.Words.{words_of}
+use Rattle.lasp_call.specs.Words.{words_of}
 use Rattle.lasp_program.specs.Call.{bytes_of}
 
 take-next : {A : Type 0} (words : List A) (i : ℕ) (word : A) → slice_get words i ≡ Some word → take (suc i) words ≡ take i words ++ word ∷ []

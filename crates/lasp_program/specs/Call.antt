@@ -3,7 +3,7 @@ use Rattle.std.specs.Prelude.{◌≡◌, ℕ, List, map, Option, Some, None}
 use Rattle.std.specs.declared.string.String.{String}
 use Rattle.std.specs.declared.vec.Vec.{Vec}
 use Rattle.model_program.specs.Call.{AreTexts}
-use Rattle.lasp_run.specs.Words.{words_of}
+use Rattle.lasp_call.specs.Words.{words_of}
 
 -- each word as its bytes
 abbrev pub bytes_of : {A : Type 0} → List (Vec ℕ A) → List (List ℕ)

@@ -1,6 +1,5 @@
 -- The message of a file, and the node that takes it.
-use Rattle.std.proofs.Common.{◌≡◌, ◌↔◌, ℕ, ◌<◌, ◌&&◌, ◌==◌, IsTrue, Bool, true, false, List, length, Option, Some, None, Result, Ok, Err, sym, ap, subst, ◌∙◌, arith}
-use Rattle.std.proofs.lemmas.Bool.Decides.{same_from_decides, Decides-and, Decides-eqb}
+use Rattle.std.proofs.Common.{◌≡◌, ℕ, ◌<◌, Bool, true, false, List, length, Option, Some, None, Result, Ok, Err, refl, sym, ap, subst, ◌∙◌, arith}
 use Rattle.model_states.proofs.CountLaws.{length-zeros, length-larger}
 use Rattle.model_graph.specs.Chain.{◌>>=◌, check, refusing}
 use Rattle.model_graph.specs.Graph.{Decl, name_at}
@@ -9,6 +8,7 @@ use Rattle.model_messages.specs.Message.{Message, brought}
 use Rattle.model_messages.proofs.MessageLaws.{gained-length}
 use Rattle.model_wire.specs.Lawful.{IsMessage}
 use Rattle.model_wire.specs.Message.{decoded}
+use Rattle.model_wire.specs.declared.wire_why.WireWhy.{WireWhy}
 use Rattle.model_world.specs.World.{Peer, fresh_peer, delivered}
 use Rattle.model_runs.specs.Held.{IsHeld, IsSentTo}
 use Rattle.model_runs.proofs.HeldLaws.{held-fresh, held-delivered}
@@ -22,18 +22,12 @@ use Rattle.model_program.specs.declared.refusal.Refusal.TheVariants as refusal
 use Rattle.model_program.specs.declared.state_why.StateWhy.TheVariants.{WrongGraph}
 use Rattle.model_program.specs.declared.failure.Failure.{Failure}
 use Rattle.model_program.specs.declared.failure.Failure.TheVariants.{Refused, ReadFault, Memory}
-use Rattle.lasp_replica.specs.Replica.{IsBeginning}
-use Rattle.lasp_drive.specs.Node.{NodeView, IsNode, IsStill, IsFresh, Learns}
-use Rattle.lasp_run.specs.Merge.{IsReplica, IsRefusal}
+use Rattle.lasp_drive.specs.Node.{NodeView, IsNode, IsStill, IsFresh, Learns, OnlyLearns}
+use Rattle.lasp_call.specs.Failure.{IsRefusal}
+use Rattle.lasp_call.specs.Message.{message_refused}
+use Rattle.lasp_run.specs.Merge.{IsReplica}
 
 -- ---- messages to a graph
-
--- a message may be taken where its sources are the first of the graph's, and it is of as many nodes
-pub taken-test : (g : List Decl) (r : Peer) (m : Message) (first : Bool) → IsTrue first ↔ IsBeginning m g → (first && (length m.counts == length r.counts)) ≡ may_take g r m
-taken-test g r m first is =
-    same_from_decides (first && (length m.counts == length r.counts)) (may_take g r m)
-    (Decides-and first (length m.counts == length r.counts) (λ t. let begins = is.0 t in record { rest = begins.0; is = begins.1 }, λ p. is.1 (p.rest, p.is)) (Decides-eqb (length m.counts) (length r.counts)))
-    (take-Decides g r m)
 
 taken-sent : (g : List Decl) (r : Peer) (m : Message) → may_take g r m ≡ true → IsMessage m → IsSentTo (length r.counts) g m
 taken-sent g r m taken lawful =
@@ -76,18 +70,24 @@ file-message : (g : List Decl) (i : ℕ) (r : Option Peer) (bytes : List ℕ) (m
 unfolding file_joined
 file-message g i r bytes m e = chain-passed (refusing (state_refused i) (decoded bytes)) (λ m. message_joined g i (replica_before g r m) m) m e
 
+-- a file is told by the place of its name
+said-by-place : {A : Type 0} (r : Result A (ℕ × WireWhy)) (f i : ℕ) → f ≡ file_at i → refusing (message_refused f) r ≡ refusing (state_refused i) r
+said-by-place (Ok x) f i place = refl
+said-by-place (Err e) f i place = ap (λ (n : ℕ). Err (message_refused n e)) place
+
 -- the message of the file is read, and this is what is given of it
-pub file-given : {A : Type 0} (shown : A → Peer) (g : List Decl) (i : ℕ) (r : Option Peer) (bytes : List ℕ) (m : Message) (result : Result A Failure) → refusing (state_refused i) (decoded bytes) ≡ Ok m
+pub file-given : {A : Type 0} (shown : A → Peer) (g : List Decl) (f i : ℕ) (r : Option Peer) (bytes : List ℕ) (m : Message) (result : Result A Failure) → f ≡ file_at i → refusing (message_refused f) (decoded bytes) ≡ Ok m
     → Gives shown (message_joined g i (replica_before g r m) m) result → Gives shown (file_joined g i r bytes) result
-file-given shown g i r bytes m result e h = subst (λ (answer : Result Peer Refusal). Gives shown answer result) (sym (file-message g i r bytes m e)) h
+file-given shown g f i r bytes m result place e h =
+    subst (λ (answer : Result Peer Refusal). Gives shown answer result) (sym (file-message g i r bytes m (sym (said-by-place (decoded bytes) f i place) ∙ e))) h
 
 -- the file holds no message, or memory was wanting
-pub file-refused : {A M : Type 0} (shown : A → Peer) (told : M → Message) (g : List Decl) (i : ℕ) (r : Option Peer) (bytes : List ℕ) (failure : Failure) → Gives told (refusing (state_refused i) (decoded bytes)) (Err failure)
+pub file-refused : {A M : Type 0} (shown : A → Peer) (told : M → Message) (g : List Decl) (f i : ℕ) (r : Option Peer) (bytes : List ℕ) (failure : Failure) → f ≡ file_at i → Gives told (refusing (message_refused f) (decoded bytes)) (Err failure)
     → Gives shown (file_joined g i r bytes) (Err failure)
 unfolding file_joined
-file-refused shown told g i r bytes (Refused e) h = chain-refused (refusing (state_refused i) (decoded bytes)) (λ m. message_joined g i (replica_before g r m) m) e h
-file-refused shown told g i r bytes (ReadFault f) h = h
-file-refused shown told g i r bytes Memory h = tt
+file-refused shown told g f i r bytes (Refused e) place h = chain-refused (refusing (state_refused i) (decoded bytes)) (λ m. message_joined g i (replica_before g r m) m) e (sym (said-by-place (decoded bytes) f i place) ∙ h)
+file-refused shown told g f i r bytes (ReadFault e) place h = h
+file-refused shown told g f i r bytes Memory place h = tt
 
 -- ---- the node
 
@@ -106,13 +106,16 @@ pub replica-new : (g : List Decl) (nodes : ℕ) (n : NodeView) → IsFresh g nod
 replica-new g nodes n fresh = replica-fresh g nodes n fresh.node fresh.peer
 
 -- a node that learned
-pub replica-learned : (g : List Decl) (n new : NodeView) → IsReplica g n → Learns n new → IsReplica g new
+replica-learned : (g : List Decl) (n new : NodeView) → IsReplica g n → Learns n new → IsReplica g new
 replica-learned g n new h learned = record {
   graph = learned.still.graph ∙ h.graph;
   replica = learned.still.replica ∙ h.replica;
   nodes = learned.still.nodes ∙ h.nodes ∙ ap (λ (r : Peer). length r.counts) (sym learned.peer);
   held = subst (λ (r : Peer). IsHeld (length r.counts) g r) (sym learned.peer) h.held;
 }
+
+pub replica-asked : (g : List Decl) (n new : NodeView) → IsReplica g n → OnlyLearns n new → IsReplica g new
+replica-asked g n new h asked = replica-learned g n new h asked.learns
 
 -- what the node has to have for what it does
 pub replica-held : (g : List Decl) (n : NodeView) → IsReplica g n → IsHeld n.among n.decls n.peer
@@ -164,4 +167,4 @@ joined-large shown g i x n m failure h taken large is =
     refusal-given shown (message_joined g i n.peer m) (refusal.TooLarge i 0 (name_at g x)) failure
     (message-large g i x n.peer m taken (ap (λ (ds : List Decl). first_large 0 (delivered ds m n.peer).contents) (sym h.graph) ∙ large)) is
 
-pub ruleset replicas = (replica-new, replica-held, replica-sent, replica-joined, large-low, joined-taken, joined-large, joined-wrong)
+pub ruleset replicas = (replica-new, replica-asked, replica-held, replica-sent, replica-joined, large-low, joined-taken, joined-large, joined-wrong)

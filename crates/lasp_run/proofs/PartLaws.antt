@@ -15,7 +15,7 @@ use Rattle.model_program.specs.declared.refusal.Refusal.{Refusal}
 use Rattle.model_program.specs.declared.failure.Failure.{Failure}
 use Rattle.model_program.specs.declared.failure.Failure.TheVariants.{Refused, ReadFault, Memory}
 use Rattle.model_program.proofs.PlanLaws.{part-itself, follows-memory, follows-says}
-use Rattle.lasp_run.specs.Words.{answered}
+use Rattle.lasp_call.specs.Words.{answered}
 use Rattle.lasp_run.specs.Run.{IsStop}
 
 -- a result gives the answer exactly where its text does

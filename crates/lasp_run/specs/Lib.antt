@@ -1,4 +1,3 @@
-pub mod Words
 pub mod Run
 pub mod Merge
 pub mod Prelude

@@ -1,14 +1,11 @@
 -- The node into which the messages of files are joined, and how far the plan of a merge has come.
 use Rattle.std.specs.Prelude.{◌≡◌, ℕ, List, length, Result, Ok, Err}
 use Rattle.model_graph.specs.Graph.{Decl}
-use Rattle.model_world.specs.World.{Peer}
 use Rattle.model_runs.specs.Held.{IsHeld}
 use Rattle.lasp_drive.specs.Node.{NodeView}
 use Rattle.model_program.specs.Plan.{Plan}
 use Rattle.model_program.specs.Follows.{View, IsPartOf, Follows}
-use Rattle.model_program.specs.declared.refusal.Refusal.{Refusal}
 use Rattle.model_program.specs.declared.failure.Failure.{Failure}
-use Rattle.model_program.specs.declared.failure.Failure.TheVariants.{Refused, ReadFault, Memory}
 
 -- the first node of a graph, among as many as it has counts, within the ranges of the message format
 pub record IsReplica (g : List Decl) (n : NodeView) : Type 0 where
@@ -16,16 +13,6 @@ pub record IsReplica (g : List Decl) (n : NodeView) : Type 0 where
   pub replica : n.number ≡ 0
   pub nodes : n.among ≡ length n.peer.counts
   pub held : IsHeld (length n.peer.counts) g n.peer
-
--- the sources and counts of a node
-abbrev pub peer_by : {N : Type 0} → (N → NodeView) → N → Peer
-peer_by view n = (view n).peer
-
--- the failure is this refusal, or memory was wanting
-abbrev pub IsRefusal : Refusal → Failure → Type 0
-IsRefusal expected (Refused refusal) = refusal ≡ expected
-IsRefusal expected (ReadFault f) = ⊥
-IsRefusal expected Memory = Unit {0}
 
 -- a call that came from the first plan to the second: whoever follows from there on follows from the first
 abbrev pub Leads : List (List ℕ) → View → Plan → Plan → Type 0

@@ -35,6 +35,8 @@ pub use Rattle.lasp_drive.specs.Node.{IsSettled}
 pub use Rattle.lasp_drive.specs.Acts.{Halts}
 pub use Rattle.lasp_drive.specs.Run.{IsRunnable}
 pub use Rattle.lasp_script.specs.Command.{command_of}
-pub use Rattle.lasp_run.specs.Merge.{ComesTo, IsRefusal, IsReplica, peer_by}
+pub use Rattle.lasp_call.specs.Failure.{IsRefusal}
+pub use Rattle.lasp_call.specs.Message.{peer_by}
+pub use Rattle.lasp_call.specs.Words.{answered, words_of}
+pub use Rattle.lasp_run.specs.Merge.{ComesTo, IsReplica}
 pub use Rattle.lasp_run.specs.Run.{IsStop, opened_of, opening_run}
-pub use Rattle.lasp_run.specs.Words.{answered, words_of}

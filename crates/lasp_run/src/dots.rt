@@ -1,25 +1,15 @@
 //! `dots`: a script over one set, on replicas that keep no tombstones.
 
 ghost use Rattle.std.specs.Prelude.{◌≡◌, ◌<◌, length, IfOk};
-ghost use Rattle.lasp_run.specs.Prelude.{refusing, script_of, one_set, AreUnchanged, AreLater, seen, dots_answer, Gives, Follows, Performs, script_refused, dots_scripting, running_dots, library_of, IsRunnable, words_of, answered};
+ghost use Rattle.lasp_run.specs.Prelude.{one_set, AreUnchanged, AreLater, seen, dots_answer, Gives, Follows, Performs, dots_scripting, running_dots, library_of, IsRunnable, words_of, answered};
 
-use crate::open::{read_file, script_from};
+use lasp_call::open_script;
 use lasp_dot_run::{first_other, one_set, run_dots};
 use lasp_edge::Files;
 use lasp_fns::Library;
 use lasp_script::Script;
 use model_program::{Failure, Refusal};
 use std::alloc::Global;
-
-fn script_over_one_set(alloc: Global, bytes: &[u8], lib: &Library) -> Result<Script, Failure>
-    ensures exact { Gives (λ s. s) (refusing script_refused (script_of (library_of lib.now) one_set bytes.now)) result }
-    ensures runnable { IfOk result (λ s. IsRunnable (library_of lib.now) one_set s) }
-{
-    match one_set(alloc) {
-        Ok(graph) => script_from(alloc, &graph, bytes, lib),
-        Err(_) => Err(Failure::Memory),
-    }
-}
 
 /// Reads the script against the graph of one set: the second word's file.
 fn open_dots<F: Files>(
@@ -34,9 +24,9 @@ fn open_dots<F: Files>(
     ensures part { Performs (λ s. s) (words_of words.now) (seen F.content F.faults files.old files.new) (dots_scripting (library_of lib.now)) result }
     ensures runnable { IfOk result (λ s. IsRunnable (library_of lib.now) one_set s) }
 {
-    match read_file(alloc, words, 1, files) {
-        Ok(bytes) => script_over_one_set(alloc, &bytes, lib),
-        Err(failure) => Err(failure),
+    match one_set(alloc) {
+        Ok(graph) => open_script(alloc, words, 1, &graph, files, lib),
+        Err(_) => Err(Failure::Memory),
     }
 }
 

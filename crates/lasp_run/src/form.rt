@@ -1,9 +1,9 @@
 //! Which of the listed forms the words have.
 
 ghost use Rattle.std.specs.Prelude.{◌≡◌, ◌<◌, ℕ, length};
-ghost use Rattle.lasp_run.specs.Prelude.{words_of, form, node_word, export_form, workers_word, with_workers, load_form, threaded_form, Run, Trace, Live, Load};
+ghost use Rattle.lasp_run.specs.Prelude.{words_of, form, export_form, workers_word, with_workers, load_form, threaded_form, Run, Trace, Live, Load};
 
-use crate::number::number_in;
+use lasp_call::{node_word, number_in};
 use model_program::{Form, Threaded};
 
 /// The greatest seed of `load`.
@@ -11,16 +11,6 @@ const MOST_SEED: u32 = 2_147_483_647;
 
 /// The most commands that `load` makes.
 const MOST_COMMANDS: u32 = 20_000;
-
-/// A node's number, 0 to 7.
-fn node_word(word: &str) -> Option<u8>
-    ensures { result ≡ node_word word.now }
-{
-    match number_in(word, 0, 7) {
-        Some(node) => Some(node as u8),
-        None => None,
-    }
-}
 
 fn export_form(node: Option<u8>) -> Form
     ensures { result ≡ export_form node }
@@ -107,7 +97,7 @@ fn threaded_form(words: &[String]) -> Form
 
 /// The form of the words. It names the files that there are words for.
 #[tactic(auto, unfolding(model_program::specs::Program::form))]
-pub(crate) fn read_form(words: &[String]) -> Form
+pub fn read_form(words: &[String]) -> Form
     ensures exact { result ≡ form (words_of words.now) }
     ensures plain { result ≡ Form.Plain → 2 < length words.now }
     ensures check { result ≡ Form.Check → 1 < length words.now }

@@ -3,13 +3,14 @@
 
 mod check;
 mod dots;
-mod ending;
 mod form;
 mod merge;
 mod name;
-mod number;
 mod open;
 mod program;
 mod run;
 
+pub use form::read_form;
+pub use open::{Opened, open_run};
 pub use program::one_thread;
+pub use run::failure_of;

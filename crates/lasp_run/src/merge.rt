@@ -8,7 +8,7 @@ mod text;
 
 use crate::merge::join::{join_first, join_next};
 use crate::merge::text::merged_text;
-use crate::open::{open_shared, read_file};
+use crate::open::{open_graph, read_file};
 use lasp_drive::{FreshNode, Node};
 use lasp_edge::Files;
 use lasp_fns::Library;
@@ -141,7 +141,7 @@ pub fn run_merge<N: FreshNode, F: Files>(
     ensures later { AreLater F.faults files.old files.new }
     ensures follows { Follows (words_of words.now) (seen F.content F.faults files.old files.new) (merging (library_of lib.now) (length words.now - 3)) (answered result) }
 {
-    match open_shared(alloc, words, files, lib) {
+    match open_graph(alloc, words, files, lib) {
         Ok(graph) => merge_files::<N, F>(alloc, words, &graph, files, lib),
         Err(failure) => Err(failure),
     }

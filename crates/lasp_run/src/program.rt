@@ -5,10 +5,10 @@ ghost use Rattle.lasp_run.specs.Prelude.{AreUnchanged, AreLater, seen, reading_o
 
 use crate::check::run_check;
 use crate::dots::answer_dots;
-use crate::ending::end;
 use crate::form::read_form;
 use crate::merge::run_merge;
 use crate::run::{run_export, run_plain};
+use lasp_call::end;
 use lasp_edge::{Files, Sink};
 use lasp_fns::Library;
 use lasp_node::CoreNode;

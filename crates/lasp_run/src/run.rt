@@ -16,9 +16,9 @@ use model_scripts::ScriptWhy;
 use std::alloc::Global;
 use std::sync::Arc;
 
-#[tactic(auto, using(crate::proofs::PartLaws::runs))]
 /// The failure of a run that stopped. A variable is told by its name, and may be one that the script declares.
-fn failure_of(graph: &Graph, script: &Script, halt: Halt) -> Failure
+#[tactic(auto, using(crate::proofs::PartLaws::runs))]
+pub fn failure_of(graph: &Graph, script: &Script, halt: Halt) -> Failure
     requires lawful { IsLawful graph.now script.now }
     requires halts { Halts (ended graph.now script.now) halt }
     ensures { IsStop graph.now script.now result }

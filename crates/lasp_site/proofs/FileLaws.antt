@@ -13,7 +13,7 @@ use Rattle.model_site.specs.declared.site_failure.SiteFailure.{SiteFailure}
 use Rattle.model_site.specs.declared.site_failure.SiteFailure.TheVariants.{Refused, ReadFault, Memory}
 use Rattle.model_site.proofs.PlanLaws.{part-of-part}
 use Rattle.lasp_site.specs.Site.{Leads, EndsIn}
-use Rattle.lasp_site.specs.Words.{answered}
+use Rattle.lasp_site.specs.Failure.{answered}
 
 -- a result gives the answer exactly where its bytes do
 pub gives-answered : {A : Type 0} (answer : Result (List ℕ) SiteRefusal) (r : Result (Vec ℕ A) SiteFailure) → Gives (λ (bytes : Vec ℕ A). bytes.items) answer r → Gives (λ (t : List ℕ). t) answer (answered r)

@@ -18,7 +18,7 @@ use Rattle.model_runs.proofs.StopLaws.{first-low}
 use Rattle.model_core.proofs.MessageLaws.{sent-to}
 use Rattle.model_program.specs.Merge.{may_take}
 use Rattle.model_program.proofs.MergeLaws.{take-Decides}
-use Rattle.lasp_drive.specs.Node.{NodeView, IsStill, Learns, IsFresh}
+use Rattle.lasp_drive.specs.Node.{NodeView, IsStill, Learns, OnlyLearns, IsFresh}
 use Rattle.lasp_site.specs.Site.{IsSiteNode, IsAsked}
 
 -- a node to which nothing has happened
@@ -123,5 +123,9 @@ node-asked p g n new h learnt = record {
   peer = learnt.peer;
   among = learnt.still.nodes;
 }
+
+-- and so one that learned
+pub node-learned : (p : ℕ) (g : List Decl) (n new : NodeView) → IsSiteNode p g n → OnlyLearns n new → IsSiteNode p g new
+node-learned p g n new h asked = (node-asked p g n new h asked.learns).node
 
 pub ruleset asked = (node-asked)

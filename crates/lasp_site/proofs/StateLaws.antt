@@ -1,6 +1,6 @@
 -- The message of a file, and what is answered of the node that takes it in.
-use Rattle.std.proofs.Common.{◌≡◌, ◌↔◌, ℕ, ◌&&◌, ◌==◌, IsTrue, Bool, true, false, List, [], ◌∷◌, length, Option, Some, None, Result, Ok, Err, refl, sym, ap, subst, ◌∙◌, arith}
-use Rattle.std.proofs.lemmas.Bool.Decides.{same_from_decides, Decides-and, Decides-eqb}
+use Rattle.std.proofs.Common.{◌≡◌, ℕ, ◌==◌, Bool, true, false, List, [], ◌∷◌, length, Option, Some, None, Result, Ok, Err, refl, sym, ap, subst, ◌∙◌, arith}
+use Rattle.std.proofs.lemmas.Bool.Decides.{Decides-eqb}
 use Rattle.model_graph.specs.Chain.{◌>>=◌, check, refusing}
 use Rattle.model_graph.specs.Graph.{Decl, name_at}
 use Rattle.model_graph.specs.Evaluation.{first_large}
@@ -8,7 +8,6 @@ use Rattle.model_messages.specs.Message.{Message}
 use Rattle.model_wire.specs.Message.{decoded}
 use Rattle.model_world.specs.World.{Peer, delivered}
 use Rattle.model_program.specs.Merge.{may_take}
-use Rattle.model_program.proofs.MergeLaws.{take-Decides}
 use Rattle.model_program.specs.declared.refusal.Refusal.TheVariants as shared
 use Rattle.model_program.specs.declared.state_why.StateWhy.TheVariants.{WrongGraph}
 use Rattle.model_site.specs.Follows.{Gives}
@@ -17,23 +16,38 @@ use Rattle.model_site.specs.declared.site_refusal.SiteRefusal.{SiteRefusal}
 use Rattle.model_site.specs.declared.site_refusal.SiteRefusal.TheVariants.{Shared, FileTooLarge}
 use Rattle.model_site.specs.declared.site_failure.SiteFailure.{SiteFailure}
 use Rattle.model_site.specs.declared.site_failure.SiteFailure.TheVariants.{Refused, ReadFault, Memory}
-use Rattle.lasp_replica.specs.Replica.{IsBeginning}
+use Rattle.model_program.specs.Follows as program_plan
+use Rattle.model_program.specs.declared.refusal.Refusal.{Refusal}
+use Rattle.model_program.specs.declared.failure.Failure.{Failure}
+use Rattle.model_program.specs.declared.failure.Failure.TheVariants as failures
+use Rattle.lasp_call.specs.Failure as program
+use Rattle.lasp_call.specs.Message.{message_refused}
 use Rattle.lasp_drive.specs.Node.{NodeView}
-use Rattle.lasp_site.specs.Site.{IsSiteNode, IsRefusal}
-use Rattle.lasp_site.proofs.NodeLaws.{node-held, node-sent, node-taken, taken-low}
-
--- a message may be taken where its sources are the first of the graph's, and it is of as many nodes
-pub taken-test : (g : List Decl) (r : Peer) (m : Message) (first : Bool) → IsTrue first ↔ IsBeginning m g → (first && (length m.counts == length r.counts)) ≡ may_take g r m
-taken-test g r m first is =
-    same_from_decides (first && (length m.counts == length r.counts)) (may_take g r m)
-    (Decides-and first (length m.counts == length r.counts) (λ t. let begins = is.0 t in record { rest = begins.0; is = begins.1 }, λ p. is.1 (p.rest, p.is)) (Decides-eqb (length m.counts) (length r.counts)))
-    (take-Decides g r m)
+use Rattle.lasp_site.specs.Failure.{as_site, IsRefusal}
+use Rattle.lasp_site.specs.Site.{IsSiteNode}
+use Rattle.lasp_site.proofs.NodeLaws.{node-held, node-learned, node-sent, node-taken, taken-low}
 
 -- a failure that is this refusal is given where it is what is answered
 pub refusal-given : {A B : Type 0} (shown : A → B) (answer : Result B SiteRefusal) (expected : SiteRefusal) (failure : SiteFailure) → answer ≡ Err expected → IsRefusal expected failure → Gives shown answer (Err failure)
 refusal-given shown answer expected (Refused e) is same = is ∙ ap (λ (x : SiteRefusal). Err x) (sym same)
 refusal-given shown answer expected (ReadFault f) is same = same
 refusal-given shown answer expected Memory is same = tt
+
+pub refusal-shared : (expected : Refusal) (failure : Failure) → program.IsRefusal expected failure → IsRefusal (Shared expected) (as_site failure)
+refusal-shared expected (failures.Refused e) same = ap (λ (r : Refusal). Shared r) same
+refusal-shared expected (failures.ReadFault f) same = same
+refusal-shared expected failures.Memory same = tt
+
+-- what `lasp` gives of a result whose refusals it says so, a site gives of it
+pub message-shared : {A B E : Type 0} (shown : A → B) (refuse : E → Refusal) (r : Result B E) (failure : Failure) → program_plan.Gives shown (refusing refuse r) (Err failure) → Gives shown (refusing (λ e. Shared (refuse e)) r) (Err (as_site failure))
+message-shared shown refuse (Ok b) (failures.Refused x) h = absurd cc
+message-shared shown refuse (Err e) (failures.Refused x) h = let same : refuse e ≡ x = cc in ap (λ (y : Refusal). Err (Shared y)) same
+message-shared shown refuse r (failures.ReadFault f) h = h
+message-shared shown refuse r failures.Memory h = tt
+
+message-read : {B E : Type 0} (refuse : E → Refusal) (r : Result B E) (b : B) → refusing refuse r ≡ Ok b → refusing (λ e. Shared (refuse e)) r ≡ Ok b
+message-read {B} refuse (Ok x) b h = let same : x ≡ b = cc in ap (λ (y : B). Ok y) same
+message-read refuse (Err e) b h = absurd cc
 
 -- ---- what is answered of a message
 
@@ -73,17 +87,21 @@ unfolding file_taken
 file-message p g f r bytes m e = chain-passed (refusing (state_refused f) (decoded bytes)) (λ k. message_taken p g f r k) m e
 
 -- the message of the file is read, and this is what is given of it
-pub file-given : {A : Type 0} (shown : A → Peer) (p : ℕ) (g : List Decl) (f : ℕ) (r : Peer) (bytes : List ℕ) (m : Message) (result : Result A SiteFailure) → refusing (state_refused f) (decoded bytes) ≡ Ok m
+pub file-given : {A : Type 0} (shown : A → Peer) (p : ℕ) (g : List Decl) (f : ℕ) (r : Peer) (bytes : List ℕ) (m : Message) (result : Result A SiteFailure) → refusing (message_refused f) (decoded bytes) ≡ Ok m
     → Gives shown (message_taken p g f r m) result → Gives shown (file_taken p g f r bytes) result
-file-given shown p g f r bytes m result e h = subst (λ (answer : Result Peer SiteRefusal). Gives shown answer result) (sym (file-message p g f r bytes m e)) h
+file-given shown p g f r bytes m result e h = subst (λ (answer : Result Peer SiteRefusal). Gives shown answer result) (sym (file-message p g f r bytes m (message-read (message_refused f) (decoded bytes) m e))) h
 
 -- the file holds no message, or memory was wanting
-pub file-refused : {A M : Type 0} (shown : A → Peer) (told : M → Message) (p : ℕ) (g : List Decl) (f : ℕ) (r : Peer) (bytes : List ℕ) (failure : SiteFailure) → Gives told (refusing (state_refused f) (decoded bytes)) (Err failure)
+file-unread : {A M : Type 0} (shown : A → Peer) (told : M → Message) (p : ℕ) (g : List Decl) (f : ℕ) (r : Peer) (bytes : List ℕ) (failure : SiteFailure) → Gives told (refusing (state_refused f) (decoded bytes)) (Err failure)
     → Gives shown (file_taken p g f r bytes) (Err failure)
 unfolding file_taken
-file-refused shown told p g f r bytes (Refused e) h = chain-refused (refusing (state_refused f) (decoded bytes)) (λ m. message_taken p g f r m) e h
-file-refused shown told p g f r bytes (ReadFault i) h = h
-file-refused shown told p g f r bytes Memory h = tt
+file-unread shown told p g f r bytes (Refused e) h = chain-refused (refusing (state_refused f) (decoded bytes)) (λ m. message_taken p g f r m) e h
+file-unread shown told p g f r bytes (ReadFault i) h = h
+file-unread shown told p g f r bytes Memory h = tt
+
+pub file-refused : {A M : Type 0} (shown : A → Peer) (told : M → Message) (p : ℕ) (g : List Decl) (f : ℕ) (r : Peer) (bytes : List ℕ) (failure : Failure) → program_plan.Gives told (refusing (message_refused f) (decoded bytes)) (Err failure)
+    → Gives shown (file_taken p g f r bytes) (Err (as_site failure))
+file-refused shown told p g f r bytes failure h = file-unread shown told p g f r bytes (as_site failure) (message-shared told (message_refused f) (decoded bytes) failure h)
 
 -- ---- the site's own state
 
@@ -95,4 +113,4 @@ pub own-some : (p : ℕ) (g : List Decl) (f : ℕ) (r : Peer) (bytes : List ℕ)
 own-some p g f r [] some = absurd cc
 own-some p g f r (b ∷ bytes) some = refl
 
-pub ruleset nodes = (node-held, node-sent, node-taken, taken-low, taken-ok, taken-large, taken-wrong)
+pub ruleset nodes = (node-held, node-learned, node-sent, node-taken, taken-low, taken-ok, taken-large, taken-wrong)

@@ -32,7 +32,8 @@ use Rattle.lasp_drive.specs.Node.{NodeView, MayUpdate}
 use Rattle.lasp_state.specs.State.{op_of, IsOpOf}
 use Rattle.lasp_state.specs.declared.op.Op.{Op}
 use Rattle.lasp_state.specs.declared.op.Op.TheVariants as op
-use Rattle.lasp_site.specs.Site.{IsSiteNode, IsRefusal, IsSpelled, MayDo, IsOperationOf}
+use Rattle.lasp_site.specs.Failure.{IsRefusal}
+use Rattle.lasp_site.specs.Site.{IsSiteNode, IsSpelled, MayDo, IsOperationOf}
 use Rattle.lasp_site.proofs.NodeLaws.{node-held}
 use Rattle.lasp_site.proofs.StateLaws.{refusal-given}
 

@@ -3,16 +3,13 @@ use Rattle.std.specs.Prelude.{◌≡◌, ℕ, ◌<◌, ◌≤◌, IsTrue, is_som
 use Rattle.model_graph.specs.Graph.{Decl}
 use Rattle.model_world.specs.Command.{Command}
 use Rattle.model_world.specs.Lawful.{opening_stage, MayBeDone}
-use Rattle.model_world.specs.World.{Peer}
 use Rattle.model_runs.specs.Held.{AreBelow, IsHeld}
 use Rattle.model_wire.specs.Lawful.{IsSpellable}
 use Rattle.model_program.specs.Follows.{View, IsPartOf}
 use Rattle.model_site.specs.Follows.{Follows}
 use Rattle.model_site.specs.Plan.{Plan}
 use Rattle.model_site.specs.Site.{own, IsOwn}
-use Rattle.model_site.specs.declared.site_refusal.SiteRefusal.{SiteRefusal}
 use Rattle.model_site.specs.declared.site_failure.SiteFailure.{SiteFailure}
-use Rattle.model_site.specs.declared.site_failure.SiteFailure.TheVariants.{Refused, ReadFault, Memory}
 use Rattle.lasp_drive.specs.Node.{NodeView}
 use Rattle.lasp_state.specs.State.{op_of}
 use Rattle.lasp_state.specs.declared.op.Op.{Op}
@@ -33,16 +30,6 @@ pub record IsAsked (p : ℕ) (g : List Decl) (old new : NodeView) : Type 0 where
   pub node : IsSiteNode p g new
   pub peer : new.peer ≡ old.peer
   pub among : new.among ≡ old.among
-
--- the sources and counts of a node
-abbrev pub peer_by : {N : Type 0} → (N → NodeView) → N → Peer
-peer_by view n = (view n).peer
-
--- the failure is this refusal, or memory was wanting
-abbrev pub IsRefusal : SiteRefusal → SiteFailure → Type 0
-IsRefusal expected (Refused refusal) = refusal ≡ expected
-IsRefusal expected (ReadFault f) = ⊥
-IsRefusal expected Memory = Unit {0}
 
 -- ---- updates
 

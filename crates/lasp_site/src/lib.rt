@@ -6,7 +6,6 @@
 #![tactic(auto)]
 
 mod ending;
-mod number;
 mod open;
 mod own;
 mod site;

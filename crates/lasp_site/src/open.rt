@@ -1,47 +1,42 @@
-//! The files of a site: read, and the graph and the script of their bytes.
+//! The files of a site: its graph, its script, and the states that it takes in. They are opened as those of `lasp`, whose refusals are a site's too.
 
 ghost use Rattle.std.specs.Prelude.{◌≡◌, ◌<◌, length, IfOk};
 ghost use Rattle.std.specs.Arc.{arc_value};
-ghost use Rattle.model_graph.specs.Chain.{refusing};
-ghost use Rattle.model_readings.specs.Graph.{graph_of};
 ghost use Rattle.model_readings.specs.Lawful.{IsGraph, FitsAll};
-ghost use Rattle.model_scripts.specs.Script.{script_of};
 ghost use Rattle.model_world.specs.Lawful.{IsLawful, IsWithinLimits};
-ghost use Rattle.model_program.specs.Plan.{word_at};
 ghost use Rattle.model_program.specs.Call.{AreUnchanged, AreLater, seen};
 ghost use Rattle.model_site.specs.Plan.{reading};
-ghost use Rattle.model_site.specs.Follows.{Gives, Performs};
-ghost use Rattle.model_site.specs.Program.{graph_refused, script_refused, opening, scripting};
+ghost use Rattle.model_site.specs.Follows.{Performs};
+ghost use Rattle.model_site.specs.Program.{opening, scripting};
 ghost use Rattle.lasp_graph.specs.Library.{library_of};
-ghost use Rattle.lasp_site.specs.Words.{words_of};
+ghost use Rattle.lasp_call.specs.Words.{words_of};
+ghost use Rattle.lasp_site.specs.Failure.{as_site};
 
-use lasp_edge::{Fetch, Files};
+use lasp_edge::Files;
 use lasp_fns::Library;
-use lasp_graph::{Graph, GraphRefused, read_graph};
-use lasp_script::{Script, ScriptRefused, read_script};
-use model_program::Refusal;
-use model_readings::accepted_graphs_are_lawful;
+use lasp_graph::Graph;
+use lasp_script::Script;
+use model_program::{Failure, Refusal};
 use model_site::{SiteFailure, SiteRefusal};
 use std::alloc::Global;
 use std::sync::Arc;
-
-/// The most bytes that a file may have.
-const FILE_LIMIT: u64 = 16_777_216;
-
-/// The word that names a file.
-fn name_of(words: &[String], file: usize) -> &str
-    requires { file < length words.now }
-    ensures name { result.now ≡ word_at (words_of words.now) file }
-    ensures within { file < length (words_of words.now) }
-{
-    words[file].as_str()
-}
 
 /// What a site refuses as `lasp` does.
 pub(crate) fn shared(refusal: Refusal) -> SiteFailure
     ensures { result ≡ SiteFailure.Refused (SiteRefusal.Shared refusal) }
 {
     SiteFailure::Refused(SiteRefusal::Shared(refusal))
+}
+
+/// A failure of what both programs do, as a site's.
+pub(crate) fn shared_failure(failure: Failure) -> SiteFailure
+    ensures { result ≡ as_site failure }
+{
+    match failure {
+        Failure::Refused(refusal) => shared(refusal),
+        Failure::ReadFault(file) => SiteFailure::ReadFault(file),
+        Failure::Memory => SiteFailure::Memory,
+    }
 }
 
 /// Reads the file that a word names.
@@ -56,44 +51,9 @@ pub(crate) fn read_file<F: Files>(
     ensures later { AreLater F.faults files.old files.new }
     ensures part { Performs (λ bytes. bytes.items) (words_of words.now) (seen F.content F.faults files.old files.new) (reading file) result }
 {
-    match files.fetch(alloc, name_of(words, file), FILE_LIMIT) {
+    match lasp_call::read_file(alloc, words, file, files) {
         Ok(bytes) => Ok(bytes),
-        Err(Fetch::Failed) => Err(SiteFailure::ReadFault(file)),
-        Err(Fetch::TooLong) => Err(shared(Refusal::TooLong(file))),
-        Err(Fetch::Memory) => Err(SiteFailure::Memory),
-    }
-}
-
-fn graph_from(alloc: Global, bytes: &[u8], lib: &Library) -> Result<Arc<Graph>, SiteFailure>
-    ensures exact { Gives arc_value (refusing graph_refused (graph_of (library_of lib.now) bytes.now)) result }
-    ensures graph { IfOk result (λ g. IsGraph (arc_value g)) }
-    ensures fits { IfOk result (λ g. FitsAll (library_of lib.now) (arc_value g)) }
-{
-    accepted_graphs_are_lawful();
-    match read_graph(alloc, bytes, lib) {
-        Ok(graph) => match Arc::new(alloc, graph) {
-            Ok(graph) => Ok(graph),
-            Err(_) => Err(SiteFailure::Memory),
-        },
-        Err(GraphRefused::At { number, why }) => Err(shared(Refusal::Graph(number, why))),
-        Err(GraphRefused::Memory) => Err(SiteFailure::Memory),
-    }
-}
-
-fn script_from(
-    alloc: Global,
-    graph: &Graph,
-    bytes: &[u8],
-    lib: &Library,
-) -> Result<Script, SiteFailure>
-    ensures exact { Gives (λ s. s) (refusing script_refused (script_of (library_of lib.now) graph.now bytes.now)) result }
-    ensures lawful { IfOk result (λ s. IsLawful graph.now s) }
-    ensures limits { IfOk result (λ s. IsWithinLimits s) }
-{
-    match read_script(alloc, bytes, graph, lib) {
-        Ok(script) => Ok(script),
-        Err(ScriptRefused::At { number, why }) => Err(shared(Refusal::Script(number, why))),
-        Err(ScriptRefused::Memory) => Err(SiteFailure::Memory),
+        Err(failure) => Err(shared_failure(failure)),
     }
 }
 
@@ -111,9 +71,9 @@ pub(crate) fn open_graph<F: Files>(
     ensures graph { IfOk result (λ g. IsGraph (arc_value g)) }
     ensures fits { IfOk result (λ g. FitsAll (library_of lib.now) (arc_value g)) }
 {
-    match read_file(alloc, words, 0, files) {
-        Ok(bytes) => graph_from(alloc, &bytes, lib),
-        Err(failure) => Err(failure),
+    match lasp_call::open_graph(alloc, words, 0, files, lib) {
+        Ok(graph) => Ok(graph),
+        Err(failure) => Err(shared_failure(failure)),
     }
 }
 
@@ -125,15 +85,16 @@ pub(crate) fn open_script<F: Files>(
     files: &mut F,
     lib: &Library,
 ) -> Result<Script, SiteFailure>
-    requires { 3 < length words.now }
+    requires words { 3 < length words.now }
+    requires fits { FitsAll (library_of lib.now) graph.now }
     ensures same { AreUnchanged F.content files.old files.new }
     ensures later { AreLater F.faults files.old files.new }
     ensures part { Performs (λ s. s) (words_of words.now) (seen F.content F.faults files.old files.new) (scripting (library_of lib.now) graph.now) result }
     ensures lawful { IfOk result (λ s. IsLawful graph.now s) }
     ensures limits { IfOk result (λ s. IsWithinLimits s) }
 {
-    match read_file(alloc, words, 3, files) {
-        Ok(bytes) => script_from(alloc, graph, &bytes, lib),
-        Err(failure) => Err(failure),
+    match lasp_call::open_script(alloc, words, 3, graph, files, lib) {
+        Ok(script) => Ok(script),
+        Err(failure) => Err(shared_failure(failure)),
     }
 }

@@ -13,7 +13,8 @@ ghost use Rattle.model_site.specs.Program.{site_of, opening, is_for, filing_more
 ghost use Rattle.model_site.specs.Site.{AreOwn};
 ghost use Rattle.lasp_graph.specs.Library.{library_of};
 ghost use Rattle.lasp_site.specs.Site.{IsSiteNode};
-ghost use Rattle.lasp_site.specs.Words.{words_of, answered};
+ghost use Rattle.lasp_call.specs.Words.{words_of};
+ghost use Rattle.lasp_site.specs.Failure.{answered};
 
 use crate::ending::end;
 use crate::open::{open_graph, open_script, shared};

@@ -2,51 +2,32 @@
 
 ghost use Rattle.std.specs.Prelude.{◌≡◌, ◌<◌, ◌-◌, IfOk, length, true};
 ghost use Rattle.std.specs.Arc.{arc_value};
-ghost use Rattle.model_graph.specs.Chain.{refusing};
 ghost use Rattle.model_graph.specs.Graph.{name_at};
 ghost use Rattle.model_wire.specs.Lawful.{IsMessage};
-ghost use Rattle.model_wire.specs.Message.{decoded};
 ghost use Rattle.model_world.specs.Command.{Script};
-ghost use Rattle.model_world.specs.World.{Peer, fresh_peer};
+ghost use Rattle.model_world.specs.World.{fresh_peer};
 ghost use Rattle.model_program.specs.Merge.{may_take};
 ghost use Rattle.model_program.specs.Call.{AreUnchanged, AreLater, seen};
 ghost use Rattle.model_site.specs.Follows.{Gives, Performs};
 ghost use Rattle.model_site.specs.Plan.{Says};
 ghost use Rattle.model_site.specs.Program.{stating, filing, filing_more, site_answer};
-ghost use Rattle.model_site.specs.Site.{state_refused, message_taken, file_taken, state_taken};
+ghost use Rattle.model_site.specs.Site.{message_taken, file_taken, state_taken};
 ghost use Rattle.model_site.specs.declared.site_refusal.SiteRefusal.TheVariants as refusal;
-ghost use Rattle.lasp_site.specs.Site.{peer_by, IsSiteNode, IsAsked, IsRefusal, ComesTo};
-ghost use Rattle.lasp_site.specs.Words.{words_of};
+ghost use Rattle.lasp_call.specs.Message.{peer_by};
+ghost use Rattle.lasp_site.specs.Failure.{IsRefusal};
+ghost use Rattle.lasp_site.specs.Site.{IsSiteNode, ComesTo};
+ghost use Rattle.lasp_call.specs.Words.{words_of};
 
-use crate::open::{read_file, shared};
-use lasp_core::begins;
+use crate::open::{read_file, shared, shared_failure};
+use lasp_call::{may_take, read_message};
 use lasp_drive::{Node, NodeStop};
 use lasp_edge::Files;
 use lasp_graph::Graph;
-use lasp_wire::{Counts, Message, WireRefused, decode};
+use lasp_wire::Message;
 use model_program::{Refusal, StateWhy};
 use model_site::{SiteFailure, SiteRefusal};
-use std::alloc::{AllocError, Global};
+use std::alloc::Global;
 use std::sync::Arc;
-
-/// The message that the bytes of a file are.
-fn read_message(alloc: Global, file: usize, bytes: &[u8]) -> Result<Arc<Message>, SiteFailure>
-    ensures exact { Gives (λ m. arc_value m) (refusing (state_refused file) (decoded bytes.now)) result }
-    ensures lawful { IfOk result (λ m. IsMessage (arc_value m)) }
-{
-    match decode(alloc, bytes) {
-        Ok(message) => match Arc::new(alloc, message) {
-            Ok(message) => Ok(message),
-            Err(_) => Err(SiteFailure::Memory),
-        },
-        Err(WireRefused::At { place, why }) => Err(shared(Refusal::State(
-            file,
-            place,
-            StateWhy::Wire(why),
-        ))),
-        Err(WireRefused::Memory) => Err(SiteFailure::Memory),
-    }
-}
 
 /// The refusal of a file with whose state a variable is too large.
 fn too_large(graph: &Graph, file: usize, me: u8, var: u8) -> SiteFailure
@@ -57,30 +38,6 @@ fn too_large(graph: &Graph, file: usize, me: u8, var: u8) -> SiteFailure
         Ok(name) => SiteFailure::Refused(SiteRefusal::FileTooLarge(file, me, name)),
         Err(_) => SiteFailure::Memory,
     }
-}
-
-/// Whether a node that knows these counts may take a message: it is of the graph, and of as many nodes.
-fn fits(graph: &Graph, counts: &Counts, message: &Message) -> bool
-    ensures { (r : Peer) → r.counts ≡ counts.now → result ≡ may_take graph.now r message.now }
-{
-    begins(graph, message) && message.counts().len() == counts.len()
-}
-
-/// Whether a node may take a message.
-#[tactic(auto, using(crate::proofs::NodeLaws::asked))]
-fn may_take<N: Node>(
-    alloc: Global,
-    graph: &Graph,
-    me: u8,
-    node: &mut N,
-    message: &Message,
-) -> Result<bool, AllocError>
-    requires { IsSiteNode me graph.now (N.view node.old) }
-    ensures taken { IfOk result (λ taken. taken ≡ may_take graph.now (N.view node.old).peer message.now) }
-    ensures asked { IsAsked me graph.now (N.view node.old) (N.view node.new) }
-{
-    let counts = node.counts(alloc)?;
-    Ok(fits(graph, &counts, message))
 }
 
 /// The node after a message that it may take.
@@ -125,7 +82,7 @@ fn take_message<N: Node>(
     ensures node { IfOk result (λ n. IsSiteNode me graph.now (N.view n)) }
     ensures among { IfOk result (λ n. (N.view n).among ≡ (N.view node).among) }
 {
-    match may_take(alloc, graph, me, &mut node, message) {
+    match may_take(alloc, graph, &mut node, message) {
         Ok(true) => take(alloc, graph, me, file, node, message),
         Ok(false) => Err(shared(Refusal::State(file, 0, StateWhy::WrongGraph))),
         Err(_) => Err(SiteFailure::Memory),
@@ -149,7 +106,7 @@ fn take_bytes<N: Node>(
 {
     match read_message(alloc, file, bytes) {
         Ok(message) => take_message(alloc, graph, me, file, node, &message),
-        Err(failure) => Err(failure),
+        Err(failure) => Err(shared_failure(failure)),
     }
 }
 

@@ -17,9 +17,11 @@ ghost use Rattle.lasp_graph.specs.Library.{library_of};
 ghost use Rattle.lasp_script.specs.Command.{command_of};
 ghost use Rattle.lasp_state.specs.State.{op_of};
 ghost use Rattle.lasp_value.specs.Value.{val_of};
-ghost use Rattle.lasp_site.specs.Site.{peer_by, IsSiteNode, IsAsked, IsRefusal, MayDo, IsOperationOf};
+ghost use Rattle.lasp_call.specs.Message.{peer_by};
+ghost use Rattle.lasp_site.specs.Failure.{IsRefusal};
+ghost use Rattle.lasp_site.specs.Site.{IsSiteNode, IsAsked, MayDo, IsOperationOf};
 
-use crate::open::shared;
+use crate::open::shared_failure;
 use lasp_drive::{Node, NodeStop};
 use lasp_fns::Library;
 use lasp_graph::Graph;
@@ -27,7 +29,6 @@ use lasp_script::{Command, Script};
 use lasp_state::Op;
 use lasp_value::Value;
 use lasp_wire::{encode, recall_value};
-use model_program::Refusal;
 use model_site::{SiteFailure, SiteRefusal};
 use std::alloc::{AllocError, Global};
 
@@ -39,10 +40,7 @@ fn too_large(graph: &Graph, number: u32, me: u8, var: u8) -> SiteFailure
     requires { var < length graph.now }
     ensures { IsRefusal (Shared (refusal.TooLarge number me (name_at graph.now var))) result }
 {
-    match graph.at(u64::from(var)).name.try_clone() {
-        Ok(name) => shared(Refusal::TooLarge(number, me, name)),
-        Err(_) => SiteFailure::Memory,
-    }
+    shared_failure(lasp_call::too_large(graph, number, me, var))
 }
 
 /// Whether the node's replica has made as many updates as it may.

@@ -1,22 +1,10 @@
 //! The words of a site: GRAPH, NODE, STATE, SCRIPT and the names of 0 to 8 files.
 
 ghost use Rattle.std.specs.Prelude.{◌≡◌, ◌<◌, IfSome, length};
-ghost use Rattle.lasp_site.specs.Words.{words_of};
-ghost use Rattle.model_program.specs.Program.{node_word};
+ghost use Rattle.lasp_call.specs.Words.{words_of};
 ghost use Rattle.model_site.specs.Program.{site_of};
 
-use crate::number::number_in;
-
-/// A node's number, 0 to 7.
-fn node_word(word: &str) -> Option<u8>
-    ensures exact { result ≡ node_word word.now }
-    ensures few { IfSome result (λ node. node < 8) }
-{
-    match number_in(word, 0, 7) {
-        Some(node) => Some(node as u8),
-        None => None,
-    }
-}
+use lasp_call::node_word;
 
 /// The site's number, where the words are of the listed form. Then they name the graph, the state, the script and the files.
 #[tactic(auto, unfolding(model_site::specs::Program::site_of))]

@@ -12,7 +12,7 @@ ghost use Rattle.lasp_fns.specs.Answers.{Answers};
 ghost use Rattle.lasp_program.specs.Call.{bytes_of, TextsOrNone};
 ghost use Rattle.lasp_program.specs.Functions.{program_maps, program_predicates, program_lifts, program_library};
 ghost use Rattle.lasp_program.specs.Tables.{map_entry, predicate_entry, lift_entry};
-ghost use Rattle.lasp_site.specs.Words.{words_of};
+ghost use Rattle.lasp_call.specs.Words.{words_of};
 
 use lasp_edge::{Files, Sink};
 use lasp_fns::{Library, LiftOp, MapOp, apply_lift, apply_map, apply_pred};

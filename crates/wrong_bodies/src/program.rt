@@ -2,7 +2,7 @@
 
 ghost use Rattle.lasp_graph.specs.Library.{library_of};
 ghost use Rattle.model_program.specs.Call.{reading_of, writing_of, IsAnswered};
-ghost use Rattle.lasp_run.specs.Words.{words_of};
+ghost use Rattle.lasp_call.specs.Words.{words_of};
 
 use lasp_edge::{Files, Sink};
 use lasp_fns::Library;

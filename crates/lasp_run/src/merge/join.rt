@@ -1,15 +1,15 @@
 //! The message of a file, joined into the node that has those of the files before it.
 
 ghost use Rattle.std.specs.Prelude.{◌≡◌, ◌<◌, ◌+◌, Some, None, IfOk, length, true};
-ghost use Rattle.lasp_run.specs.Prelude.{arc_value, refusing, name_at, Peer, IsMessage, decoded, Gives, state_refused, may_take, message_joined, file_joined, peer_by, IsReplica, IsRefusal};
+ghost use Rattle.lasp_run.specs.Prelude.{arc_value, name_at, IsMessage, Gives, may_take, message_joined, file_joined, peer_by, IsReplica, IsRefusal};
 ghost use Rattle.model_program.specs.declared.refusal.Refusal.TheVariants as refusal;
 
-use lasp_core::begins;
+use lasp_call::{may_take, read_message};
 use lasp_drive::{FreshNode, Node, NodeStop};
 use lasp_graph::Graph;
-use lasp_wire::{Counts, Message, WireRefused, decode};
+use lasp_wire::Message;
 use model_program::{Failure, Refusal, StateWhy};
-use std::alloc::{AllocError, Global};
+use std::alloc::Global;
 use std::sync::Arc;
 
 /// The place of a file's name among the words, the files being counted from 0.
@@ -19,57 +19,12 @@ fn place_of(number: u8) -> usize
     usize::from(number) + 2
 }
 
-/// The message that the bytes of a file are.
-fn read_message(alloc: Global, number: u8, bytes: &[u8]) -> Result<Arc<Message>, Failure>
-    ensures exact { Gives (λ m. arc_value m) (refusing (state_refused number) (decoded bytes.now)) result }
-    ensures lawful { IfOk result (λ m. IsMessage (arc_value m)) }
-{
-    match decode(alloc, bytes) {
-        Ok(message) => match Arc::new(alloc, message) {
-            Ok(shared) => Ok(shared),
-            Err(_) => Err(Failure::Memory),
-        },
-        Err(WireRefused::At { place, why }) => Err(Failure::Refused(Refusal::State(
-            place_of(number),
-            place,
-            StateWhy::Wire(why),
-        ))),
-        Err(WireRefused::Memory) => Err(Failure::Memory),
-    }
-}
-
 /// The refusal of a file, or of what stands after all, where a variable is too large.
 pub fn too_large(graph: &Graph, number: u8, var: u8) -> Failure
     requires { var < length graph.now }
     ensures { IsRefusal (refusal.TooLarge number 0 (name_at graph.now var)) result }
 {
-    match graph.at(u64::from(var)).name.try_clone() {
-        Ok(name) => Failure::Refused(Refusal::TooLarge(u32::from(number), 0, name)),
-        Err(_) => Failure::Memory,
-    }
-}
-
-/// Whether a node that knows these counts may take a message: it is of the graph, and of as many nodes.
-fn fits(graph: &Graph, counts: &Counts, message: &Message) -> bool
-    ensures { (r : Peer) → r.counts ≡ counts.now → result ≡ may_take graph.now r message.now }
-{
-    begins(graph, message) && message.counts().len() == counts.len()
-}
-
-/// Whether a node may take a message.
-fn may_take<N: Node>(
-    alloc: Global,
-    graph: &Graph,
-    node: &mut N,
-    message: &Message,
-) -> Result<bool, AllocError>
-    requires { IsReplica graph.now (N.view node.old) }
-    ensures taken { IfOk result (λ taken. taken ≡ may_take graph.now (N.view node.old).peer message.now) }
-    ensures peer { (N.view node.new).peer ≡ (N.view node.old).peer }
-    ensures node { IsReplica graph.now (N.view node.new) }
-{
-    let counts = node.counts(alloc)?;
-    Ok(fits(graph, &counts, message))
+    lasp_call::too_large(graph, u32::from(number), 0, var)
 }
 
 #[tactic(auto, using(crate::proofs::JoinLaws::replicas))]
@@ -129,7 +84,7 @@ pub fn join_first<N: FreshNode>(
     ensures exact { Gives (peer_by N.view) (file_joined (arc_value graph.now) 0 None bytes.now) result }
     ensures node { IfOk result (λ node. IsReplica (arc_value graph.now) (N.view node)) }
 {
-    match read_message(alloc, 0, bytes) {
+    match read_message(alloc, place_of(0), bytes) {
         Ok(message) => match N::new(alloc, graph, 0, message.counts().len() as u8) {
             Ok(node) => join(alloc, graph, 0, node, &message),
             Err(_) => Err(Failure::Memory),
@@ -150,7 +105,7 @@ pub fn join_next<N: Node>(
     ensures exact { Gives (peer_by N.view) (file_joined graph.now number (Some (N.view node).peer) bytes.now) result }
     ensures node { IfOk result (λ node. IsReplica graph.now (N.view node)) }
 {
-    match read_message(alloc, number, bytes) {
+    match read_message(alloc, place_of(number), bytes) {
         Ok(message) => join(alloc, graph, number, node, &message),
         Err(failure) => Err(failure),
     }

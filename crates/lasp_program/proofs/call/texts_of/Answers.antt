@@ -2,7 +2,7 @@ use Rattle.std.proofs.Common.{◌≡◌, List, ℕ, ap, subst, ◌∙◌, arith,
 use Rattle.std.specs.Prelude.{slice_get, Some}
 use Rattle.std.specs.Str.{IsUtf8}
 use Rattle.std.proofs.lemmas.Option.{slice_get_read}
-use Rattle.lasp_run.specs.Words.{words_of}
+use Rattle.lasp_call.specs.Words.{words_of}
 use Rattle.lasp_program.proofs.CallLaws.{texts-more, bytes-more, texts-none, texts-all}
 use Rattle.lasp_program.proofs.call.texts_of.Goals as goal
 

@@ -1,6 +1,6 @@
 use Rattle.std.proofs.Common.{◌≡◌, take}
 use Rattle.model_program.specs.Call.{AreTexts}
-use Rattle.lasp_run.specs.Words.{words_of}
+use Rattle.lasp_call.specs.Words.{words_of}
 use Rattle.lasp_program.specs.Call.{bytes_of}
 use Rattle.lasp_program.proofs.call.texts_of.Given as goal
 

@@ -3,7 +3,7 @@ use Rattle.model_program.specs.Plan.{Says, exactly}
 use Rattle.model_program.specs.Follows.{view}
 use Rattle.model_program.specs.Dots.{dots_answer}
 use Rattle.model_program.proofs.PlanLaws.{part-itself, follows-says}
-use Rattle.lasp_run.specs.Words.{words_of, answered}
+use Rattle.lasp_call.specs.Words.{words_of, answered}
 use Rattle.lasp_run.proofs.PartLaws.{gives-answered}
 use Rattle.lasp_run.proofs.dots.answer_dots.Goals as goal
 

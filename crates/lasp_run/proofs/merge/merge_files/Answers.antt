@@ -6,7 +6,7 @@ use Rattle.model_program.specs.Plan.{Plan}
 use Rattle.model_program.specs.Follows.{View, view, IsPartOf, Follows}
 use Rattle.model_program.specs.Merge.{merging_more}
 use Rattle.model_program.proofs.PlanLaws.{follows-wider}
-use Rattle.lasp_run.specs.Words.{words_of, answered}
+use Rattle.lasp_call.specs.Words.{words_of, answered}
 use Rattle.lasp_run.proofs.merge.merge_files.Goals as goal
 
 pub returns-in-Ok-clause-follows : goal.returns-in-Ok-clause-follows

@@ -2,8 +2,8 @@ use Rattle.std.proofs.Common.{List, ℕ, None, subst}
 use Rattle.std.specs.Arc.{arc_value}
 use Rattle.model_program.specs.Follows.{View, view, Gives}
 use Rattle.model_program.specs.Merge.{file_joined}
-use Rattle.lasp_run.specs.Merge.{peer_by}
-use Rattle.lasp_run.specs.Words.{words_of}
+use Rattle.lasp_call.specs.Message.{peer_by}
+use Rattle.lasp_call.specs.Words.{words_of}
 use Rattle.lasp_run.proofs.MergeLaws.{performs-file}
 use Rattle.lasp_run.proofs.merge.merge_first.Goals as goal
 

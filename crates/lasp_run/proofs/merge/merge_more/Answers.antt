@@ -1,6 +1,6 @@
 use Rattle.model_program.specs.Follows.{View, view}
 use Rattle.model_program.proofs.PlanLaws.{part-itself, follows-says}
-use Rattle.lasp_run.specs.Words.{words_of, answered}
+use Rattle.lasp_call.specs.Words.{words_of, answered}
 use Rattle.lasp_run.proofs.PartLaws.{gives-answered}
 use Rattle.lasp_run.proofs.merge.merge_more.Goals as goal
 

@@ -2,7 +2,7 @@ use Rattle.std.proofs.Common.{◌≡◌, ◌+◌, ◌-◌, ◌≤◌, ℕ, lengt
 use Rattle.model_program.specs.Plan.{Plan}
 use Rattle.model_program.specs.Follows.{View, view, IsPartOf}
 use Rattle.model_program.specs.Merge.{merging_more}
-use Rattle.lasp_run.specs.Words.{words_of}
+use Rattle.lasp_call.specs.Words.{words_of}
 use Rattle.lasp_run.proofs.MergeLaws.{leads-file, ends-file, leads-end}
 use Rattle.lasp_run.proofs.merge.merge_rest.Goals as goal
 

@@ -2,7 +2,7 @@ use Rattle.std.proofs.Common.{◌≡◌, ◌≤◌, ◌+◌, ◌-◌, ℕ, List,
 use Rattle.model_program.specs.Follows.{view}
 use Rattle.model_program.specs.Merge.{merging_more}
 use Rattle.lasp_run.specs.Merge.{IsReplica, Leads}
-use Rattle.lasp_run.specs.Words.{words_of}
+use Rattle.lasp_call.specs.Words.{words_of}
 use Rattle.lasp_run.proofs.merge.merge_rest.Given as goal
 
 abbrev pub invariant-loop-number : goal.invariant-loop-number

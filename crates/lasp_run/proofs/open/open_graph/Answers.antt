@@ -1,16 +1,12 @@
-use Rattle.std.proofs.Common.{List, ℕ, subst}
-use Rattle.model_graph.specs.Chain.{refusing}
-use Rattle.model_graph.specs.Graph.{Decl}
+use Rattle.std.specs.Arc.{arc_value}
 use Rattle.model_readings.specs.Graph.{graph_of}
-use Rattle.model_program.specs.Follows.{view, Gives}
+use Rattle.model_program.specs.Follows.{view}
 use Rattle.model_program.specs.Program.{graph_refused}
-use Rattle.model_program.proofs.PlanLaws.{performs-checked}
 use Rattle.lasp_graph.specs.Library.{library_of}
-use Rattle.lasp_run.specs.Words.{words_of}
+use Rattle.lasp_call.specs.Words.{words_of}
+use Rattle.lasp_run.proofs.OpenLaws.{performs-opens}
 use Rattle.lasp_run.proofs.open.open_graph.Goals as goal
 
-pub returns-in-Ok-clause-part : goal.returns-in-Ok-clause-part
-returns-in-Ok-clause-part g c =
-    performs-checked (λ (graph : List Decl). graph) (words_of c.args.words.now) (view (g.F.Files.content c.args.files.now) (g.F.Files.faults c.args.files.now) (g.F.Files.faults c.read_file.new.files)) 1 c.in-Ok.bytes.items
-    graph_refused (graph_of (library_of c.args.lib.now)) c.graph_from.result c.in-Ok.ensures.part
-    (subst (λ (bytes : List ℕ). Gives (λ (graph : List Decl). graph) (refusing graph_refused (graph_of (library_of c.args.lib.now) bytes)) c.graph_from.result) c.deref.ensures.value c.graph_from.ensures.exact)
+pub returns-clause-part : goal.returns-clause-part
+returns-clause-part g c =
+    performs-opens arc_value (words_of c.args.words.now) (view (g.F.Files.content c.args.files.now) (g.F.Files.faults c.args.files.now) (g.F.Files.faults c.open_graph.new.files)) 1 graph_refused (graph_of (library_of c.args.lib.now)) c.open_graph.result c.open_graph.ensures.opens

@@ -6,14 +6,14 @@ use Rattle.model_world.specs.Command.{Script}
 use Rattle.model_program.specs.Follows.{View, view, IsPartOf, Part, Passes, Stops}
 use Rattle.model_program.specs.Program.{opening, scripting}
 use Rattle.lasp_graph.specs.Library.{library_of}
-use Rattle.lasp_run.specs.Words.{words_of}
+use Rattle.lasp_call.specs.Words.{words_of}
 use Rattle.lasp_run.proofs.PartLaws.{passes-then, stops-then, stops-first}
 use Rattle.lasp_run.proofs.open.open_run.Goals as goal
 
 pub returns-in-Ok-open_script-clause-part : goal.returns-in-Ok-open_script-clause-part
 returns-in-Ok-open_script-clause-part g c =
-    let first : View = view (g.F.Files.content c.args.files.now) (g.F.Files.faults c.args.files.now) (g.F.Files.faults c.open_shared.new.files) in
-    let second : View = view (g.F.Files.content c.open_shared.new.files) (g.F.Files.faults c.open_shared.new.files) (g.F.Files.faults c.open_script.new.files) in
+    let first : View = view (g.F.Files.content c.args.files.now) (g.F.Files.faults c.args.files.now) (g.F.Files.faults c.open_graph.new.files) in
+    let second : View = view (g.F.Files.content c.open_graph.new.files) (g.F.Files.faults c.open_graph.new.files) (g.F.Files.faults c.open_script.new.files) in
     let whole : View = view (g.F.Files.content c.args.files.now) (g.F.Files.faults c.args.files.now) (g.F.Files.faults c.open_script.new.files) in
     let early : IsPartOf first whole = record { content = λ n. refl; before = λ n. omega arith; after = λ n. c.in-Ok-open_script.ensures.later n } in
     let late : IsPartOf second whole = record { content = λ n. c.in-Ok.ensures.same n; before = λ n. c.in-Ok.ensures.later n; after = λ n. omega arith } in
@@ -25,8 +25,8 @@ returns-in-Ok-open_script-clause-part g c =
 
 pub returns-in-Err-open_script-clause-part : goal.returns-in-Err-open_script-clause-part
 returns-in-Err-open_script-clause-part g c =
-    let first : View = view (g.F.Files.content c.args.files.now) (g.F.Files.faults c.args.files.now) (g.F.Files.faults c.open_shared.new.files) in
-    let second : View = view (g.F.Files.content c.open_shared.new.files) (g.F.Files.faults c.open_shared.new.files) (g.F.Files.faults c.open_script.new.files) in
+    let first : View = view (g.F.Files.content c.args.files.now) (g.F.Files.faults c.args.files.now) (g.F.Files.faults c.open_graph.new.files) in
+    let second : View = view (g.F.Files.content c.open_graph.new.files) (g.F.Files.faults c.open_graph.new.files) (g.F.Files.faults c.open_script.new.files) in
     let whole : View = view (g.F.Files.content c.args.files.now) (g.F.Files.faults c.args.files.now) (g.F.Files.faults c.open_script.new.files) in
     let early : IsPartOf first whole = record { content = λ n. refl; before = λ n. omega arith; after = λ n. c.in-Err-open_script.ensures.later n } in
     let late : IsPartOf second whole = record { content = λ n. c.in-Ok.ensures.same n; before = λ n. c.in-Ok.ensures.later n; after = λ n. omega arith } in
@@ -38,6 +38,6 @@ returns-in-Err-open_script-clause-part g c =
 
 pub returns-in-Err-clause-part : goal.returns-in-Err-clause-part
 returns-in-Err-clause-part g c =
-    let first : View = view (g.F.Files.content c.args.files.now) (g.F.Files.faults c.args.files.now) (g.F.Files.faults c.open_shared.new.files) in
+    let first : View = view (g.F.Files.content c.args.files.now) (g.F.Files.faults c.args.files.now) (g.F.Files.faults c.open_graph.new.files) in
     let both : List Decl → Part (List Decl × Script) = λ graph next. scripting (library_of c.args.lib.now) graph (λ script. next (graph, script)) in
     stops-first (words_of c.args.words.now) first (opening (library_of c.args.lib.now)) both c.in-Err.failure c.in-Err.ensures.part

@@ -1,16 +1,12 @@
-use Rattle.std.proofs.Common.{List, ℕ, subst}
-use Rattle.model_graph.specs.Chain.{refusing}
 use Rattle.model_world.specs.Command.{Script}
 use Rattle.model_scripts.specs.Script.{script_of}
-use Rattle.model_program.specs.Follows.{view, Gives}
+use Rattle.model_program.specs.Follows.{view}
 use Rattle.model_program.specs.Program.{script_refused}
-use Rattle.model_program.proofs.PlanLaws.{performs-checked}
 use Rattle.lasp_graph.specs.Library.{library_of}
-use Rattle.lasp_run.specs.Words.{words_of}
+use Rattle.lasp_call.specs.Words.{words_of}
+use Rattle.lasp_run.proofs.OpenLaws.{performs-opens}
 use Rattle.lasp_run.proofs.open.open_script.Goals as goal
 
-pub returns-in-Ok-clause-part : goal.returns-in-Ok-clause-part
-returns-in-Ok-clause-part g c =
-    performs-checked (λ (script : Script). script) (words_of c.args.words.now) (view (g.F.Files.content c.args.files.now) (g.F.Files.faults c.args.files.now) (g.F.Files.faults c.read_file.new.files)) 2 c.in-Ok.bytes.items
-    script_refused (script_of (library_of c.args.lib.now) c.args.graph.now) c.script_from.result c.in-Ok.ensures.part
-    (subst (λ (bytes : List ℕ). Gives (λ (script : Script). script) (refusing script_refused (script_of (library_of c.args.lib.now) c.args.graph.now bytes)) c.script_from.result) c.deref.ensures.value c.script_from.ensures.exact)
+pub returns-clause-part : goal.returns-clause-part
+returns-clause-part g c =
+    performs-opens (λ (s : Script). s) (words_of c.args.words.now) (view (g.F.Files.content c.args.files.now) (g.F.Files.faults c.args.files.now) (g.F.Files.faults c.open_script.new.files)) 2 script_refused (script_of (library_of c.args.lib.now) c.args.graph.now) c.open_script.result c.open_script.ensures.opens

@@ -7,7 +7,7 @@ use Rattle.model_program.specs.declared.form.Form.{Form}
 use Rattle.model_program.specs.declared.failure.Failure.TheVariants.{Refused}
 use Rattle.model_program.specs.declared.refusal.Refusal.TheVariants.{Usage}
 use Rattle.lasp_graph.specs.Library.{library_of}
-use Rattle.lasp_run.specs.Words.{words_of}
+use Rattle.lasp_call.specs.Words.{words_of}
 use Rattle.lasp_run.proofs.program.answer.Goals as goal
 
 pub returns-in-Wrong-clause-follows : goal.returns-in-Wrong-clause-follows

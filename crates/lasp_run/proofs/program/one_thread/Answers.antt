@@ -1,5 +1,5 @@
 use Rattle.model_program.proofs.PromiseLaws.{call-answered}
-use Rattle.lasp_run.specs.Words.{answered}
+use Rattle.lasp_call.specs.Words.{answered}
 use Rattle.lasp_run.proofs.program.one_thread.Goals as goal
 
 pub returns : goal.returns

@@ -6,7 +6,7 @@ use Rattle.model_program.specs.Program.{export_answer}
 use Rattle.model_program.specs.declared.refusal.Refusal.{Refusal}
 use Rattle.lasp_graph.specs.Library.{library_of}
 use Rattle.lasp_run.specs.Run.{opened_of, opening_run}
-use Rattle.lasp_run.specs.Words.{words_of}
+use Rattle.lasp_call.specs.Words.{words_of}
 use Rattle.lasp_run.proofs.PartLaws.{follows-part, follows-stop}
 use Rattle.lasp_run.proofs.run.run_export.Goals as goal
 

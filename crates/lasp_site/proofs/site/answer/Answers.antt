@@ -8,7 +8,7 @@ use Rattle.model_site.specs.declared.site_failure.SiteFailure.TheVariants.{Refus
 use Rattle.model_site.specs.declared.site_refusal.SiteRefusal.TheVariants.{Shared}
 use Rattle.model_site.proofs.PlanLaws.{follows-says}
 use Rattle.lasp_graph.specs.Library.{library_of}
-use Rattle.lasp_site.specs.Words.{words_of}
+use Rattle.lasp_call.specs.Words.{words_of}
 use Rattle.lasp_site.proofs.site.answer.Goals as goal
 
 pub returns-in-None-clause-follows : goal.returns-in-None-clause-follows

@@ -1,5 +1,5 @@
 use Rattle.model_site.proofs.CallLaws.{call-answered}
-use Rattle.lasp_site.specs.Words.{answered}
+use Rattle.lasp_site.specs.Failure.{answered}
 use Rattle.lasp_site.proofs.site.answer_site.Goals as goal
 
 pub returns : goal.returns

@@ -2,7 +2,8 @@ use Rattle.std.proofs.Common.{◌-◌, length}
 use Rattle.std.specs.Arc.{arc_value}
 use Rattle.model_program.specs.Follows.{View, view}
 use Rattle.model_site.specs.Program.{is_for, taking_in}
-use Rattle.lasp_site.specs.Words.{words_of, answered}
+use Rattle.lasp_call.specs.Words.{words_of}
+use Rattle.lasp_site.specs.Failure.{answered}
 use Rattle.lasp_site.proofs.OwnLaws.{script-own, script-node, follows-given, follows-refused}
 use Rattle.lasp_site.proofs.site.run_script.Goals as goal
 

@@ -6,7 +6,8 @@ use Rattle.model_site.specs.Plan.{Plan}
 use Rattle.model_site.specs.Program.{opening, scripted}
 use Rattle.model_site.proofs.PlanLaws.{follows-then, follows-stop}
 use Rattle.lasp_graph.specs.Library.{library_of}
-use Rattle.lasp_site.specs.Words.{words_of, answered}
+use Rattle.lasp_call.specs.Words.{words_of}
+use Rattle.lasp_site.specs.Failure.{answered}
 use Rattle.lasp_site.proofs.site.run_words.Goals as goal
 
 pub returns-in-Ok-clause-follows : goal.returns-in-Ok-clause-follows

@@ -6,7 +6,8 @@ use Rattle.model_site.specs.Follows.{Passes, Stops}
 use Rattle.model_site.specs.Plan.{Plan}
 use Rattle.model_site.specs.Program.{stating, filing_more}
 use Rattle.model_site.proofs.PlanLaws.{follows-then, follows-stop}
-use Rattle.lasp_site.specs.Words.{words_of, answered}
+use Rattle.lasp_call.specs.Words.{words_of}
+use Rattle.lasp_site.specs.Failure.{answered}
 use Rattle.lasp_site.proofs.site.take_all.Goals as goal
 
 pub take_rest-requires-clause-lawful : goal.take_rest-requires-clause-lawful

@@ -3,7 +3,7 @@ use Rattle.std.specs.Arc.{arc_value}
 use Rattle.model_program.specs.Follows.{view}
 use Rattle.model_site.specs.Program.{taking_in}
 use Rattle.model_site.proofs.PlanLaws.{follows-memory}
-use Rattle.lasp_site.specs.Words.{words_of}
+use Rattle.lasp_call.specs.Words.{words_of}
 use Rattle.lasp_site.proofs.site.take_in.Goals as goal
 
 pub returns-in-Err-clause-follows : goal.returns-in-Err-clause-follows

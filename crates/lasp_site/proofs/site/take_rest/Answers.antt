@@ -3,7 +3,8 @@ use Rattle.model_world.specs.Lawful.{opening_stage, AreLawful}
 use Rattle.model_program.specs.Follows.{View, view}
 use Rattle.model_site.specs.Program.{site_answer}
 use Rattle.model_site.proofs.PlanLaws.{part-itself, follows-says}
-use Rattle.lasp_site.specs.Words.{words_of, answered}
+use Rattle.lasp_call.specs.Words.{words_of}
+use Rattle.lasp_site.specs.Failure.{answered}
 use Rattle.lasp_site.proofs.FileLaws.{gives-answered}
 use Rattle.lasp_site.proofs.site.take_rest.Goals as goal
 

@@ -3,8 +3,8 @@ use Rattle.model_program.specs.Follows.{View, view}
 use Rattle.model_site.specs.Follows.{Gives}
 use Rattle.model_site.specs.Site.{file_taken}
 use Rattle.model_site.proofs.PlanLaws.{performs-given}
-use Rattle.lasp_site.specs.Site.{peer_by}
-use Rattle.lasp_site.specs.Words.{words_of}
+use Rattle.lasp_call.specs.Message.{peer_by}
+use Rattle.lasp_call.specs.Words.{words_of}
 use Rattle.lasp_site.proofs.state.take_file.Goals as goal
 
 pub returns-in-Ok-clause-part : goal.returns-in-Ok-clause-part

@@ -2,7 +2,7 @@ use Rattle.std.proofs.Common.{◌≡◌, ◌+◌, ◌-◌, ◌≤◌, ℕ, lengt
 use Rattle.model_program.specs.Follows.{View, view, IsPartOf}
 use Rattle.model_site.specs.Plan.{Plan}
 use Rattle.model_site.specs.Program.{filing_more}
-use Rattle.lasp_site.specs.Words.{words_of}
+use Rattle.lasp_call.specs.Words.{words_of}
 use Rattle.lasp_site.proofs.FileLaws.{leads-file, ends-file, leads-end}
 use Rattle.lasp_site.proofs.state.take_files.Goals as goal
 

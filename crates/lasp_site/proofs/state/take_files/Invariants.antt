@@ -3,7 +3,7 @@ use Rattle.model_world.specs.Command.{Script}
 use Rattle.model_program.specs.Follows.{view}
 use Rattle.model_site.specs.Program.{filing_more}
 use Rattle.lasp_site.specs.Site.{IsSiteNode, Leads}
-use Rattle.lasp_site.specs.Words.{words_of}
+use Rattle.lasp_call.specs.Words.{words_of}
 use Rattle.lasp_site.proofs.state.take_files.Given as goal
 
 abbrev pub invariant-loop-file : goal.invariant-loop-file

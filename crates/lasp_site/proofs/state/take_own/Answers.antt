@@ -2,7 +2,7 @@ use Rattle.std.proofs.Common.{Result, sym, subst, ◌∙◌}
 use Rattle.model_world.specs.World.{Peer}
 use Rattle.model_site.specs.Follows.{Gives}
 use Rattle.model_site.specs.declared.site_refusal.SiteRefusal.{SiteRefusal}
-use Rattle.lasp_site.specs.Site.{peer_by}
+use Rattle.lasp_call.specs.Message.{peer_by}
 use Rattle.lasp_site.proofs.StateLaws.{own-none, own-some}
 use Rattle.lasp_site.proofs.state.take_own.Goals as goal
 

@@ -2,7 +2,7 @@ use Rattle.std.proofs.Common.{ℕ, refl, sym, subst, ◌∙◌, arith}
 use Rattle.model_world.specs.Lawful.{opening_stage, MayBeDone}
 use Rattle.model_site.specs.Site.{updates_done}
 use Rattle.lasp_script.specs.Command.{command_of}
-use Rattle.lasp_site.specs.Site.{peer_by}
+use Rattle.lasp_call.specs.Message.{peer_by}
 use Rattle.lasp_site.proofs.UpdateLaws.{may-each, commands-next, commands-stop, commands-end}
 use Rattle.lasp_site.proofs.update.do_commands.Goals as goal
 

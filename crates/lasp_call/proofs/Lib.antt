@@ -1,0 +1,3 @@
+pub mod MessageLaws
+pub mod OpenLaws
+pub mod TellLaws

@@ -1,5 +1,0 @@
-use Rattle.std.proofs.Common.{length}
-use Rattle.lasp_site.proofs.ending.line.+put_rest.Given as goal
-
-abbrev pub decreases-put_rest : goal.decreases-put_rest
-decreases-put_rest g l = length l.words.now
