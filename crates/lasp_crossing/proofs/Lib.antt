@@ -1,0 +1,10 @@
+pub mod Values
+pub mod Sets
+pub mod States
+pub mod Graphs
+pub mod Messages
+pub mod Replicas
+pub mod Cores
+pub mod Scripts
+pub mod Stores
+pub mod Crossing
