@@ -1,6 +1,6 @@
 -- Sites over time are the replicas of a world, beside which it is followed what each update brought: so each holds what is known by its counts.
 use Rattle.std.proofs.Common.{refl, sym, ap, subst, ◌∙◌, arith, append-nil, append_assoc}
-use Rattle.std.specs.Prelude.{◌≡◌, ◌<◌, ◌==◌, ℕ, zero, suc, ◌+◌, ◌++◌, Bool, true, false, if◌then◌else◌, IsTrue, List, [], ◌∷◌, length, map, replicate, slice_index_or, slice_set, Option, Ok}
+use Rattle.std.specs.Prelude.{◌≡◌, ◌<◌, ◌≤◌, ◌==◌, ℕ, zero, suc, ◌+◌, ◌++◌, Bool, true, false, if◌then◌else◌, IsTrue, List, [], ◌∷◌, length, map, replicate, slice_index_or, slice_set, Option, Ok}
 use Rattle.std.proofs.lemmas.Bool.{eqb-true, eq-eqb}
 use Rattle.model_states.specs.Counts.{count_at, larger, zeros, AreCountsAtMost}
 use Rattle.model_states.proofs.CountLaws.{count_at-set, count_at-zeros, larger-commutative, larger-at_most, length-zeros}
@@ -207,7 +207,7 @@ at-none (suc nodes) zero = refl
 at-none (suc nodes) (suc p) = at-none nodes p
 
 -- a replica that took several states in took them one after the other
-taking-append : (g : List Decl) (r : Peer) (ms ns : List Message) → taking g r (ms ++ ns) ≡ taking g (taking g r ms) ns
+pub taking-append : (g : List Decl) (r : Peer) (ms ns : List Message) → taking g r (ms ++ ns) ≡ taking g (taking g r ms) ns
 taking-append g r [] ns = refl
 taking-append g r (m ∷ ms) ns = taking-append g (delivered g m r) ms ns
 
@@ -264,9 +264,9 @@ mirror-none g nodes = record {
 }
 
 -- the world after a call
-mirror-more : (g : List Decl) (nodes : ℕ) (calls : List SiteCall) (sites next : Sites) (k : SiteCall) (f : Followed) → Mirrors g nodes calls sites f → IsCalled g nodes sites k next
-    → (end : Followed) × Mirrors g nodes (calls ++ k ∷ []) next end × (end.deltas ≡ brought_after g nodes sites k f.deltas)
-mirror-more g nodes calls sites next k f before call = (end, after, brought) where
+mirror-more : (g : List Decl) (nodes : ℕ) (calls : List SiteCall) (sites next : Sites) (k : SiteCall) (f : Followed) → Mirrors g nodes calls sites f → (call : IsCalled g nodes sites k next)
+    → (end : Followed) × Mirrors g nodes (calls ++ k ∷ []) next end × (end.deltas ≡ brought_after g nodes sites k f.deltas) × (told_by g nodes (message_at g call.last) ≡ call.last)
+mirror-more g nodes calls sites next k f before call = (end, after, brought, again) where
   p : ℕ
   p = k.site
 
@@ -367,6 +367,12 @@ calls-brought g nodes _ _ (more {calls = calls} {sites = sites} {next = next} {k
 mirrored : (g : List Decl) (nodes : ℕ) (calls : List SiteCall) (sites : Sites) → AreCalled g nodes calls sites → (f : Followed) × Mirrors g nodes calls sites f
 mirrored g nodes calls sites called = let all = calls-brought g nodes calls sites called in let same = mirrored-brought g nodes calls sites all.0 all.1 in (same.0, same.1)
 
+-- a site that goes on from the state of a call goes on from where that call came to
+pub goes-on : (g : List Decl) (nodes : ℕ) (calls : List SiteCall) (sites next : Sites) (k : SiteCall) → AreCalled g nodes calls sites → (call : IsCalled g nodes sites k next) → (length sites.kept ≡ nodes) × (told_by g nodes (message_at g call.last) ≡ call.last)
+goes-on g nodes calls sites next k called call =
+    let before = mirrored g nodes calls sites called in
+    (before.1.many, (mirror-more g nodes calls sites next k before.0 before.1 call).3)
+
 -- ---- in a user's words
 
 module _ (g : List Decl) (nodes : ℕ) (calls : List SiteCall) (sites : Sites) (called : AreCalled g nodes calls sites) where
@@ -453,6 +459,10 @@ module _ (g : List Decl) (nodes : ℕ) (calls : List SiteCall) (sites : Sites) (
   pub updates-made : (p : ℕ) → p < nodes → length (deltas_at all p) ≡ updates_by p calls
   updates-made p low = ap (λ (ds : List (List Delta)). length (deltas_at ds p)) (sym same-deltas) ∙ sym (mirrors.sound.own p low) ∙ mirrors.counted p low
 
+  -- no site counts more updates of any than that one made
+  pub counts-made : (p q : ℕ) → p < nodes → q < nodes → count_at (replica_of g nodes sites p).counts q ≤ updates_by q calls
+  counts-made p q low there = omega (arith, (site-holds p low).made q, updates-made q there)
+
   pub updates-stand : (p q j x : ℕ) → p < nodes → x < length g → j < count_at (replica_of g nodes sites p).counts q → (delta_at all q j).var ≡ x
       → IsContentAtMost (delta_at all q j).content (content_at (replica_of g nodes sites p).contents x)
   updates-stand p q j x low there counted e =
@@ -474,4 +484,4 @@ module _ (g : List Decl) (nodes : ℕ) (calls : List SiteCall) (sites : Sites) (
     carries = subst (λ (ds : List (List Delta)). Carries g nodes ds m) same-deltas (subst (λ (ms : List Message). Carries g nodes world.deltas (sent_number ms i)) mirrors.sent
         (subst (λ (h : List Decl). Carries h nodes world.deltas (sent_number world.run.sent i)) mirrors.graph (mirrors.sound.carries i)))
 
-pub ruleset standing = (calls-brought, updates-made, updates-stand, sites-know, states-know)
+pub ruleset standing = (calls-brought, updates-made, counts-made, updates-stand, sites-know, states-know)

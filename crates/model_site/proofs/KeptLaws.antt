@@ -31,11 +31,11 @@ use Rattle.model_site.proofs.WorldLaws.{update-passed, bound-ok}
 
 -- ---- what is taken in
 
-taking-grows : (g : List Decl) (r : Peer) (ms : List Message) → AreCountsAtMost r.counts (taking g r ms).counts
+pub taking-grows : (g : List Decl) (r : Peer) (ms : List Message) → AreCountsAtMost r.counts (taking g r ms).counts
 taking-grows g r [] q = omega arith
 taking-grows g r (m ∷ ms) q = omega (arith, count_at-larger r.counts m.counts q, taking-grows g (delivered g m r) ms q)
 
-taking-wide : (g : List Decl) (r : Peer) (ms : List Message) → length r.counts ≤ length (taking g r ms).counts
+pub taking-wide : (g : List Decl) (r : Peer) (ms : List Message) → length r.counts ≤ length (taking g r ms).counts
 taking-wide g r [] = omega arith
 taking-wide g r (m ∷ ms) = omega (arith, length-larger r.counts m.counts, taking-wide g (delivered g m r) ms)
 
@@ -48,7 +48,7 @@ taken-counted g r (m ∷ ms) (suc i) q = taken-counted g (delivered g m r) ms i 
 -- ---- updates
 
 -- what some updates of replica p did to its counts
-record HasCounted (p : ℕ) (many : ℕ) (before after : List ℕ) : Type 0 where
+pub record HasCounted (p : ℕ) (many : ℕ) (before after : List ℕ) : Type 0 where
   pub more : AreCountsAtMost before after
   pub own : count_at after p ≡ count_at before p + many
 
@@ -62,7 +62,7 @@ one-counted p x op r low = record {
   own = count_at-set r.counts p (count_at r.counts p + 1) p low ∙ ap (λ (b : Bool). if b then count_at r.counts p + 1 else count_at r.counts p) (eq-eqb p p refl);
 }
 
-all-counted : (p : ℕ) (g : List Decl) (c : ℕ) (r last : Peer) (commands : List Command) → p < length r.counts → AreOwn p commands → updates_done p g c r commands ≡ Ok last → HasCounted p (length commands) r.counts last.counts
+pub all-counted : (p : ℕ) (g : List Decl) (c : ℕ) (r last : Peer) (commands : List Command) → p < length r.counts → AreOwn p commands → updates_done p g c r commands ≡ Ok last → HasCounted p (length commands) r.counts last.counts
 all-counted p g c r last [] low mine e =
     let same : r ≡ last = ok-same r last (sym (none-left p g c r) ∙ e) in
     record { more = λ q. omega (arith, ap (λ (x : Peer). count_at x.counts q) same); own = omega (arith, ap (λ (x : Peer). count_at x.counts p) same) }

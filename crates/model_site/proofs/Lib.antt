@@ -10,3 +10,4 @@ pub mod StatusLaws
 pub mod KeptLaws
 pub mod CallLaws
 pub mod BackLaws
+pub mod GrowthLaws

@@ -1,15 +1,16 @@
 //! What who runs sites can rely on, whatever they exchange, however often and in whatever order. Each site goes on from its own last state, and no two share a number.
 
-ghost use Rattle.std.specs.Prelude.{◌≡◌, ◌<◌, ◌∷◌, ℕ, List, length, map};
+ghost use Rattle.std.specs.Prelude.{◌≡◌, ◌<◌, ◌≤◌, ◌∷◌, ℕ, List, length, map};
 ghost use Rattle.model_states.specs.Content.{IsContentAtMost};
 ghost use Rattle.model_states.specs.Counts.{count_at, AreCountsAtMost};
 ghost use Rattle.model_graph.specs.Graph.{Decl};
 ghost use Rattle.model_graph.specs.Evaluation.{content_at};
+ghost use Rattle.model_graph.specs.Order.{ContentsAtMost};
 ghost use Rattle.model_known.specs.Delta.{Delta, deltas_at, known_contents};
 ghost use Rattle.model_known.specs.Owner.{delta_at};
 ghost use Rattle.model_world.specs.World.{delivered, shown_at, sent_number};
 ghost use Rattle.model_program.specs.Merge.{merge_text, joined};
-ghost use Rattle.model_site.specs.History.{SiteCall, Sites, AreCalled, HaveBrought, updates_by, replica_of, told_by};
+ghost use Rattle.model_site.specs.History.{SiteCall, Sites, IsCalled, AreCalled, HaveBrought, updates_by, replica_of, told_by};
 
 /// Sites whose counts are equal hold the same and show the same, and so do two states with equal counts, whoever wrote them and when. No update is lost:
 /// a site counts each update that it made, and one that counts what a state counts has all that the state has, so that taking it in changes nothing.
@@ -33,15 +34,24 @@ pub fn sites_agree_and_lose_nothing()
 {}
 
 /// Each update of a site stands in every replica that counts it, whoever made it and by whatever way it came there; and nothing else stands there. After calls it is told what each update brought;
-/// a site counts as many updates of its own as it made; each of its variables has what the updates that it counts, of all sites, brought to it, and so has a state that was written.
+/// a site counts as many updates of its own as it made, and of no site more than that made; each of its variables has what the updates that it counts, of all sites, brought to it, and so has a state that was written.
 #[tactic(auto, using(crate::proofs::HistoryLaws::standing))]
 pub fn updates_stand_where_they_are_counted()
     ensures told { (g : List Decl) (nodes : ℕ) (calls : List SiteCall) (sites : Sites) → AreCalled g nodes calls sites → (all : List (List Delta)) × HaveBrought g nodes calls sites all }
     ensures made { (g : List Decl) (nodes : ℕ) (calls : List SiteCall) (sites : Sites) (all : List (List Delta)) → HaveBrought g nodes calls sites all → (p : ℕ) → p < nodes → length (deltas_at all p) ≡ updates_by p calls }
+    ensures counted { (g : List Decl) (nodes : ℕ) (calls : List SiteCall) (sites : Sites) (all : List (List Delta)) → HaveBrought g nodes calls sites all → (p q : ℕ) → p < nodes → q < nodes → count_at (replica_of g nodes sites p).counts q ≤ updates_by q calls }
     ensures stands { (g : List Decl) (nodes : ℕ) (calls : List SiteCall) (sites : Sites) (all : List (List Delta)) → HaveBrought g nodes calls sites all → (p q j x : ℕ) → p < nodes → x < length g
         → j < count_at (replica_of g nodes sites p).counts q → (delta_at all q j).var ≡ x → IsContentAtMost (delta_at all q j).content (content_at (replica_of g nodes sites p).contents x) }
     ensures known { (g : List Decl) (nodes : ℕ) (calls : List SiteCall) (sites : Sites) (all : List (List Delta)) → HaveBrought g nodes calls sites all → (p : ℕ) → p < nodes
         → (replica_of g nodes sites p).contents ≡ known_contents g nodes all (replica_of g nodes sites p).counts }
     ensures written { (g : List Decl) (nodes : ℕ) (calls : List SiteCall) (sites : Sites) (all : List (List Delta)) → HaveBrought g nodes calls sites all → (i : ℕ)
         → (told_by g nodes (sent_number sites.written i)).contents ≡ known_contents g nodes all (told_by g nodes (sent_number sites.written i)).counts }
+{}
+
+/// By a call no site loses anything: each variable and each count of its replica is at least what it was, at the site that was called and at every other.
+pub fn sites_only_grow()
+    ensures contents { (g : List Decl) (nodes : ℕ) (calls : List SiteCall) (sites next : Sites) (k : SiteCall) → AreCalled g nodes calls sites → IsCalled g nodes sites k next → (q : ℕ) → q < nodes
+        → ContentsAtMost (replica_of g nodes sites q).contents (replica_of g nodes next q).contents }
+    ensures counts { (g : List Decl) (nodes : ℕ) (calls : List SiteCall) (sites next : Sites) (k : SiteCall) → AreCalled g nodes calls sites → IsCalled g nodes sites k next → (q : ℕ) → q < nodes
+        → AreCountsAtMost (replica_of g nodes sites q).counts (replica_of g nodes next q).counts }
 {}

@@ -7,6 +7,8 @@ mod site_failure;
 mod site_refusal;
 
 pub use causes::answers_have_their_causes;
-pub use histories::{sites_agree_and_lose_nothing, updates_stand_where_they_are_counted};
+pub use histories::{
+    sites_agree_and_lose_nothing, sites_only_grow, updates_stand_where_they_are_counted,
+};
 pub use site_failure::SiteFailure;
 pub use site_refusal::SiteRefusal;
