@@ -10,11 +10,13 @@ use Rattle.model_states.proofs.CountLaws.{length-zeros}
 use Rattle.model_graph.specs.Evaluation.{content_at}
 use Rattle.model_graph.specs.Graph.{Decl}
 use Rattle.model_graph.specs.Order.{ContentsAtMost}
+use Rattle.model_graph.specs.Lawful.{IsGraph}
+use Rattle.model_graph.proofs.EvalLaws.{eval-monotone}
 use Rattle.model_graph.proofs.PlaceLaws.{at-set}
 use Rattle.model_journal.proofs.GainLaws.{gain-grows}
 use Rattle.model_messages.specs.Message.{Message, gained, brought}
 use Rattle.model_world.specs.Command.{Command}
-use Rattle.model_world.specs.World.{Peer, fresh_peer, sent_number, updated, delivered, message_at}
+use Rattle.model_world.specs.World.{Peer, fresh_peer, sent_number, updated, delivered, message_at, shown_at}
 use Rattle.model_program.specs.Merge.{taking}
 use Rattle.model_site.specs.History.{SiteCall, Sites, kept_at, taken_by, IsCalled, AreCalled, replica_of}
 use Rattle.model_site.specs.Site.{own, AreOwn, update_done, done_by, updates_done}
@@ -118,3 +120,7 @@ module _ (g : List Decl) (nodes : ℕ) (calls : List SiteCall) (sites next : Sit
 
   pub counts-grow : (q : ℕ) → q < nodes → AreCountsAtMost (replica_of g nodes sites q).counts (replica_of g nodes next q).counts
   counts-grow q low = (grows q low (q == p) refl).counts
+
+  -- and so does what it shows
+  pub shown-grow : IsGraph g → (q : ℕ) → q < nodes → ContentsAtMost (shown_at g (replica_of g nodes sites q)) (shown_at g (replica_of g nodes next q))
+  shown-grow is q low = eval-monotone g (replica_of g nodes sites q).contents (replica_of g nodes next q).contents is (λ x _ _. contents-grow q low x)

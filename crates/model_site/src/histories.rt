@@ -5,6 +5,7 @@ ghost use Rattle.model_states.specs.Content.{IsContentAtMost};
 ghost use Rattle.model_states.specs.Counts.{count_at, AreCountsAtMost};
 ghost use Rattle.model_graph.specs.Graph.{Decl};
 ghost use Rattle.model_graph.specs.Evaluation.{content_at};
+ghost use Rattle.model_graph.specs.Lawful.{IsGraph};
 ghost use Rattle.model_graph.specs.Order.{ContentsAtMost};
 ghost use Rattle.model_known.specs.Delta.{Delta, deltas_at, known_contents};
 ghost use Rattle.model_known.specs.Owner.{delta_at};
@@ -48,10 +49,12 @@ pub fn updates_stand_where_they_are_counted()
         → (told_by g nodes (sent_number sites.written i)).contents ≡ known_contents g nodes all (told_by g nodes (sent_number sites.written i)).counts }
 {}
 
-/// By a call no site loses anything: each variable and each count of its replica is at least what it was, at the site that was called and at every other.
+/// By a call no site loses anything: each source, each count and whatever is shown of a variable is at least what it was, at the site that was called and at every other.
 pub fn sites_only_grow()
     ensures contents { (g : List Decl) (nodes : ℕ) (calls : List SiteCall) (sites next : Sites) (k : SiteCall) → AreCalled g nodes calls sites → IsCalled g nodes sites k next → (q : ℕ) → q < nodes
         → ContentsAtMost (replica_of g nodes sites q).contents (replica_of g nodes next q).contents }
     ensures counts { (g : List Decl) (nodes : ℕ) (calls : List SiteCall) (sites next : Sites) (k : SiteCall) → AreCalled g nodes calls sites → IsCalled g nodes sites k next → (q : ℕ) → q < nodes
         → AreCountsAtMost (replica_of g nodes sites q).counts (replica_of g nodes next q).counts }
+    ensures shown { (g : List Decl) (nodes : ℕ) (calls : List SiteCall) (sites next : Sites) (k : SiteCall) → AreCalled g nodes calls sites → IsCalled g nodes sites k next → IsGraph g → (q : ℕ) → q < nodes
+        → ContentsAtMost (shown_at g (replica_of g nodes sites q)) (shown_at g (replica_of g nodes next q)) }
 {}
