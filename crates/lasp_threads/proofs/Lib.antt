@@ -1,0 +1,6 @@
+pub mod BackLaws
+pub mod ListLaws
+pub mod SpotLaws
+pub mod KeptLaws
+pub mod RanLaws
+pub mod StoreLaws

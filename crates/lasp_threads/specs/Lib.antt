@@ -1,0 +1,3 @@
+pub mod Ran
+pub mod Spots
+pub mod Stores

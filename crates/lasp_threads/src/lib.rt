@@ -1,0 +1,21 @@
+//! Runs of scripts over stores, with workers beside them: the run's thread feeds the stores, while workers on threads of their own evaluate what follows.
+//!
+//! ```text
+//! // one store and its feed for each node
+//! let (stores, mut feeds) = fresh_stores(alloc, &graph, script.nodes())?;
+//! let report = drive(rt, alloc, &graph, &stores, &mut feeds, &script, 4, &lib, &NoGate)?;
+//! // the feeds are back, so each store can be closed
+//! ```
+#![tactic(auto)]
+
+mod aside;
+mod hands;
+mod nodes;
+mod report;
+mod run;
+mod stores;
+mod stretch;
+mod worker;
+
+pub use run::drive;
+pub use stores::fresh_stores;

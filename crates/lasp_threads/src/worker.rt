@@ -1,0 +1,56 @@
+//! A worker with a hand at every store.
+
+ghost use Rattle.std.specs.Prelude.{◌≡◌};
+ghost use Rattle.lasp_threads.specs.Spots.{spots_of};
+
+use lasp_fns::{Library, StepLib};
+use lasp_store::Seated;
+use lasp_workers::{Gate, Replicas, work};
+use std::alloc::Global;
+use std::sync::Wait;
+use std::sync::atomic::AtomicBool;
+
+/// What may work on a thread of its own, with tools that all workers share.
+pub(crate) trait Works<T>: Drop {
+    // what it is made of, which no work changes
+    ghost Place: { Type 0 };
+
+    ghost place: { Self → Place };
+
+    /// Works until `more` is lowered and nothing is left to do.
+    fn work(&mut self, tools: &T, more: &AtomicBool)
+        ensures { place self.new ≡ place self.old };
+}
+
+/// A worker: its number, counted from 1, its hands, each seated at the store of a node, and what it works with.
+#[derive(Drop)]
+pub(crate) struct Worker<'a, R, G> {
+    pub(crate) rt: &'a R,
+    pub(crate) alloc: Global,
+    pub(crate) gate: &'a G,
+    pub(crate) number: u32,
+    pub(crate) replicas: Replicas<Seated<'a, R>>,
+}
+
+impl<R: Wait, G: Gate> Works<Library> for Worker<'_, R, G> {
+    ghost use Rattle.std.specs.Prelude.{List};
+    ghost use Rattle.lasp_threads.specs.Spots.{Spot, spots_of};
+
+    ghost Place = { List Spot };
+
+    ghost place = { λ w. spots_of w.replicas };
+
+    fn work(&mut self, lib: &Library, more: &AtomicBool) {
+        let mut steps = StepLib::new(lib);
+        // what it leaves undone for want of memory the next point does
+        let _ = work(
+            self.rt,
+            self.alloc,
+            self.number,
+            &mut self.replicas,
+            &mut steps,
+            self.gate,
+            more,
+        );
+    }
+}
