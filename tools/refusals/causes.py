@@ -3,7 +3,7 @@
 A line stands here as there: of its words, those in capitals stand for what the program puts there.
 """
 LINES = {
-    "usage": "The words have none of these forms: lasp plain GRAPH SCRIPT, lasp check GRAPH, lasp export GRAPH SCRIPT NODE with NODE a digit from 0 to 7, "
+    "usage": "The words have none of these forms: lasp plain GRAPH SCRIPT, lasp run GRAPH SCRIPT WORKERS with 1 to 16 workers, lasp check GRAPH, lasp export GRAPH SCRIPT NODE with NODE a digit from 0 to 7, "
     "lasp merge GRAPH FILE .. with one to eight files, lasp dots SCRIPT, site GRAPH NODE STATE SCRIPT FILE .. with NODE a digit and at most eight files.",
     "graph NUMBER CAUSE": "The graph is refused.",
     "script NUMBER CAUSE": "The script is refused.",

@@ -12,6 +12,7 @@ pub use Rattle.lasp_fns.specs.Map.{map_op_of}
 pub use Rattle.lasp_fns.specs.Named.{is_named}
 pub use Rattle.lasp_fns.specs.Predicate.{pred_op_of}
 pub use Rattle.lasp_call.specs.Words.{words_of}
+pub use Rattle.lasp_top.specs.Words.{answered_words}
 pub use Rattle.lasp_program.specs.Call.{TextsOrNone, bytes_of}
 pub use Rattle.lasp_program.specs.Functions.{program_library, program_lifts, program_maps, program_predicates}
 pub use Rattle.lasp_program.specs.Tables.{condition_view, lift_entry, map_entry, predicate_entry}

@@ -1,36 +1,52 @@
 //! The answer to the program's words over the library of its functions.
 
 ghost use Rattle.std.specs.Prelude.{◌≡◌, IfOk, OnErr, map};
-ghost use Rattle.lasp_program.specs.Prelude.{IsSized, passes, lifted, reading_of, writing_of, IsAnswered, val_of, lift_op_of, Answers, words_of, program_maps, program_predicates, program_lifts, program_library, map_entry, predicate_entry, lift_entry};
+ghost use Rattle.lasp_program.specs.Prelude.{IsSized, passes, lifted, reading_of, writing_of, IsAnswered, answered_words, val_of, lift_op_of, Answers, words_of, program_maps, program_predicates, program_lifts, program_library, map_entry, predicate_entry, lift_entry};
 
 use crate::functions::{Condition, LIFTS, MAPS, PREDICATES};
 use crate::library::{add_lift, add_map, add_predicate};
 use crate::operations::{conditions_of, steps_of};
 use lasp_edge::{Files, Sink};
 use lasp_fns::{Library, LiftOp, MapOp, apply_lift, apply_map, apply_pred};
-use lasp_run::one_thread;
+use lasp_top::top;
 use lasp_value::Value;
+use lasp_workers::Gate;
 use std::alloc::{AllocError, Global};
+use std::sync::Wait;
+use std::thread::Threads;
 
-/// Answers the words as `one_thread` does over the program's functions. Where no memory is found for these, nothing is read or written.
-#[tactic(auto, unfolding(crate::specs::Functions::program_maps, crate::specs::Functions::program_predicates, crate::specs::Functions::program_lifts))]
-pub fn answer_words<F: Files, O: Sink, E: Sink>(
+/// Answers the words as `top` does over the program's functions. Where no memory is found for these, nothing is read or written.
+pub fn answer_words<R: Threads + Wait + Sync, F: Files, O: Sink, E: Sink, G: Gate + Sync>(
+    rt: &R,
     alloc: Global,
     words: &[String],
     files: &mut F,
     out: &mut O,
     err: &mut E,
+    gate: &G,
 ) -> Result<u8, AllocError>
-    ensures answered { IfOk result (IsAnswered program_library (words_of words.now) (reading_of F.content F.faults files.old files.new)
+    ensures answered { IfOk result (IsAnswered program_library (answered_words (words_of words.now)) (reading_of F.content F.faults files.old files.new)
         (writing_of O.written O.faults out.old out.new) (writing_of E.written E.faults err.old err.new)) }
     // where the library found no memory, nothing was done
     ensures err { OnErr result ((files.new ≡ files.old) × (out.new ≡ out.old) × (err.new ≡ err.old)) }
 {
-    answer_over(alloc, &MAPS, &PREDICATES, &LIFTS, words, files, out, err)
+    answer_over(
+        rt,
+        alloc,
+        &MAPS,
+        &PREDICATES,
+        &LIFTS,
+        words,
+        files,
+        out,
+        err,
+        gate,
+    )
 }
 
 /// Answers the words over the functions of these tables, whose closures are made here. They come as slices, so that no step of the loops speaks of all their entries.
-fn answer_over<F: Files, O: Sink, E: Sink>(
+fn answer_over<R: Threads + Wait + Sync, F: Files, O: Sink, E: Sink, G: Gate + Sync>(
+    rt: &R,
     alloc: Global,
     maps: &[(&str, &[MapOp])],
     predicates: &[(&str, &[Condition])],
@@ -39,13 +55,14 @@ fn answer_over<F: Files, O: Sink, E: Sink>(
     files: &mut F,
     out: &mut O,
     err: &mut E,
+    gate: &G,
 ) -> Result<u8, AllocError>
     // the functions are those of the program
     requires maps { map map_entry maps.now ≡ program_maps }
     requires predicates { map predicate_entry predicates.now ≡ program_predicates }
     requires lifts { map lift_entry lifts.now ≡ program_lifts }
     // the clauses of `answer_words`
-    ensures answered { IfOk result (IsAnswered program_library (words_of words.now) (reading_of F.content F.faults files.old files.new)
+    ensures answered { IfOk result (IsAnswered program_library (answered_words (words_of words.now)) (reading_of F.content F.faults files.old files.new)
         (writing_of O.written O.faults out.old out.new) (writing_of E.written E.faults err.old err.new)) }
     ensures err { OnErr result ((files.new ≡ files.old) × (out.new ≡ out.old) × (err.new ≡ err.old)) }
 {
@@ -74,5 +91,5 @@ fn answer_over<F: Files, O: Sink, E: Sink>(
         { apply_lift(&mine, v) };
         add_lift(&mut library, name, *op, Box::new(alloc, f)?)?;
     }
-    Ok(one_thread(alloc, words, files, out, err, &library))
+    Ok(top(rt, alloc, words, files, out, err, &library, gate))
 }

@@ -1,7 +1,7 @@
 //! The program over any files and outputs, with the functions that its graphs may name. `main` calls it as
 //!
 //! ```text
-//! let status = answer_call(alloc, &words, &mut files, &mut out, &mut err)?;
+//! let status = answer_call(rt, alloc, &words, &mut files, &mut out, &mut err, &NoGate)?;
 //! ```
 #![tactic(auto)]
 

@@ -7,6 +7,8 @@ use anyhow::{Result, bail};
 use lasp_edge::{Files, MemFiles};
 use std::alloc::{AllocError, Global};
 use std::mem;
+use std::sync::Wait;
+use std::thread::Threads;
 
 /// What outputs take where nothing else is said.
 const AMPLE: Room = Room {
@@ -49,7 +51,7 @@ impl Case {
     }
 
     /// Takes in a line.
-    pub fn take(&mut self, word: &str, rest: &str) -> Result<()> {
+    pub fn take<R: Threads + Wait + Sync>(&mut self, rt: &R, word: &str, rest: &str) -> Result<()> {
         match word.as_bytes() {
             b"file" => self.begin_file(rest),
             b"more" => self.append(rest.as_bytes()),
@@ -57,8 +59,8 @@ impl Case {
             b"each" => self.append(each(self.alloc, rest, "")?.as_bytes()),
             b"times" => self.append(times(self.alloc, rest)?.as_bytes()),
             b"pad" => self.pad(rest.parse()?),
-            b"run" => self.run(rest),
-            b"cuts" => self.run_cuts(rest),
+            b"run" => self.run(rt, rest),
+            b"cuts" => self.run_cuts(rt, rest),
             _ => self.take_other(word, rest),
         }
     }
@@ -102,31 +104,43 @@ impl Case {
         self.append(b"")
     }
 
-    fn run(&mut self, line: &str) -> Result<()> {
+    fn run<R: Threads + Wait + Sync>(&mut self, rt: &R, line: &str) -> Result<()> {
         let room = mem::replace(&mut self.room, AMPLE);
-        self.run_within(line, room)
+        self.run_within(rt, line, room)
     }
 
     /// Runs the program with outputs of this room, behind a look at how the run before ended.
-    fn run_within(&mut self, line: &str, room: Room) -> Result<()> {
+    fn run_within<R: Threads + Wait + Sync>(
+        &mut self,
+        rt: &R,
+        line: &str,
+        room: Room,
+    ) -> Result<()> {
         self.compare()?;
         self.runs = self.runs.saturating_add(1);
-        self.came = run_line(self.alloc, line, &mut self.files, room)?;
+        self.came = run_line(rt, self.alloc, line, &mut self.files, room)?;
         Ok(())
     }
 
     /// Runs the program with each room that is too small for what the last run must write.
-    fn run_cuts(&mut self, line: &str) -> Result<()> {
+    fn run_cuts<R: Threads + Wait + Sync>(&mut self, rt: &R, line: &str) -> Result<()> {
         let whole = Vec::from_slice(self.alloc, self.wanted.out.as_slice())?;
         for taken in 0..whole.len() {
-            self.run_cut(line, whole.as_slice(), taken)?;
+            self.run_cut(rt, line, whole.as_slice(), taken)?;
         }
         Ok(())
     }
 
     /// Runs the program with room for so many bytes of this text, of which it leaves just these.
-    fn run_cut(&mut self, line: &str, whole: &[u8], taken: usize) -> Result<()> {
+    fn run_cut<R: Threads + Wait + Sync>(
+        &mut self,
+        rt: &R,
+        line: &str,
+        whole: &[u8],
+        taken: usize,
+    ) -> Result<()> {
         self.run_within(
+            rt,
             line,
             Room {
                 out: taken as u64,

@@ -4,6 +4,8 @@ use crate::case::Case;
 use crate::text::split;
 use anyhow::Result;
 use std::alloc::{AllocError, Global};
+use std::sync::Wait;
+use std::thread::Threads;
 
 /// The cases as far as they were read.
 #[derive(Drop)]
@@ -30,12 +32,12 @@ impl Cases {
     }
 
     /// Takes in a line.
-    pub fn take(&mut self, line: &str) -> Result<()> {
+    pub fn take<R: Threads + Wait + Sync>(&mut self, rt: &R, line: &str) -> Result<()> {
         let (word, rest) = split(line);
         match word.as_bytes() {
             b"" | b"#" => Ok(()),
             b"case" => self.begin(rest),
-            _ => self.case.take(word, rest),
+            _ => self.case.take(rt, word, rest),
         }
     }
 

@@ -40,7 +40,7 @@ use std::io::{BufRead, BufReader};
 fn main(rt: HostRuntime) -> anyhow::Result<()> {
     let mut cases = Cases::new(rt.alloc());
     for line in BufReader::new(rt.alloc(), rt.reader())?.lines(rt.alloc()) {
-        cases.take(line?.as_str())?;
+        cases.take(&rt, line?.as_str())?;
     }
     let report = cases.finish()?;
     print!(rt; "{report}")?;

@@ -3,7 +3,10 @@
 use crate::ended::Ended;
 use lasp_edge::{MemFiles, MemSink};
 use lasp_program::answer_call;
+use lasp_workers::NoGate;
 use std::alloc::{AllocError, Global};
+use std::sync::Wait;
+use std::thread::Threads;
 
 /// What the outputs of a run take.
 #[derive(Clone, Copy)]
@@ -30,7 +33,8 @@ fn words_of(alloc: Global, line: &str) -> Result<Vec<Vec<u8>>, AllocError> {
 }
 
 /// How the program ends on these words, where its outputs have this room.
-pub fn run_line(
+pub fn run_line<R: Threads + Wait + Sync>(
+    rt: &R,
     alloc: Global,
     line: &str,
     files: &mut MemFiles,
@@ -42,7 +46,7 @@ pub fn run_line(
     if let Some(call) = room.failing {
         out.fail_at(call, 0)?;
     }
-    let status = answer_call(alloc, &words, files, &mut out, &mut err)?;
+    let status = answer_call(rt, alloc, &words, files, &mut out, &mut err, &NoGate)?;
     Ok(Ended {
         status,
         out: Vec::from_slice(alloc, out.bytes())?,

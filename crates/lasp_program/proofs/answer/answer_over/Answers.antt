@@ -74,4 +74,4 @@ loop-name-3-preserved g c = record {
 pub returns-clause-answered : goal.returns-clause-answered
 returns-clause-answered g c =
     rw (← library-whole (record { maps = maps_of c.loop-name-3.library; predicates = predicates_of c.loop-name-3.library; lifts = lifts_of c.loop-name-3.library }) c.loop-name-3.invariant.maps c.loop-name-3.invariant.predicates (c.loop-name-3.invariant.lifts ∙ entries-added lift_entry c.args.lifts.now program_lifts c.loop-name-3.name-index c.requires.lifts c.loop-name-3-test.false))
-    c.one_thread.ensures.answered
+    c.top.ensures.answered
