@@ -1,0 +1,5 @@
+//! Tests of runs by workers.
+#![tactic(auto)]
+
+#[cfg(test)]
+mod meeting;
