@@ -1,0 +1,5 @@
+use Rattle.tests_store.proofs.Passes.{asked-turn}
+use Rattle.tests_store.proofs.asking.close.Goals as goal
+
+pub returns : goal.returns
+returns g c = asked-turn c.args.store.now c.args.many c.args.h.now c.close_read.new.h c.reads_stay_open.ensures c.requires c.close_read.ensures
