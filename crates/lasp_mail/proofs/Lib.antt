@@ -1,0 +1,5 @@
+pub mod Prefixes
+pub mod Seats
+pub mod Witnesses
+pub mod Marks
+pub mod Lines

@@ -1,0 +1,5 @@
+pub mod Witness
+pub mod Parcel
+pub mod Line
+pub mod Ends
+pub mod Prelude
