@@ -1,5 +1,5 @@
 -- The items of chunks, one chunk after the other.
-use Rattle.std.proofs.Common.{◌≡◌, ℕ, zero, suc, ◌+◌, ◌-◌, ◌<◌, ◌≤◌, List, [], ◌∷◌, ◌++◌, length, take, drop, get_or, slice_get, Some, refl, sym, ap, ◌∙◌, append_assoc, append-nil, length-append, arith}
+use Rattle.std.proofs.Common.{◌≡◌, ℕ, zero, suc, ◌+◌, ◌-◌, ◌<◌, ◌≤◌, List, [], ◌∷◌, ◌++◌, length, take, drop, get_or, slice_get, Some, refl, sym, ap, subst, ◌∙◌, append_assoc, append-nil, length-append, arith}
 use Rattle.std.proofs.lemmas.List.{take_more, drop_more, take-append-drop, drop-append-le, drop-drop, drop_at}
 use Rattle.lasp_log.specs.Log.{joined}
 
@@ -76,3 +76,17 @@ module _ {T : Type 0} where
   not-past [] i e = omega arith
   not-past (x ∷ all) zero e = cc
   not-past (x ∷ all) (suc i) e = omega (arith, not-past all i e)
+
+  -- the last two chunks as one
+  joined-last : (cs : List (List T)) (n : ℕ) (a b : List T) → suc (suc n) ≡ length cs → a ≡ get_or cs n a → b ≡ get_or cs (suc n) b → joined (take n cs ++ (a ++ b) ∷ []) ≡ joined cs
+  joined-last [] n a b e here there = absurd (omega (arith, e))
+  joined-last (x ∷ []) n a b e here there = absurd (omega (arith, e))
+  joined-last (x ∷ y ∷ []) zero a b e here there = append_assoc a b [] ∙ ap (λ (s : List T). s ++ (b ++ [])) here ∙ ap (λ (s : List T). x ++ (s ++ [])) there
+  joined-last (x ∷ y ∷ z ∷ cs) zero a b e here there = absurd (omega (arith, e))
+  joined-last (x ∷ y ∷ cs) (suc n) a b e here there = ap (λ (s : List T). x ++ s) (joined-last (y ∷ cs) n a b (omega (arith, e)) here there)
+
+  pub joined-pair : (cs cut new : List (List T)) (count : ℕ) (a b whole : List T) → count ≡ length cs → 2 ≤ length cs → a ≡ get_or cs (count - 2) a → b ≡ get_or cs (count - 1) b → whole ≡ a ++ b → cut ≡ take (count - 2) cs → new ≡ cut ++ whole ∷ [] → joined new ≡ joined cs
+  joined-pair cs cut new count a b whole many some here there one short is =
+      let e : count - 1 ≡ suc (count - 2) = omega (arith, many, some) in
+      let two : suc (suc (count - 2)) ≡ length cs = omega (arith, many, some) in
+      ap joined (is ∙ (λ i. short i ++ one i ∷ [])) ∙ joined-last cs (count - 2) a b two here (subst (λ (k : ℕ). b ≡ get_or cs k b) e there)

@@ -1,6 +1,7 @@
 //! The log itself: how it grows, is shared and is read.
 
-ghost use Rattle.std.specs.Prelude.{◌≡◌, ◌<◌, ◌≤◌, ◌+◌, ◌^◌, ◌++◌, ◌∷◌, [], IfOk, OnOk, OnErr, IsOk, Some, length, drop, slice_get};
+ghost use Rattle.std.specs.Prelude.{◌≡◌, ◌<◌, ◌≤◌, ◌+◌, ◌^◌, ◌++◌, ◌∷◌, [], IfOk, OnOk, OnErr, IsOk, IsTrue, Some, length, drop, slice_get};
+ghost use Rattle.lasp_log.specs.Log.{joined};
 
 use super::chunk::Chunk;
 use super::items::Items;
@@ -12,8 +13,8 @@ use std::mem;
 /// The most items that a log holds.
 const MOST_ITEMS: usize = 4_294_967_296;
 
-/// How many items a chunk has at least.
-const FULL: usize = 256;
+/// How many items make a chunk that isn't made longer.
+const FULL: usize = 512;
 
 /// A list that only grows at its end, up to 2^32 items, seen as the list and the number of items that will be taken in any case.
 #[derive(Drop)]
@@ -48,6 +49,22 @@ impl<T: Share> Log<T> {
             newest: Vec::new(alloc),
             count: 0,
         }
+    }
+
+    /// The log of these items, which aren't copied. It fails only where there are more than 2^32.
+    pub fn of(items: Vec<T>) -> Result<Log<T>, AllocError>
+        ensures { IfOk result (λ log. log.items ≡ items.items) }
+    {
+        if items.len() > MOST_ITEMS {
+            return Err(AllocError);
+        }
+        let alloc = *items.allocator();
+        let count = items.len();
+        Ok(Log {
+            sealed: Vec::new(alloc),
+            newest: items,
+            count,
+        })
     }
 
     /// The number of items.
@@ -93,7 +110,23 @@ impl<T: Share> Log<T> {
     pub fn seal(&mut self)
         ensures { self.new.items ≡ self.old.items }
     {
-        if self.newest.len() < FULL || self.sealed.reserve(1).is_err() {
+        self.seal_from(FULL)
+    }
+
+    /// Makes chunks of all that came, so that a share costs a count for each of a few chunks: a chunk that isn't twice as long as the one behind it becomes one with it, up to a length. So an item is copied at most once for each such length.
+    /// Where memory is refused there are more chunks, or items that aren't sealed.
+    pub fn close(&mut self)
+        ensures { self.new.items ≡ self.old.items }
+    {
+        self.seal_from(1);
+        join_short(&mut self.sealed)
+    }
+
+    /// Makes a chunk of what came since the last one, where that has so many items.
+    fn seal_from(&mut self, least: usize)
+        ensures { self.new.items ≡ self.old.items }
+    {
+        if self.newest.len() < least || self.sealed.reserve(1).is_err() {
             return;
         }
         let alloc = *self.newest.allocator();
@@ -161,4 +194,68 @@ impl<T: Share> Log<T> {
             None => unreachable!(),
         }
     }
+}
+
+/// Makes one chunk of the last two, while these are short and of about one length.
+fn join_short<T: Share>(chunks: &mut Vec<Chunk<T>>)
+    ensures { joined chunks.new.items ≡ joined chunks.old.items }
+{
+    while is_to_join(chunks) {
+        if join_last(chunks).is_err() {
+            return;
+        }
+    }
+}
+
+/// Whether the last two chunks are short, and of about one length.
+fn is_to_join<T: Share>(chunks: &[Chunk<T>]) -> bool
+    ensures { IsTrue result → 2 ≤ length chunks.now }
+{
+    let count = chunks.len();
+    if count < 2 {
+        return false;
+    }
+    let before = chunks[count - 2].items().len();
+    before < FULL && before / 2 < chunks[count - 1].items().len()
+}
+
+/// Makes one chunk of the last two.
+fn join_last<T: Share>(chunks: &mut Vec<Chunk<T>>) -> Result<(), AllocError>
+    requires { 2 ≤ length chunks.old.items }
+    ensures joined { joined chunks.new.items ≡ joined chunks.old.items }
+    ensures fewer { OnOk result (length chunks.new.items < length chunks.old.items) }
+{
+    let count = chunks.len();
+    let whole = both(*chunks.allocator(), &chunks[count - 2], &chunks[count - 1])?;
+    chunks.truncate(count - 2);
+    chunks.push_reserved(whole);
+    Ok(())
+}
+
+/// The items of two chunks as one.
+fn both<T: Share>(
+    alloc: Global,
+    first: &Chunk<T>,
+    second: &Chunk<T>,
+) -> Result<Chunk<T>, AllocError>
+    ensures { IfOk result (λ c. c ≡ first.now ++ second.now) }
+{
+    let mut items = Vec::new(alloc);
+    share_into(&mut items, first.items())?;
+    share_into(&mut items, second.items())?;
+    match Chunk::of(alloc, items) {
+        Ok(chunk) => Ok(chunk),
+        Err(_) => Err(AllocError),
+    }
+}
+
+/// Appends shares of some items.
+fn share_into<T: Share>(items: &mut Vec<T>, more: &[T]) -> Result<(), AllocError>
+    ensures { OnOk result (items.new.items ≡ items.old.items ++ more.now) }
+{
+    items.reserve(more.len())?;
+    for item in more {
+        items.push(item.share()?)?;
+    }
+    Ok(())
 }

@@ -175,6 +175,31 @@ chained-link rows newest newest' older h n b chained many more hash behind live 
       let one : h ≡ q = some-inj h q (sym hash ∙ here) in
       let yes_it : true ≡ false = sym (hash-test h q one) ∙ e in cc))
 
+-- ---- the newest rows that are dead are left out
+
+pub chained-pruned : (rows : List Row) (newest newest' : List (ℕ × ℕ)) (older : List ℕ) (h b : ℕ) → AreChained rows newest older → IsBehind rows h (length older) b → ((i : ℕ) → i < length older → IsLiveAt rows h i → i < b)
+    → ((q : ℕ) → lookup (nat_eq q) newest' ≡ cond (nat_eq h q) (Some b) (lookup (nat_eq q) newest)) → AreChained rows newest' older
+chained-pruned rows newest newest' older h b chained behind live pruned = record {
+  covered = chained.covered;
+  begins = λ q. subst (λ (m : ℕ). IsBehind rows q (length older) m) (sym (newest-is q)) (begins-as q (nat_eq h q) refl);
+  newest_live = λ q i lt there. subst (λ (m : ℕ). i < m) (sym (newest-is q)) (live-as q i lt there (nat_eq h q) refl);
+  goes_on = chained.goes_on;
+  older_live = chained.older_live;
+} where
+  newest-is : (q : ℕ) → newest_of newest' q ≡ (if nat_eq h q then b else newest_of newest q)
+  newest-is q = ap (λ (o : Option ℕ). unwrap_or o 0) (pruned q) ∙ turn (nat_eq h q) where
+    turn : (same : Bool) → unwrap_or (cond same (Some b) (lookup (nat_eq q) newest)) 0 ≡ (if same then b else newest_of newest q)
+    turn true = refl
+    turn false = refl
+
+  begins-as : (q : ℕ) (same : Bool) → nat_eq h q ≡ same → IsBehind rows q (length older) (if same then b else newest_of newest q)
+  begins-as q true e = subst (λ (m : ℕ). IsBehind rows m (length older) b) (same-hash h q e) behind
+  begins-as q false e = chained.begins q
+
+  live-as : (q i : ℕ) → i < length older → IsLiveAt rows q i → (same : Bool) → nat_eq h q ≡ same → i < (if same then b else newest_of newest q)
+  live-as q i lt there true e = live i lt (subst (λ (m : ℕ). IsLiveAt rows m i) (sym (same-hash h q e)) there)
+  live-as q i lt there false e = chained.newest_live q i lt there
+
 -- ---- one step of a walk
 
 got-index : {X : Type 0} (xs : List X) (i : ℕ) (x : X) → i < length xs → x ≡ get_or xs i x → slice_get xs i ≡ Some x

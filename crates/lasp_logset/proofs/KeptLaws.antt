@@ -61,6 +61,20 @@ raises_unknown es k dead one found = below-some (level dead) (level-some dead) �
 
 pub ruleset look_up = (raises_known, raises_unknown)
 
+-- a row that stands at a place says what the rows say, where it has the key that is asked for
+pub level_here : (es : List Row) (k l : Key) (dead same : Bool) (n : ℕ) → IsDistinct (eq_by_cmp key_cmp) (keys_of es) → lookup (eq_by_cmp key_cmp l) es ≡ Some dead → same ≡ eq_by_cmp key_cmp l k → same ≡ true → n ≡ level dead → n ≡ mark es k.0 k.1
+level_here es k l dead same n one found is yes_it told =
+    let key : l ≡ k = key_exact l k (is-Equal (key_cmp l k) (sym is ∙ yes_it)) in
+    told ∙ sym (ap found_level found) ∙ sym (lookup_mark es l one) ∙ ap (λ (q : Key). mark es q.0 q.1) key
+
+pub level_known : (es : List Row) (k : Key) (dead : Bool) (n : ℕ) → IsDistinct (eq_by_cmp key_cmp) (keys_of es) → lookup (eq_by_cmp key_cmp k) es ≡ Some dead → n ≡ level dead → n ≡ mark es k.0 k.1
+level_known es k dead n one found told = told ∙ sym (ap found_level found) ∙ sym (lookup_mark es k one)
+
+pub level_unknown : (es : List Row) (k : Key) → IsDistinct (eq_by_cmp key_cmp) (keys_of es) → lookup (eq_by_cmp key_cmp k) es ≡ None → 0 ≡ mark es k.0 k.1
+level_unknown es k one found = sym (lookup_mark es k one ∙ ap found_level found)
+
+pub ruleset levels = (level_here, level_known, level_unknown)
+
 -- ---- a row that comes in
 
 mark-insert : (es : List Row) (k : Key) (dead : Bool) → mark es k.0 k.1 < level dead → (v : Val) (w : Tok) → mark (insert_entry (eq_by_cmp key_cmp) es k dead) v w ≡ max (mark es v w) (row_mark (k, dead) v w)
@@ -146,7 +160,7 @@ kept-order rows log more kept = (
 pub same-none : (log news : List Row) → news ≡ [] → log ++ news ≡ log
 same-none log news none = ap (λ (s : List Row). log ++ s) none ∙ append-nil log
 
-more-some : (log : List Row) (r : Row) (news : List Row) → AreRises log (r ∷ news) → of_rows (log ++ r ∷ news) ≢ of_rows log
+pub more-some : (log : List Row) (r : Row) (news : List Row) → AreRises log (r ∷ news) → of_rows (log ++ r ∷ news) ≢ of_rows log
 more-some log r news up same =
     let there = ap (λ (s : List Row). mark s r.0.0 r.0.1) same in
     omega (arith, there, mark-of_rows (log ++ r ∷ news) r.0.0 r.0.1, mark-of_rows log r.0.0 r.0.1, mark-append log (r ∷ news) r.0.0 r.0.1, own_mark r, up.0)

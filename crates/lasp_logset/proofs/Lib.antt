@@ -5,3 +5,4 @@ pub mod ChainLaws
 pub mod WholeLaws
 pub mod PassLaws
 pub mod ShownLaws
+pub mod GrownLaws

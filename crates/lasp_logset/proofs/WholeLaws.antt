@@ -111,7 +111,7 @@ past-apart log n many small apart ints = record { rises = apart-rises [] log apa
 -- ---- more rows
 
 -- rows that are as many as those of their state have keys of their own
-few-rows : (s : List Row) → length (of_rows s) ≤ length s
+pub few-rows : (s : List Row) → length (of_rows s) ≤ length s
 few-rows [] = omega arith
 few-rows (r ∷ s) = choose (mark (of_rows s) r.0.0 r.0.1 == 0) (length-put_row r (of_rows s) (ascending-of_rows s)) (few-rows s) where
   choose : (b : Bool) → length (of_rows (r ∷ s)) ≡ (if b then length (of_rows s) + 1 else length (of_rows s)) → length (of_rows s) ≤ length s → length (of_rows (r ∷ s)) ≤ length (r ∷ s)

@@ -2,13 +2,13 @@
 use Rattle.std.specs.Prelude.{◌≡◌, ℕ, suc, ◌<◌, ◌≤◌, nat_eq, false, fold, List, length, slice_get, Option, Some}
 use Rattle.std.specs.Option.{option_map, unwrap_or}
 use Rattle.std.specs.Map.{lookup}
-use Rattle.std.specs.Hash.DefaultHasher as sip
+use Rattle.std.specs.Hash.FoldHasher as folding
 use Rattle.model_values.specs.Value.{Val}
 use Rattle.model_values.specs.Row.{Row}
 use Rattle.lasp_logset.specs.Fed.{val_fed}
 
 abbrev pub value_hash : Val → ℕ
-value_hash v = sip.finish (fold sip.write sip.initial (val_fed v))
+value_hash v = folding.finish (fold folding.write folding.initial (val_fed v))
 
 -- where the chain of a hash begins
 abbrev pub newest_of : List (ℕ × ℕ) → ℕ → ℕ

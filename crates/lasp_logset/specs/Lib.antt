@@ -1,6 +1,7 @@
 pub mod Fed
 pub mod Chains
 pub mod Kept
+pub mod Grown
 pub mod Live
 pub mod Orders
 pub mod Whole

@@ -1,5 +1,5 @@
 -- A set as it is handed on, and passes over it.
-use Rattle.std.specs.Prelude.{Bool, ◌||◌, nat_lt, List, filter}
+use Rattle.std.specs.Prelude.{Bool, ◌||◌, nat_lt, List, filter, Option, Some, None}
 use Rattle.std.specs.Arc.{arc_value}
 use Rattle.model_values.specs.Row.{Row}
 use Rattle.model_sets.specs.Rows.{mark}
@@ -10,6 +10,11 @@ use Rattle.lasp_logset.specs.declared.orset.Kept.TheVariants.{Whole, Past}
 abbrev pub log_in : Kept → List Row
 log_in (Whole set) = arc_value set
 log_in (Past past) = past
+
+-- the log of a table, or that which stands behind it
+abbrev pub log_behind : List Row → Option (List Row) → List Row
+log_behind set None = set
+log_behind set (Some grown) = grown
 
 -- whether a row of a log is the last of its key: a dead one, or one that didn't die
 abbrev pub stands : List Row → Row → Bool

@@ -12,7 +12,7 @@ use super::name::Name;
 use indexmap::IndexMap;
 use lasp_value::Value;
 use std::alloc::{AllocError, Global};
-use std::hash::{DefaultHasher, Hasher};
+use std::hash::{FoldHasher, Hasher};
 
 #[derive(Drop)]
 pub(crate) struct Chains {
@@ -59,6 +59,21 @@ impl Chains {
         self.older.reserve(1)?;
         self.newest.insert(hash, place + 1)?;
         self.older.push_reserved(before);
+        Ok(())
+    }
+
+    /// Leaves out the newest rows of a value's hash that are dead by now, so that they aren't passed again.
+    pub(crate) fn prune(
+        &mut self,
+        rows: &IndexMap<Name, bool>,
+        value: &Value,
+    ) -> Result<(), AllocError>
+        requires { AreChained rows.now.entries self.old.newest.entries self.old.older.items }
+        ensures { AreChained rows.now.entries self.new.newest.entries self.new.older.items }
+    {
+        let hash = hash_of(value);
+        let live = self.newest_live(rows, hash);
+        self.newest.insert(hash, live)?;
         Ok(())
     }
 
@@ -127,7 +142,7 @@ impl Chains {
 fn hash_of(value: &Value) -> u64
     ensures { result ≡ value_hash (val_of value.now) }
 {
-    let mut state = DefaultHasher::new();
+    let mut state = FoldHasher::default();
     hash_value(value, &mut state);
     state.finish()
 }

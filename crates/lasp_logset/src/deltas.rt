@@ -1,12 +1,13 @@
 //! What an update joins in, and what became more from one set to another.
 
 ghost use Rattle.std.specs.Prelude.{◌≡◌, IfOk};
-ghost use Rattle.model_sets.specs.Rows.{add_delta, remove_delta};
+ghost use Rattle.model_sets.specs.Rows.{join, add_delta, remove_delta};
 ghost use Rattle.model_sets.specs.Equations.{changed};
 ghost use Rattle.lasp_value.specs.Value.{val_of};
 
 use super::entry::Entry;
-use super::orset::OrSet;
+use super::near::Hint;
+use super::orset::{Kept, OrSet};
 use super::past::Past;
 use lasp_log::Log;
 use lasp_value::{Token, Value};
@@ -44,6 +45,21 @@ impl OrSet {
     }
 }
 
+impl OrSet {
+    /// The live rows of a value, each dead: joined in here it removes the value as `remove_delta` does. It costs these rows alone where the table's values are indexed, else a pass over the rows.
+    pub fn bury_delta(&self, value: &Value) -> Result<OrSet, AllocError>
+        ensures { IfOk result (λ d. join self.now d ≡ join self.now (remove_delta (val_of value.now) self.now)) }
+    {
+        match &self.kept {
+            Kept::Whole(set) => {
+                let delta = set.remove_delta(value)?;
+                Ok(OrSet::of_past(delta.past()?))
+            }
+            Kept::Past(_) => self.remove_delta(value),
+        }
+    }
+}
+
 /// The rows of the second set that the first one lacks, or that are dead in the second alone. Where the first one is at most the second, these joined into the first give the second.
 /// Each row of the second set costs a look-up; the keys are shared.
 pub fn changed(alloc: Global, before: &OrSet, after: &OrSet) -> Result<OrSet, AllocError>
@@ -52,9 +68,10 @@ pub fn changed(alloc: Global, before: &OrSet, after: &OrSet) -> Result<OrSet, Al
     let mut log = Log::new(alloc);
     let known = before.table()?;
     after.recall_ints();
+    let mut hint = Hint::new();
     let mut rows = after.entries()?;
     while let Some(row) = rows.next() {
-        if known.lacks(row.name(), row.is_dead()) {
+        if known.lacks_near(&mut hint, row.name(), row.is_dead()) {
             log.push(row.entry()?)?;
         }
     }

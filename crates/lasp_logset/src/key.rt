@@ -7,22 +7,29 @@ ghost use Rattle.model_values.specs.Row.{key_cmp};
 ghost use Rattle.model_values.specs.Size.{HasSmallInts};
 ghost use Rattle.lasp_value.specs.Value.{val_of};
 ghost use Rattle.lasp_value.specs.Token.{tok_of};
+ghost use Rattle.lasp_logset.specs.Fed.{key_hash};
 
+use super::hash::{hash_token, hash_value};
 use lasp_value::{Token, Value};
 use std::cmp::Ordering;
+use std::hash::{FoldHasher, Hasher};
 use std::marker::Model;
 
 #[derive(Drop)]
 pub(crate) struct Key {
     value: Value,
     token: Token,
+    /// What tables find it by, so that a look-up of a long value costs what one of a number does.
+    hash: u64,
 }
 
 impl Model for Key {
+    ghost use Rattle.std.specs.Prelude.{◌≡◌};
     ghost use Rattle.model_values.specs.Row.{Key, coded_key};
     ghost use Rattle.model_values.specs.Size.{HasSmallInts};
     ghost use Rattle.lasp_value.specs.Value.{val_of};
     ghost use Rattle.lasp_value.specs.Token.{tok_of};
+    ghost use Rattle.lasp_logset.specs.Fed.{key_hash};
 
     ghost Value = { Key };
 
@@ -30,7 +37,7 @@ impl Model for Key {
 
     ghost view = { λ a. (val_of a.value, tok_of a.token) };
 
-    ghost invariant = { λ a. HasSmallInts (val_of a.value) };
+    ghost invariant = { λ a. HasSmallInts (val_of a.value) × (a.hash ≡ key_hash (val_of a.value, tok_of a.token)) };
 }
 
 impl Key {
@@ -38,7 +45,8 @@ impl Key {
         ensures { result ≡ (val_of value, tok_of token) }
     {
         value.recall_ints();
-        Key { value, token }
+        let hash = hash_of_key(&value, &token);
+        Key { value, token, hash }
     }
 
     pub(crate) fn value(&self) -> &Value
@@ -51,6 +59,13 @@ impl Key {
         ensures { tok_of result.now ≡ self.now.1 }
     {
         &self.token
+    }
+
+    /// The same for equal keys.
+    pub(crate) fn hashed(&self) -> u64
+        ensures { result ≡ key_hash self.now }
+    {
+        self.hash
     }
 
     /// Recalls, at no cost, that each number in its value has at most 64 bits.
@@ -69,6 +84,15 @@ impl Key {
             unequal => unequal,
         }
     }
+}
+
+fn hash_of_key(value: &Value, token: &Token) -> u64
+    ensures { result ≡ key_hash (val_of value.now, tok_of token.now) }
+{
+    let mut state = FoldHasher::default();
+    hash_value(value, &mut state);
+    hash_token(token, &mut state);
+    state.finish()
 }
 
 /// The order of values. Numbers are compared here, since the order of all values is a recursion, which is called at a cost.

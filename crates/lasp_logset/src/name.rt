@@ -7,9 +7,8 @@ ghost use Rattle.model_values.specs.Row.{key_cmp};
 ghost use Rattle.model_values.specs.Size.{HasSmallInts};
 ghost use Rattle.lasp_value.specs.Value.{val_of};
 ghost use Rattle.lasp_value.specs.Token.{tok_of};
-ghost use Rattle.lasp_logset.specs.Fed.{key_fed, fed_alike, key_equivalence};
+ghost use Rattle.lasp_logset.specs.Fed.{name_fed, fed_alike, key_equivalence};
 
-use super::hash::{hash_token, hash_value};
 use super::key::Key;
 use lasp_value::{Token, Value};
 use std::alloc::{AllocError, Global};
@@ -94,12 +93,11 @@ impl Eq for Name {
 }
 
 impl Hash for Name {
-    ghost hash_input = { key_fed };
+    ghost hash_input = { name_fed };
 
     ghost respects_eq = { fed_alike };
 
     fn hash<H: Hasher>(&self, state: &mut H) {
-        hash_value(self.key.value(), state);
-        hash_token(self.key.token(), state);
+        self.key.hashed().hash(state);
     }
 }

@@ -7,6 +7,7 @@ ghost use Rattle.model_sets.specs.Rises.{AreRises};
 ghost use Rattle.model_sets.specs.Reads.{HaveSmallInts};
 
 use super::entry::Entry;
+use super::grown::Grown;
 use super::past::Past;
 use super::set::LogSet;
 use lasp_log::Log;
@@ -25,8 +26,8 @@ pub struct OrSet {
 pub(crate) enum Kept {
     /// The log with its table, for a set that is written or asked by key.
     Whole(Arc<LogSet>),
-    /// The log alone, for a state that is kept while the set goes on growing.
-    Past(Past),
+    /// The log alone, for a state that is kept while the set goes on growing; or a log that grew from a table that others share.
+    Past(Grown),
 }
 
 impl Model for OrSet {
@@ -62,7 +63,7 @@ impl OrSet {
         ensures { result ≡ of_rows past }
     {
         OrSet {
-            kept: Kept::Past(past),
+            kept: Kept::Past(Grown::of(past)),
         }
     }
 
@@ -73,6 +74,28 @@ impl OrSet {
         Ok(OrSet {
             kept: Kept::Whole(Arc::new(alloc, set)?),
         })
+    }
+
+    /// The set of rows that ascend, which are kept as they are. It takes no memory for them.
+    pub fn of_ascending(rows: Vec<Entry>) -> Result<OrSet, AllocError>
+        requires { IsAscending rows.items }
+        ensures { IfOk result (λ s. s ≡ rows.items) }
+    {
+        recall_all(rows.as_slice());
+        let mut log = Log::of(rows)?;
+        log.close();
+        Ok(OrSet::of_past(Past::of_apart(log)))
+    }
+
+    /// The set of rows in any order: a row for each key, dead where one of them is. It costs an insertion for each, but where they are few.
+    pub fn of_rows(alloc: Global, rows: &[Entry]) -> Result<OrSet, AllocError>
+        ensures { IfOk result (λ s. s ≡ of_rows rows.now) }
+    {
+        let mut set = OrSet::new(alloc);
+        for row in rows {
+            set.add(row.try_clone()?)?;
+        }
+        Ok(set)
     }
 
     /// The allocator that the set was made with.
@@ -89,7 +112,7 @@ impl OrSet {
     {
         match &self.kept {
             Kept::Whole(set) => set.log(),
-            Kept::Past(past) => past.log(),
+            Kept::Past(grown) => grown.past().log(),
         }
     }
 
@@ -99,11 +122,11 @@ impl OrSet {
     {
         match &self.kept {
             Kept::Whole(set) => Arc::try_clone(set),
-            Kept::Past(past) => Ok(Arc::new(past.allocator(), past.whole()?)?),
+            Kept::Past(grown) => Ok(Arc::new(grown.allocator(), grown.past().whole()?)?),
         }
     }
 
-    /// An equal set, which shares the log and, if there is one, the table: a set that is written while its table is shared copies that first.
+    /// An equal set, which shares the log and, if there is one, the table: a set that is written while its table is shared goes on behind that, until `gather`.
     pub fn try_clone(&self) -> Result<OrSet, AllocError>
         ensures { IfOk result (λ s. s ≡ self.now) }
     {
@@ -111,7 +134,9 @@ impl OrSet {
             Kept::Whole(set) => Ok(OrSet {
                 kept: Kept::Whole(Arc::try_clone(set)?),
             }),
-            Kept::Past(past) => Ok(OrSet::of_past(past.try_clone()?)),
+            Kept::Past(grown) => Ok(OrSet {
+                kept: Kept::Past(grown.try_clone()?),
+            }),
         }
     }
 
@@ -121,7 +146,7 @@ impl OrSet {
     {
         match &self.kept {
             Kept::Whole(set) => Ok(OrSet::of_past(set.past()?)),
-            Kept::Past(past) => Ok(OrSet::of_past(past.try_clone()?)),
+            Kept::Past(grown) => Ok(OrSet::of_past(grown.past().try_clone()?)),
         }
     }
 
@@ -132,7 +157,7 @@ impl OrSet {
     {
         match &self.kept {
             Kept::Whole(set) => set.rows(),
-            Kept::Past(past) => past.rows(),
+            Kept::Past(grown) => grown.past().rows(),
         }
     }
 
@@ -150,5 +175,14 @@ impl OrSet {
         ensures { HaveSmallInts self.now }
     {
         let _log = self.log();
+    }
+}
+
+/// Recalls, at no cost, that each number in the values of rows has at most 64 bits.
+fn recall_all(rows: &[Entry])
+    ensures { HaveSmallInts rows.now }
+{
+    for row in rows {
+        row.recall_ints();
     }
 }

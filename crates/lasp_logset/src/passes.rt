@@ -14,7 +14,7 @@ use lasp_log::{Items, Log};
 use lasp_value::Value;
 
 /// Whether a row of this key tells more than those that are left of a pass.
-fn is_raised(rows: Items<'_, Entry>, name: &Name, dead: bool) -> bool
+pub(crate) fn is_raised(rows: Items<'_, Entry>, name: &Name, dead: bool) -> bool
     ensures { result ≡ nat_lt (mark rows.entry name.now.0 name.now.1) (level dead) }
 {
     let mut left = rows;

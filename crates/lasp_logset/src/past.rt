@@ -1,7 +1,7 @@
 //! A state of the past: a share of a set's log, without the table.
 
-ghost use Rattle.std.specs.Prelude.{◌≡◌, ◌≤◌, ◌^◌, ◌↔◌, ◌∷◌, [], IfOk, IsTrue, length};
-ghost use Rattle.model_sets.specs.Rows.{of_rows, IsAtMost};
+ghost use Rattle.std.specs.Prelude.{◌≡◌, ◌≤◌, ◌^◌, ◌<◌, ◌+◌, ◌↔◌, ◌++◌, ◌∷◌, [], IfOk, OnOk, OnErr, IsTrue, if◌then◌else◌, length, drop, nat_lt};
+ghost use Rattle.model_sets.specs.Rows.{level, mark, of_rows, IsAtMost};
 ghost use Rattle.model_sets.specs.Rises.{AreRises, AreApart};
 ghost use Rattle.model_sets.specs.Reads.{HaveSmallInts};
 ghost use Rattle.lasp_logset.specs.Kept.{IsPast};
@@ -140,10 +140,48 @@ impl Past {
         self.log.iter()
     }
 
+    /// A pass over the changes since a place.
+    pub(crate) fn since(&self, place: usize) -> Items<'_, Entry>
+        requires { place ≤ length self.now }
+        ensures { result ≡ drop place self.now }
+    {
+        self.log.since(place)
+    }
+
+    /// Puts a row behind the log that tells more than it; `is_fresh` tells whether no row of its key was there.
+    pub(crate) fn push(&mut self, entry: Entry, is_fresh: bool) -> Result<(), AllocError>
+        requires raises { mark self.old entry.0.0 entry.0.1 < level entry.1 }
+        requires fresh { is_fresh ≡ nat_lt (mark self.old entry.0.0 entry.0.1) 1 }
+        ensures ok { OnOk result (self.new ≡ self.old ++ entry ∷ []) }
+        ensures err { OnErr result (self.new ≡ self.old) }
+    {
+        entry.recall_ints();
+        self.log.push(entry)?;
+        let _len = self.log.len();
+        let rows = counted(self.rows, is_fresh);
+        self.rows = rows;
+        Ok(())
+    }
+
+    /// Seals what came, where it is worth a chunk.
+    pub(crate) fn seal(&mut self)
+        ensures { self.new ≡ self.old }
+    {
+        self.log.seal()
+    }
+
     /// The order: each row of this state is in the set, and is dead there if it is dead here.
     pub fn le(&self, set: &LogSet) -> bool
         ensures { IsTrue result ↔ IsAtMost self.now set.now }
     {
         set.covers(&self.log)
     }
+}
+
+/// One more where a row is fresh.
+fn counted(rows: u64, is_fresh: bool) -> u64
+    requires { rows ≤ 2 ^ 32 }
+    ensures { result ≡ (if is_fresh then rows + 1 else rows) }
+{
+    if is_fresh { rows + 1 } else { rows }
 }

@@ -12,10 +12,12 @@ use super::chains::Chains;
 use super::coming::Coming;
 use super::entry::Entry;
 use super::name::Name;
+use super::near::{Hint, level_near, raises_near};
 use super::past::Past;
-use super::table::{brings_nothing, news, put_in, put_news, raises, table_of};
+use super::table::{arriving, brings_nothing, news, put_in, put_news, raises, table_of};
 use indexmap::IndexMap;
-use lasp_log::Log;
+use lasp_log::{Items, Log};
+use lasp_value::Value;
 use std::alloc::{AllocError, Global};
 use std::marker::Model;
 
@@ -114,6 +116,21 @@ impl LogSet {
         self.chains.follow(&self.rows)
     }
 
+    /// `index_values`, and leaves rows out that are dead by now where they are the newest of a value. After want of memory it has left out none.
+    pub fn prune_value(&mut self, value: &Value) -> Result<(), AllocError>
+        ensures { self.new ≡ self.old }
+    {
+        self.chains.follow(&self.rows)?;
+        self.chains.prune(&self.rows, value)
+    }
+
+    /// Closes the log, so that a share of it costs a count for each of a few chunks.
+    pub fn close(&mut self)
+        ensures { self.new ≡ self.old }
+    {
+        self.log.close()
+    }
+
     /// The number of rows, dead ones counted.
     pub fn rows(&self) -> u64
         ensures exact { result ≡ length (of_rows self.now) }
@@ -164,6 +181,20 @@ impl LogSet {
         ensures { result ≡ nat_lt (mark self.now name.now.0 name.now.1) (level dead) }
     {
         raises(&self.rows, name, dead)
+    }
+
+    /// The same, along with a log.
+    pub(crate) fn lacks_near(&self, hint: &mut Hint, name: &Name, dead: bool) -> bool
+        ensures { result ≡ nat_lt (mark self.now name.now.0 name.now.1) (level dead) }
+    {
+        raises_near(&self.rows, hint, name, dead)
+    }
+
+    /// What the set says of a key, along with a log: 0 where it has no row, 2 where that is dead, else 1.
+    pub(crate) fn level_near(&self, hint: &mut Hint, name: &Name) -> u8
+        ensures { result ≡ mark self.now name.now.0 name.now.1 }
+    {
+        level_near(&self.rows, hint, name)
     }
 
     /// The order: each row of this set is in the other one, and is dead there if it is dead here. It costs a look-up for each row of the log, up to the first that the other set lacks.
@@ -226,11 +257,31 @@ impl LogSet {
         if news.is_empty() {
             return Ok(false);
         }
+        self.put_all(news)?;
+        Ok(true)
+    }
+
+    /// Puts the rows of a pass behind the log, which each tell more than it and those before. Each costs a look-up.
+    pub(crate) fn put_behind(&mut self, rows: Items<'_, Entry>) -> Result<(), AllocError>
+        requires { AreRises self.old rows }
+        ensures ok { OnOk result (self.new ≡ self.old ++ rows.entry) }
+        ensures err { OnErr result (self.new ≡ self.old) }
+    {
+        let coming = arriving(self.log.allocator(), rows)?;
+        self.put_all(coming)
+    }
+
+    /// Puts rows behind the log that each tell more than it and those before. All memory is taken first.
+    fn put_all(&mut self, news: Vec<Coming>) -> Result<(), AllocError>
+        requires { AreRises self.old news.items }
+        ensures ok { OnOk result (self.new ≡ self.old ++ news.items) }
+        ensures err { OnErr result (self.new ≡ self.old) }
+    {
         self.rows.reserve(news.len())?;
         self.log.reserve(news.len())?;
         put_news(&mut self.rows, &mut self.log, news);
         self.log.seal();
-        Ok(true)
+        Ok(())
     }
 
     /// The state as it is now. It costs what a share of the log does, and stays as it is when the set grows.

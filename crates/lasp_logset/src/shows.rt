@@ -1,8 +1,8 @@
 //! What a set shows, and passes over its rows.
 
-ghost use Rattle.std.specs.Prelude.{◌≡◌, ◌≤◌, ◌^◌, ◌+◌, ◌↔◌, ◌++◌, [], IfOk, OnOk, IsTrue, length, string_bytes};
+ghost use Rattle.std.specs.Prelude.{◌≡◌, ◌≤◌, ◌^◌, ◌+◌, ◌↔◌, ◌++◌, [], IfOk, OnOk, IsTrue, length, string_bytes, filter};
 ghost use Rattle.model_values.specs.Text.{shown_values};
-ghost use Rattle.model_sets.specs.Rows.{of_rows, join};
+ghost use Rattle.model_sets.specs.Rows.{of_rows, join, is_of};
 ghost use Rattle.model_sets.specs.Rises.{AreRises, AreApart};
 ghost use Rattle.model_sets.specs.Reads.{HasRowOf};
 ghost use Rattle.model_sets.specs.Values.{IsHeld, visible};
@@ -11,6 +11,7 @@ ghost use Rattle.lasp_value.specs.Value.{val_of};
 ghost use Rattle.lasp_logset.specs.Shown.{shown_next};
 
 use super::entry::Entry;
+use super::near::Hint;
 use super::orset::{Kept, OrSet};
 use super::pass::Pass;
 use super::passes::{count_more, has_live_in};
@@ -30,13 +31,23 @@ impl OrSet {
     {
         match &self.kept {
             Kept::Whole(set) => Ok(Pass::of_table(set.iter())),
-            Kept::Past(past) => {
+            Kept::Past(grown) => {
+                let past = grown.past();
                 if past.rows() == past.version() {
                     return Ok(Pass::of_log(past.log().iter()));
                 }
                 self.standing()
             }
         }
+    }
+
+    /// A pass as `entries` over rows among which are all those of a value.
+    pub fn entries_near(&self, value: &Value) -> Result<Pass<'_>, AllocError>
+        ensures rows { IfOk result (λ rows. filter (is_of (val_of value.now)) (of_rows rows) ≡ filter (is_of (val_of value.now)) self.now) }
+        ensures apart { IfOk result (λ rows. AreApart rows) }
+    {
+        let _ = value;
+        self.entries()
     }
 
     /// A pass over the log that leaves out what died later, by a table that is made for it.
@@ -57,7 +68,7 @@ impl OrSet {
     {
         match &self.kept {
             Kept::Whole(set) => Pass::of_table(set.iter()),
-            Kept::Past(past) => Pass::of_log(past.log().iter()),
+            Kept::Past(grown) => Pass::of_log(grown.past().log().iter()),
         }
     }
 
@@ -67,7 +78,9 @@ impl OrSet {
     {
         match &self.kept {
             Kept::Whole(set) => set.sorted(),
-            Kept::Past(past) => collapsed(past.allocator(), sorted_changes(past.log())?),
+            Kept::Past(grown) => {
+                collapsed(grown.allocator(), sorted_changes(grown.past().log())?)
+            }
         }
     }
 
@@ -171,9 +184,10 @@ fn count_lacking(set: &LogSet, rows: Pass<'_>) -> u64
     ensures few { result ≤ length rows.entry }
 {
     let mut count = 0u64;
+    let mut hint = Hint::new();
     let mut left = rows;
     while let Some(row) = left.next() {
-        if set.lacks(row.name(), false) {
+        if set.lacks_near(&mut hint, row.name(), false) {
             count += 1;
         }
     }

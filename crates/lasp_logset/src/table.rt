@@ -13,8 +13,9 @@ ghost use Rattle.lasp_logset.specs.Kept.{AreKept};
 use super::coming::Coming;
 use super::entry::Entry;
 use super::name::Name;
+use super::near::{Hint, raises_near};
 use indexmap::IndexMap;
-use lasp_log::Log;
+use lasp_log::{Items, Log};
 use std::alloc::{AllocError, Global};
 
 /// Whether a row of this key tells more than the table: where no row has the key, or where it is dead in this row alone. It costs a look-up.
@@ -45,22 +46,36 @@ pub(crate) fn news(
     ensures { IfOk result (λ v. v.items ≡ changed rows.now.entries log.now.items) }
 {
     let mut news = Vec::new(alloc);
+    let mut hint = Hint::new();
     let mut left = log.iter();
     while let Some(entry) = left.next() {
-        if raises(rows, entry.name(), entry.is_dead()) {
+        if raises_near(rows, &mut hint, entry.name(), entry.is_dead()) {
             news.push(Coming::of(entry.try_clone()?)?)?;
         }
     }
     Ok(news)
 }
 
+/// The rows of a pass with their keys for a table.
+pub(crate) fn arriving(alloc: Global, rows: Items<'_, Entry>) -> Result<Vec<Coming>, AllocError>
+    ensures { IfOk result (λ v. v.items ≡ rows.entry) }
+{
+    let mut coming = Vec::new(alloc);
+    let mut left = rows;
+    while let Some(entry) = left.next() {
+        coming.push(Coming::of(entry.try_clone()?)?)?;
+    }
+    Ok(coming)
+}
+
 /// Whether no row of a log tells more than the table.
 pub(crate) fn brings_nothing(rows: &IndexMap<Name, bool>, log: &Log<Entry>) -> bool
     ensures { IsTrue result ↔ (changed rows.now.entries log.now.items ≡ []) }
 {
+    let mut hint = Hint::new();
     let mut left = log.iter();
     while let Some(entry) = left.next() {
-        if raises(rows, entry.name(), entry.is_dead()) {
+        if raises_near(rows, &mut hint, entry.name(), entry.is_dead()) {
             return false;
         }
     }

@@ -1,4 +1,4 @@
-//! Tests of values, of joins, of logs, of sources, of files and outputs, and of the lock.
+//! Tests of values, of joins, of logs, of sources, of files and outputs, of the lock and of the mailbox.
 #![tactic(auto)]
 
 #[cfg(test)]
@@ -12,6 +12,10 @@ mod log;
 #[cfg(test)]
 mod logset;
 #[cfg(test)]
+mod mail;
+#[cfg(test)]
 mod orset;
+#[cfg(test)]
+mod shared;
 #[cfg(test)]
 mod value;

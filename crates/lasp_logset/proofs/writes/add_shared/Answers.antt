@@ -14,5 +14,4 @@ returns-then-not-raises-clause-ok c =
 
 pub returns-clause-ok : goal.returns-clause-ok
 returns-clause-ok c =
-    ap (λ (s : List Row). of_rows s) c.in_ok-shared.ensures.ok ∙ added-rows c.in_ok-copy.copy c.add-2.new.self c.args.entry c.in_ok-add-2.ensures.ok
-    ∙ ap (λ (s : List Row). put c.args.entry (of_rows s)) (c.in_ok-copy.ensures ∙ c.deref-2.ensures)
+    added-rows c.in_ok-grown.grown c.add-2.new.self c.args.entry c.in_ok-add-2.ensures.ok ∙ ap (λ (s : List Row). put c.args.entry (of_rows s)) c.in_ok-grown.ensures

@@ -1,6 +1,6 @@
 use Rattle.std.proofs.Common.{ap, sym, ◌∙◌, length}
 use Rattle.lasp_log.proofs.LogLaws.{joined-sealed}
-use Rattle.lasp_log.proofs.log.Log.seal.Goals as goal
+use Rattle.lasp_log.proofs.log.Log.seal_from.Goals as goal
 
 pub invariant_of-self-in-Ok : goal.invariant_of-self-in-Ok
 invariant_of-self-in-Ok g c =
