@@ -41,6 +41,9 @@ use Rattle.model_program.proofs.MergeLaws.{take-Decides, more-file, replica_of, 
 use Rattle.model_program.proofs.MergeCauses.{rest_plan, next, read-none, read-wrong, read-large, joined-nodes, file-long, file-refused, file-joined, next-answer, last-answer, shown-answer, merge-many}
 use Rattle.model_program.proofs.PlanCauses.{told-form, opening-long, opening-refused, opening-read, scripting-long, scripting-refused, ended_answer, run-ends, to-script, to-answer}
 
+pub some-same : (x y : Answer) → Some x ≡ Some y → x ≡ y
+some-same x y h = cc
+
 -- ---- a file of a plan
 
 option-first : {A B : Type 0} (k : A → Option B) (o : Option A) (b : B) → option_and_then k o ≡ Some b → (a : A) × (o ≡ Some a)
@@ -70,7 +73,7 @@ module _ (lib : Library) (content : List ℕ → Option (List ℕ)) (words : Lis
   abbrev Found : Type 0
   Found = (b : Answer) × HasCause lib content words b
 
-  data GraphSeen : Type 0 where
+  pub data GraphSeen : Type 0 where
     graph_is_refused : {x : Refusal} → IsGraphRefused lib content words x → GraphSeen
     graph_is_read : (g : List Decl) → IsGraphTold lib content words g → GraphSeen
 
@@ -82,14 +85,14 @@ module _ (lib : Library) (content : List ℕ → Option (List ℕ)) (words : Lis
   graph-file bytes is (long many) = graph_is_refused (graph_long is many)
   graph-file bytes is (short few) = graph-read bytes (record { told = is; short = few }) (graph_of lib bytes) refl
 
-  graph-seen : (go_on : List Decl → Plan) (a : Answer) → told (opening lib go_on) ≡ Some a → GraphSeen
+  pub graph-seen : (go_on : List Decl → Plan) (a : Answer) → told (opening lib go_on) ≡ Some a → GraphSeen
   graph-seen go_on a e =
       let file = read-first content words 1 (λ bytes. checked refused_graph (graph_of lib bytes) go_on) a e in
       graph-file file.0 file.1 (is-long file.0 _ refl)
 
   -- ---- the script's file
 
-  data ScriptSeen (g : List Decl) : Type 0 where
+  pub data ScriptSeen (g : List Decl) : Type 0 where
     script_is_refused : {x : Refusal} → IsScriptRefused lib content words g x → ScriptSeen g
     script_is_read : (s : Script) → IsScriptTold lib content words g s → ScriptSeen g
 
@@ -101,7 +104,7 @@ module _ (lib : Library) (content : List ℕ → Option (List ℕ)) (words : Lis
   script-file g bytes is (long many) = script_is_refused (script_long is many)
   script-file g bytes is (short few) = script-read g bytes (record { told = is; short = few }) (script_of lib g bytes) refl
 
-  script-seen : (g : List Decl) (go_on : Script → Plan) (a : Answer) → told (scripting lib g go_on) ≡ Some a → ScriptSeen g
+  pub script-seen : (g : List Decl) (go_on : Script → Plan) (a : Answer) → told (scripting lib g go_on) ≡ Some a → ScriptSeen g
   script-seen g go_on a e =
       let file = read-first content words 2 (λ bytes. checked refused_script (script_of lib g bytes) go_on) a e in
       script-file g file.0 file.1 (is-long file.0 _ refl)
@@ -238,7 +241,7 @@ module _ (lib : Library) (content : List ℕ → Option (List ℕ)) (words : Lis
 
   -- ---- the answer of a cause
 
-  graph-told : (go_on : List Decl → Plan) (x : Refusal) → IsGraphRefused lib content words x → told (opening lib go_on) ≡ Some (Err x)
+  pub graph-told : (go_on : List Decl → Plan) (x : Refusal) → IsGraphRefused lib content words x → told (opening lib go_on) ≡ Some (Err x)
   graph-told go_on _ (graph_long {bytes = bytes} is many) = opening-long lib content words go_on bytes is many
   graph-told go_on _ (graph_bad {bytes = bytes} {number = number} {why = why} file e) = opening-refused lib content words go_on bytes number why file e
 
@@ -262,7 +265,7 @@ module _ (lib : Library) (content : List ℕ → Option (List ℕ)) (words : Lis
   usage-first (Threaded threads) is = told-answer content words (Err refusal.Usage) (Err refusal.Usage) refl
   usage-first Wrong is = told-answer content words (Err refusal.Usage) (Err refusal.Usage) refl
 
-  script-told : (g : List Decl) (go_on : Script → Plan) (x : Refusal) → IsScriptRefused lib content words g x → told (scripting lib g go_on) ≡ Some (Err x)
+  pub script-told : (g : List Decl) (go_on : Script → Plan) (x : Refusal) → IsScriptRefused lib content words g x → told (scripting lib g go_on) ≡ Some (Err x)
   script-told g go_on _ (script_long {bytes = bytes} is many) = scripting-long lib content words g go_on bytes is many
   script-told g go_on _ (script_bad {bytes = bytes} {number = number} {why = why} file e) = scripting-refused lib content words g go_on bytes number why file e
 
@@ -323,6 +326,4 @@ module _ (lib : Library) (content : List ℕ → Option (List ℕ)) (words : Lis
   told-cause a e =
       let cause = found (form words) a refl e in
       let same : cause.0 ≡ a = some-same cause.0 a (sym (cause-told cause.0 cause.1) ∙ e) in
-      subst (λ (b : Answer). HasCause lib content words b) same cause.1 where
-        some-same : (x y : Answer) → Some x ≡ Some y → x ≡ y
-        some-same x y h = cc
+      subst (λ (b : Answer). HasCause lib content words b) same cause.1

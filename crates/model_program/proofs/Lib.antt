@@ -19,3 +19,4 @@ mod StatusLaws
 mod AlikeLaws
 mod DotCauses
 mod DotTextLaws
+pub mod TopLaws

@@ -9,12 +9,12 @@ use Rattle.model_world.specs.declared.stop.Stop.TheVariants as stop
 use Rattle.model_readings.specs.declared.graph_why.GraphWhy.{GraphWhy}
 use Rattle.model_scripts.specs.declared.script_why.ScriptWhy.{ScriptWhy}
 use Rattle.model_scripts.specs.Progress.{grown}
-use Rattle.model_program.specs.Call.{Reading, view_of, Decides, Writes, Begins, IsLacking, IsAnswered}
+use Rattle.model_program.specs.Call.{Reading, view_of, DecidesBy, Writes, Begins, IsLacking, IsPlanned}
 use Rattle.model_program.specs.Cause.{IsGraphRefused, graph_long, graph_bad, IsScriptRefused, script_long, script_bad, IsFileRefused, file_long, no_message, wrong_graph, source_large, IsDotsRefused, dots_long, dots_bad, HasCause, usage, graph_refused, script_refused, run_stopped, reported, checked, dots_refused, other_word, dots_done, export_refused, no_such_node, export_stopped, exported, file_refused, variable_too_large, merged}
 use Rattle.model_program.specs.Ends.{Writing, MeetsFault}
 use Rattle.model_program.specs.Line.{refusal_status}
-use Rattle.model_program.specs.Plan.{Text, Answer}
-use Rattle.model_program.specs.Program.{form, plan, IsUsageForm, stopped}
+use Rattle.model_program.specs.Plan.{Text, Answer, Plan}
+use Rattle.model_program.specs.Program.{form, IsUsageForm, stopped}
 use Rattle.model_program.specs.declared.refusal.Refusal.{Refusal}
 use Rattle.model_program.specs.declared.refusal.Refusal.TheVariants as refusal
 use Rattle.model_program.specs.declared.state_why.StateWhy.{StateWhy}
@@ -69,15 +69,15 @@ usage-form lib content words _ (merged is graph there end small) e = absurd cc
 abbrev IsOther : ℕ → Type 0
 IsOther status = (status ≢ 0) × (status ≢ 4) × (status ≢ 5) × (status ≢ 7)
 
-module _ {N : Type 0} (lib : Library) (words : List (List ℕ)) (files : Reading N) (out err : Writing) where
+module _ {N : Type 0} (p : Plan) (words : List (List ℕ)) (files : Reading N) (out err : Writing) where
   -- what is said of a text, and of a refusal
   abbrev OfText : ℕ → Text → Type 0
-  OfText status text = ((status ≡ 0) × Writes out text) ⊎ (((status ≡ 5) × Begins out text) ⊎ IsLacking lib words (view_of files) status)
+  OfText status text = ((status ≡ 0) × Writes out text) ⊎ (((status ≡ 5) × Begins out text) ⊎ IsLacking p words (view_of files) status)
 
   abbrev OfRefusal : ℕ → Refusal → Type 0
-  OfRefusal status x = (status ≡ refusal_status x) ⊎ IsLacking lib words (view_of files) status
+  OfRefusal status x = (status ≡ refusal_status x) ⊎ IsLacking p words (view_of files) status
 
-  lacking-other : (status : ℕ) → IsOther status → IsLacking lib words (view_of files) status → ⊥
+  lacking-other : (status : ℕ) → IsOther status → IsLacking p words (view_of files) status → ⊥
   lacking-other status h (inl seven) = h.3 seven
   lacking-other status h (inr (four, fault)) = h.1 four
 
@@ -91,7 +91,7 @@ module _ {N : Type 0} (lib : Library) (words : List (List ℕ)) (files : Reading
   own-status status x h (inr lacks) = absurd (lacking-other status h lacks)
 
   -- a status of refusals alone is that of the refusal
-  refusal-of : (status : ℕ) (a : Answer) → IsOther status → IsAnswered lib words files out err status → Decides lib words (view_of files) a → (x : Refusal) × (a ≡ Err x) × (status ≡ refusal_status x)
+  refusal-of : (status : ℕ) (a : Answer) → IsOther status → IsPlanned p words files out err status → DecidesBy p words (view_of files) a → (x : Refusal) × (a ≡ Err x) × (status ≡ refusal_status x)
   refusal-of status (Ok text) h all decides = absurd (text-other status text h (all.written text decides))
   refusal-of status (Err x) h all decides = (x, refl, own-status status x h (all.refused x decides))
 
@@ -176,9 +176,9 @@ module _ {N : Type 0} (lib : Library) (words : List (List ℕ)) (files : Reading
   as-long a (refusal.State f place why) is e = absurd cc
 
   abbrev All : ℕ → Type 0
-  All status = IsAnswered lib words files out err status
+  All status = IsPlanned p words files out err status
 
-  pub done-text : (a : Answer) → All 0 → Decides lib words (view_of files) a → (text : Text) × (a ≡ Ok text) × Writes out text
+  pub done-text : (a : Answer) → All 0 → DecidesBy p words (view_of files) a → (text : Text) × (a ≡ Ok text) × Writes out text
   done-text (Ok text) all decides = (text, refl, written (all.written text decides)) where
     written : OfText 0 text → Writes out text
     written (inl (done, writes)) = writes
@@ -199,7 +199,7 @@ module _ {N : Type 0} (lib : Library) (words : List (List ℕ)) (files : Reading
     none x (inr (inl seven)) = cc
     none x (inr (inr (four, fault))) = cc
 
-  pub fault-text : (a : Answer) → All 5 → Decides lib words (view_of files) a → (text : Text) × (a ≡ Ok text) × Begins out text
+  pub fault-text : (a : Answer) → All 5 → DecidesBy p words (view_of files) a → (text : Text) × (a ≡ Ok text) × Begins out text
   fault-text (Ok text) all decides = (text, refl, begun (all.written text decides)) where
     begun : OfText 5 text → Begins out text
     begun (inl (done, writes)) = absurd cc
@@ -220,34 +220,34 @@ module _ {N : Type 0} (lib : Library) (words : List (List ℕ)) (files : Reading
     none x (inr (inl seven)) = cc
     none x (inr (inr (four, fault))) = cc
 
-  pub long-file : (a : Answer) → All 4 → Decides lib words (view_of files) a → ((f : ℕ) × (a ≡ Err (refusal.TooLong f))) ⊎ MeetsFault words (view_of files) (plan lib words)
+  pub long-file : (a : Answer) → All 4 → DecidesBy p words (view_of files) a → ((f : ℕ) × (a ≡ Err (refusal.TooLong f))) ⊎ MeetsFault words (view_of files) p
   long-file (Ok text) all decides = inr (met (all.written text decides)) where
-    met : OfText 4 text → MeetsFault words (view_of files) (plan lib words)
+    met : OfText 4 text → MeetsFault words (view_of files) p
     met (inl (done, writes)) = absurd cc
     met (inr (inl (fault, begins))) = absurd cc
     met (inr (inr (inl seven))) = absurd cc
     met (inr (inr (inr (four, fault)))) = fault
   long-file (Err x) all decides = told (all.refused x decides) where
-    told : OfRefusal 4 x → ((f : ℕ) × (◌≡◌ {A = Answer} (Err x) (Err (refusal.TooLong f)))) ⊎ MeetsFault words (view_of files) (plan lib words)
+    told : OfRefusal 4 x → ((f : ℕ) × (◌≡◌ {A = Answer} (Err x) (Err (refusal.TooLong f)))) ⊎ MeetsFault words (view_of files) p
     told (inl own) = inl (as-long (Err x) x refl own)
     told (inr (inl seven)) = absurd cc
     told (inr (inr (four, fault))) = inr fault
 
-  pub usage-told : (a : Answer) → All 1 → Decides lib words (view_of files) a → a ≡ Err refusal.Usage
+  pub usage-told : (a : Answer) → All 1 → DecidesBy p words (view_of files) a → a ≡ Err refusal.Usage
   usage-told a all decides = as-usage a (refusal-of 1 a (λ e. cc, λ e. cc, λ e. cc, λ e. cc) all decides)
 
-  pub graph-told : (a : Answer) → All 2 → Decides lib words (view_of files) a → (number : ℕ) × (why : GraphWhy) × (a ≡ Err (refusal.Graph number why))
+  pub graph-told : (a : Answer) → All 2 → DecidesBy p words (view_of files) a → (number : ℕ) × (why : GraphWhy) × (a ≡ Err (refusal.Graph number why))
   graph-told a all decides = as-graph a (refusal-of 2 a (λ e. cc, λ e. cc, λ e. cc, λ e. cc) all decides)
 
-  pub script-told : (a : Answer) → All 3 → Decides lib words (view_of files) a → ((number : ℕ) × (why : ScriptWhy) × (a ≡ Err (refusal.Script number why))) ⊎ ((number : ℕ) × (a ≡ Err (refusal.NotDots number)))
+  pub script-told : (a : Answer) → All 3 → DecidesBy p words (view_of files) a → ((number : ℕ) × (why : ScriptWhy) × (a ≡ Err (refusal.Script number why))) ⊎ ((number : ℕ) × (a ≡ Err (refusal.NotDots number)))
   script-told a all decides = as-script a (refusal-of 3 a (λ e. cc, λ e. cc, λ e. cc, λ e. cc) all decides)
 
-  pub limit-told : (a : Answer) → All 6 → Decides lib words (view_of files) a
+  pub limit-told : (a : Answer) → All 6 → DecidesBy p words (view_of files) a
       → ((command : ℕ) × (node : ℕ) × (name : List ℕ) × (a ≡ Err (refusal.TooLarge command node name))) ⊎ ((command : ℕ) × (a ≡ Err (refusal.NetworkFull command)))
   limit-told a all decides = as-limit a (refusal-of 6 a (λ e. cc, λ e. cc, λ e. cc, λ e. cc) all decides)
 
-  pub unreached-told : (a : Answer) → All 8 → Decides lib words (view_of files) a → (command : ℕ) × (a ≡ Err (refusal.NotReached command))
+  pub unreached-told : (a : Answer) → All 8 → DecidesBy p words (view_of files) a → (command : ℕ) × (a ≡ Err (refusal.NotReached command))
   unreached-told a all decides = as-unreached a (refusal-of 8 a (λ e. cc, λ e. cc, λ e. cc, λ e. cc) all decides)
 
-  pub state-told : (a : Answer) → All 9 → Decides lib words (view_of files) a → (f : ℕ) × (place : ℕ) × (why : StateWhy) × (a ≡ Err (refusal.State f place why))
+  pub state-told : (a : Answer) → All 9 → DecidesBy p words (view_of files) a → (f : ℕ) × (place : ℕ) × (why : StateWhy) × (a ≡ Err (refusal.State f place why))
   state-told a all decides = as-state a (refusal-of 9 a (λ e. cc, λ e. cc, λ e. cc, λ e. cc) all decides)

@@ -16,7 +16,7 @@ use Rattle.model_program.specs.Cause.{HasCause}
 use Rattle.model_program.specs.Ends.{Writing, writing, Tells, Ends, NoFault, MeetsFault}
 use Rattle.model_program.specs.Follows.{View, view, Follows}
 use Rattle.model_program.specs.Line.{status_of, line_of}
-use Rattle.model_program.specs.Plan.{Text, IsText, Answer, told_answer}
+use Rattle.model_program.specs.Plan.{Text, IsText, Answer, Plan, told_answer}
 use Rattle.model_program.specs.Places.{AreKnown, AreAlike}
 use Rattle.model_program.specs.Program.{form, plan, IsUsageForm}
 use Rattle.model_program.specs.Told.{TellsRun, TellsDots}
@@ -86,33 +86,44 @@ pub record IsUsage {N : Type 0} (files : Reading N) (out err : Writing) (status 
 
 -- ---- what is promised
 
--- the contents that are told decide this answer to the words
-abbrev pub Decides : Library → List (List ℕ) → View → Answer → Type 0
-Decides lib words v answer = told_answer v.content words (plan lib words) ≡ Some answer
+-- the contents that are told decide this answer to the plan
+abbrev pub DecidesBy : Plan → List (List ℕ) → View → Answer → Type 0
+DecidesBy p words v answer = told_answer v.content words p ≡ Some answer
 
--- memory was wanting, or a read of a file to which the plan of the words comes failed
-abbrev pub IsLacking : Library → List (List ℕ) → View → ℕ → Type 0
-IsLacking lib words v status = (status ≡ 7) ⊎ ((status ≡ 4) × MeetsFault words v (plan lib words))
+-- memory was wanting, or a read of a file to which the plan comes failed
+abbrev pub IsLacking : Plan → List (List ℕ) → View → ℕ → Type 0
+IsLacking p words v status = (status ≡ 7) ⊎ ((status ≡ 4) × MeetsFault words v p)
 
--- A call of the program on these words, over these files and both outputs, that answered this status.
-pub record IsAnswered {N : Type 0} (lib : Library) (words : List (List ℕ)) (files : Reading N) (out err : Writing) (status : ℕ) : Type 0 where
+-- A call on these words, over these files and both outputs, that answered this status by a plan.
+pub record IsPlanned {N : Type 0} (p : Plan) (words : List (List ℕ)) (files : Reading N) (out err : Writing) (status : ℕ) : Type 0 where
   -- contents of files stay, and no count of faults falls
   pub same : AreUnchanged files.content files.before files.after
   pub later : AreLater files.faults files.before files.after
   pub out_later : IsLater out
   pub err_later : IsLater err
-  -- some answer follows the plan of the words, and the call ends by it
-  pub ends : (answer : Result (List ℕ) Failure) × Follows words (view_of files) (plan lib words) answer × Ends words answer out err status
+  -- some answer follows the plan, and the call ends by it
+  pub ends : (answer : Result (List ℕ) Failure) × Follows words (view_of files) p answer × Ends words answer out err status
+  -- a refusal that the contents decide has its status, unless memory was wanting or a read of a file to which the plan comes failed
+  pub refused : (x : Refusal) → DecidesBy p words (view_of files) (Err x) → (status ≡ status_of (Refused x)) ⊎ IsLacking p words (view_of files) status
+  -- a text that the contents decide is written whole with status 0, or begun with 5 where `out` failed, with the same exception
+  pub written : (text : Text) → DecidesBy p words (view_of files) (Ok text)
+      → ((status ≡ 0) × Writes out text) ⊎ (((status ≡ 5) × Begins out text) ⊎ IsLacking p words (view_of files) status)
+  -- a text that the contents decide is written whole with status 0, unless memory was wanting, where nothing failed
+  pub complete : (text : Text) → DecidesBy p words (view_of files) (Ok text) → NoFault words (view_of files) p → ¬ Rose out.faults_before out.faults_after
+      → ((status ≡ 0) × Writes out text) ⊎ (status ≡ 7)
+  -- with another status than 0 and 5 nothing is written to `out`
+  pub quiet : status ≢ 0 → status ≢ 5 → out.after ≡ out.before
+
+-- the contents that are told decide this answer to the words
+abbrev pub Decides : Library → List (List ℕ) → View → Answer → Type 0
+Decides lib words v answer = DecidesBy (plan lib words) words v answer
+
+-- A call of the program on these words, over these files and both outputs, that answered this status.
+pub record IsAnswered {N : Type 0} (lib : Library) (words : List (List ℕ)) (files : Reading N) (out err : Writing) (status : ℕ) : Type 0 where
+  -- it goes by the plan of the words
+  pub planned : IsPlanned (plan lib words) words files out err status
   -- an answer that the contents decide has its cause in them, one of those that are listed
   pub caused : (answer : Answer) → Decides lib words (view_of files) answer → HasCause lib (files.content files.before) words answer
-  -- a refusal that the contents decide has its status, unless memory was wanting or a read of a file to which the plan comes failed
-  pub refused : (x : Refusal) → Decides lib words (view_of files) (Err x) → (status ≡ status_of (Refused x)) ⊎ IsLacking lib words (view_of files) status
-  -- a text that the contents decide is written whole with status 0, or begun with 5 where `out` failed, with the same exception
-  pub written : (text : Text) → Decides lib words (view_of files) (Ok text)
-      → ((status ≡ 0) × Writes out text) ⊎ (((status ≡ 5) × Begins out text) ⊎ IsLacking lib words (view_of files) status)
-  -- a text that the contents decide is written whole with status 0, unless memory was wanting, where nothing failed
-  pub complete : (text : Text) → Decides lib words (view_of files) (Ok text) → NoFault words (view_of files) (plan lib words) → ¬ Rose out.faults_before out.faults_after
-      → ((status ≡ 0) × Writes out text) ⊎ (status ≡ 7)
   -- where the contents of both files are told, a report is the one that can be told from what the nodes know alone
   pub direct : (g : List Decl) (script : Script) → TellsRun lib (files.content files.before) words g script → status ≡ 0
       → (run : Run) × (ended g script ≡ Ok run) × Appends out.before (direct_report g script run) out.after
@@ -125,5 +136,3 @@ pub record IsAnswered {N : Type 0} (lib : Library) (words : List (List ℕ)) (fi
       → Appends out.before (report_of run ++ live_lines 0 run.peers) out.after
   -- words of no form for one thread: no file is read
   pub unread : IsUsageForm (form words) → files.after ≡ files.before
-  -- with another status than 0 and 5 nothing is written to `out`
-  pub quiet : status ≢ 0 → status ≢ 5 → out.after ≡ out.before

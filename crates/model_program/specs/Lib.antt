@@ -14,3 +14,5 @@ pub mod Call
 pub mod Cause
 pub mod Places
 pub mod Dots
+pub mod Threads
+pub mod Top

@@ -1,15 +1,22 @@
 -- A plan: an answer, or a file to read and how to go on with its bytes. The order of refusals is the nesting of a plan.
 use Rattle.std.specs.Prelude.{◌≡◌, ◌⊎◌, ℕ, List, length, if◌then◌else◌, nat_lt, Option, Some, option_and_then, Result, Ok, Err, slice_index_or, []}
+use Rattle.model_graph.specs.Graph.{Decl}
+use Rattle.model_world.specs.Command.{Script}
+use Rattle.model_world.specs.World.{Run}
+use Rattle.model_trace.specs.Traced.{IsTrace}
 use Rattle.model_program.specs.declared.refusal.Refusal.{Refusal}
 use Rattle.model_program.specs.declared.refusal.Refusal.TheVariants.{TooLong}
 
 -- What a text has to be. Where one text alone is lawful, it is told; a command that has many lawful texts has a constructor of its own, with what decides which they are.
 pub data Text : Type 0 where
   Exactly : List ℕ → Text
+  -- a trace of this script's run over this graph, which came to this end
+  Traced : List Decl → Script → Run → Text
 
 -- these bytes are such a text
 abbrev pub IsText : Text → List ℕ → Type 0
 IsText (Exactly text) bytes = bytes ≡ text
+IsText (Traced g script run) bytes = IsTrace g script run bytes
 
 -- what the text to write has to be, or a refusal
 abbrev pub Answer : Type 0

@@ -7,6 +7,7 @@ mod exports;
 mod merges;
 mod refusals;
 mod statuses;
+mod threads;
 mod words;
 
 pub use answers::{causes_of_answers, causes_of_checks};
@@ -19,4 +20,5 @@ pub use statuses::{
     answers_come_exactly_where_they_have_a_cause, statuses_tell_the_answer,
     told_files_decide_an_answer,
 };
+pub use threads::threaded_answers_come_exactly_where_they_have_a_cause;
 pub use words::words_have_the_listed_forms;

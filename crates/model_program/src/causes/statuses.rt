@@ -4,10 +4,10 @@ ghost use Rattle.std.specs.Prelude.{◌≡◌, ◌↔◌, ◌⊎◌, ℕ, List, 
 ghost use Rattle.model_functions.specs.Library.{Library};
 ghost use Rattle.model_readings.specs.declared.graph_why.GraphWhy.{GraphWhy};
 ghost use Rattle.model_scripts.specs.declared.script_why.ScriptWhy.{ScriptWhy};
-ghost use Rattle.model_program.specs.Call.{Reading, view_of, Decides, Writes, Begins, IsAnswered};
+ghost use Rattle.model_program.specs.Call.{Reading, view_of, DecidesBy, Writes, Begins, IsPlanned};
 ghost use Rattle.model_program.specs.Cause.{HasCause};
 ghost use Rattle.model_program.specs.Ends.{Writing, MeetsFault};
-ghost use Rattle.model_program.specs.Plan.{Text, Answer, AreTold, told_answer};
+ghost use Rattle.model_program.specs.Plan.{Text, Answer, Plan, AreTold, told_answer};
 ghost use Rattle.model_program.specs.Program.{form, plan, IsUsageForm};
 ghost use Rattle.model_program.specs.declared.refusal.Refusal.TheVariants as refusal;
 ghost use Rattle.model_program.specs.declared.state_why.StateWhy.{StateWhy};
@@ -19,25 +19,25 @@ pub fn answers_come_exactly_where_they_have_a_cause()
     ensures usage { (lib : Library) (content : List ℕ → Option (List ℕ)) (words : List (List ℕ)) → (HasCause lib content words (Err refusal.Usage) ↔ IsUsageForm (form words)) }
 {}
 
-/// Where the contents decide an answer, each status but 7 tells which: of 0 and 5 a text, of 4 a file that is too long unless a read failed, of the others the refusal with this status. It holds for files of every type.
+/// Where the contents decide an answer, each status but 7 tells which: of 0 and 5 a text, of 4 a file that is too long unless a read failed, of the others the refusal with this status. It holds of every plan, and for files of every type.
 pub fn statuses_tell_the_answer<F>()
-    ensures done { (lib : Library) (words : List (List ℕ)) (files : Reading F) (out err : Writing) (answer : Answer) → IsAnswered lib words files out err 0 → Decides lib words (view_of files) answer
+    ensures done { (p : Plan) (words : List (List ℕ)) (files : Reading F) (out err : Writing) (answer : Answer) → IsPlanned p words files out err 0 → DecidesBy p words (view_of files) answer
         → (text : Text) × (answer ≡ Ok text) × Writes out text }
-    ensures usage { (lib : Library) (words : List (List ℕ)) (files : Reading F) (out err : Writing) (answer : Answer) → IsAnswered lib words files out err 1 → Decides lib words (view_of files) answer
+    ensures usage { (p : Plan) (words : List (List ℕ)) (files : Reading F) (out err : Writing) (answer : Answer) → IsPlanned p words files out err 1 → DecidesBy p words (view_of files) answer
         → answer ≡ Err refusal.Usage }
-    ensures graph { (lib : Library) (words : List (List ℕ)) (files : Reading F) (out err : Writing) (answer : Answer) → IsAnswered lib words files out err 2 → Decides lib words (view_of files) answer
+    ensures graph { (p : Plan) (words : List (List ℕ)) (files : Reading F) (out err : Writing) (answer : Answer) → IsPlanned p words files out err 2 → DecidesBy p words (view_of files) answer
         → (number : ℕ) × (why : GraphWhy) × (answer ≡ Err (refusal.Graph number why)) }
-    ensures script { (lib : Library) (words : List (List ℕ)) (files : Reading F) (out err : Writing) (answer : Answer) → IsAnswered lib words files out err 3 → Decides lib words (view_of files) answer
+    ensures script { (p : Plan) (words : List (List ℕ)) (files : Reading F) (out err : Writing) (answer : Answer) → IsPlanned p words files out err 3 → DecidesBy p words (view_of files) answer
         → ((number : ℕ) × (why : ScriptWhy) × (answer ≡ Err (refusal.Script number why))) ⊎ ((number : ℕ) × (answer ≡ Err (refusal.NotDots number))) }
-    ensures file { (lib : Library) (words : List (List ℕ)) (files : Reading F) (out err : Writing) (answer : Answer) → IsAnswered lib words files out err 4 → Decides lib words (view_of files) answer
-        → ((f : ℕ) × (answer ≡ Err (refusal.TooLong f))) ⊎ MeetsFault words (view_of files) (plan lib words) }
-    ensures fault { (lib : Library) (words : List (List ℕ)) (files : Reading F) (out err : Writing) (answer : Answer) → IsAnswered lib words files out err 5 → Decides lib words (view_of files) answer
+    ensures file { (p : Plan) (words : List (List ℕ)) (files : Reading F) (out err : Writing) (answer : Answer) → IsPlanned p words files out err 4 → DecidesBy p words (view_of files) answer
+        → ((f : ℕ) × (answer ≡ Err (refusal.TooLong f))) ⊎ MeetsFault words (view_of files) p }
+    ensures fault { (p : Plan) (words : List (List ℕ)) (files : Reading F) (out err : Writing) (answer : Answer) → IsPlanned p words files out err 5 → DecidesBy p words (view_of files) answer
         → (text : Text) × (answer ≡ Ok text) × Begins out text }
-    ensures limit { (lib : Library) (words : List (List ℕ)) (files : Reading F) (out err : Writing) (answer : Answer) → IsAnswered lib words files out err 6 → Decides lib words (view_of files) answer
+    ensures limit { (p : Plan) (words : List (List ℕ)) (files : Reading F) (out err : Writing) (answer : Answer) → IsPlanned p words files out err 6 → DecidesBy p words (view_of files) answer
         → ((command : ℕ) × (node : ℕ) × (name : List ℕ) × (answer ≡ Err (refusal.TooLarge command node name))) ⊎ ((command : ℕ) × (answer ≡ Err (refusal.NetworkFull command))) }
-    ensures unreached { (lib : Library) (words : List (List ℕ)) (files : Reading F) (out err : Writing) (answer : Answer) → IsAnswered lib words files out err 8 → Decides lib words (view_of files) answer
+    ensures unreached { (p : Plan) (words : List (List ℕ)) (files : Reading F) (out err : Writing) (answer : Answer) → IsPlanned p words files out err 8 → DecidesBy p words (view_of files) answer
         → (command : ℕ) × (answer ≡ Err (refusal.NotReached command)) }
-    ensures state { (lib : Library) (words : List (List ℕ)) (files : Reading F) (out err : Writing) (answer : Answer) → IsAnswered lib words files out err 9 → Decides lib words (view_of files) answer
+    ensures state { (p : Plan) (words : List (List ℕ)) (files : Reading F) (out err : Writing) (answer : Answer) → IsPlanned p words files out err 9 → DecidesBy p words (view_of files) answer
         → (f : ℕ) × (place : ℕ) × (why : StateWhy) × (answer ≡ Err (refusal.State f place why)) }
 {}
 
