@@ -4,3 +4,4 @@ pub mod SpotLaws
 pub mod KeptLaws
 pub mod RanLaws
 pub mod StoreLaws
+pub mod ClosedLaws

@@ -1,3 +1,4 @@
+pub mod Closed
 pub mod Ran
 pub mod Spots
 pub mod Stores

@@ -4,11 +4,13 @@
 //! // one store and its feed for each node
 //! let (stores, mut feeds) = fresh_stores(alloc, &graph, script.nodes())?;
 //! let report = drive(rt, alloc, &graph, &stores, &mut feeds, &script, 4, &lib, &NoGate)?;
-//! // the feeds are back, so each store can be closed
+//! // the feeds are back, so the stores can be closed, and answer their cores
+//! let cores = close_stores(alloc, stores, feeds)?;
 //! ```
 #![tactic(auto)]
 
 mod aside;
+mod closing;
 mod hands;
 mod nodes;
 mod report;
@@ -17,5 +19,6 @@ mod stores;
 mod stretch;
 mod worker;
 
+pub use closing::close_stores;
 pub use run::drive;
 pub use stores::fresh_stores;
