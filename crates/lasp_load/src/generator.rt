@@ -22,7 +22,7 @@ fn next_number(x: u64) -> u64
     (x * 1_103_515_245 + 12_345) % 2_147_483_648
 }
 
-fn push_decimal(text: &mut String, n: u64) -> Result<(), AllocError>
+pub(crate) fn push_decimal(text: &mut String, n: u64) -> Result<(), AllocError>
     ensures { OnOk result (string_bytes text.new ≡ string_bytes text.old ++ decimal n) }
 {
     text.push_str(itoa::Buffer::new().format(n))
