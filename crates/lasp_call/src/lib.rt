@@ -17,5 +17,5 @@ pub use ending::tell::{tell, tell_failure, tell_refusal};
 pub use ending::{end, end_with_text};
 pub use message::{may_take, read_message, too_large};
 pub use number::{node_word, number_in};
-pub use open::{open_graph, open_script, read_file};
+pub use open::{graph_from, open_graph, open_script, read_file, script_from};
 pub use words::{name_of, word};

@@ -36,7 +36,8 @@ pub fn read_file<F: Files>(
     }
 }
 
-fn graph_from(alloc: Global, bytes: &[u8], lib: &Library) -> Result<Arc<Graph>, Failure>
+/// The graph of a text's bytes, whose functions are the library's.
+pub fn graph_from(alloc: Global, bytes: &[u8], lib: &Library) -> Result<Arc<Graph>, Failure>
     ensures exact { Gives arc_value (refusing graph_refused (graph_of (library_of lib.now) bytes.now)) result }
     ensures graph { IfOk result (λ g. IsGraph (arc_value g)) }
     ensures fits { IfOk result (λ g. FitsAll (library_of lib.now) (arc_value g)) }
@@ -52,7 +53,13 @@ fn graph_from(alloc: Global, bytes: &[u8], lib: &Library) -> Result<Arc<Graph>, 
     }
 }
 
-fn script_from(alloc: Global, graph: &Graph, bytes: &[u8], lib: &Library) -> Result<Script, Failure>
+/// The script of a text's bytes, against the graph.
+pub fn script_from(
+    alloc: Global,
+    graph: &Graph,
+    bytes: &[u8],
+    lib: &Library,
+) -> Result<Script, Failure>
     requires fits { FitsAll (library_of lib.now) graph.now }
     ensures exact { Gives (λ s. s) (refusing script_refused (script_of (library_of lib.now) graph.now bytes.now)) result }
     ensures runnable { IfOk result (λ s. IsRunnable (library_of lib.now) graph.now s) }

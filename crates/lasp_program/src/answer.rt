@@ -1,7 +1,7 @@
 //! The answer to the program's words over the library of its functions.
 
 ghost use Rattle.std.specs.Prelude.{◌≡◌, IfOk, OnErr, map};
-ghost use Rattle.lasp_program.specs.Prelude.{IsSized, passes, lifted, reading_of, writing_of, IsAnswered, answered_words, val_of, lift_op_of, Answers, words_of, program_maps, program_predicates, program_lifts, program_library, map_entry, predicate_entry, lift_entry};
+ghost use Rattle.lasp_program.specs.Prelude.{IsSized, passes, lifted, reading_of, writing_of, IsTopAnswered, val_of, lift_op_of, Answers, words_of, program_maps, program_predicates, program_lifts, program_library, map_entry, predicate_entry, lift_entry};
 
 use crate::functions::{Condition, LIFTS, MAPS, PREDICATES};
 use crate::library::{add_lift, add_map, add_predicate};
@@ -25,7 +25,7 @@ pub fn answer_words<R: Threads + Wait + Sync, F: Files, O: Sink, E: Sink, G: Gat
     err: &mut E,
     gate: &G,
 ) -> Result<u8, AllocError>
-    ensures answered { IfOk result (IsAnswered program_library (answered_words (words_of words.now)) (reading_of F.content F.faults files.old files.new)
+    ensures answered { IfOk result (IsTopAnswered program_library (words_of words.now) (reading_of F.content F.faults files.old files.new)
         (writing_of O.written O.faults out.old out.new) (writing_of E.written E.faults err.old err.new)) }
     // where the library found no memory, nothing was done
     ensures err { OnErr result ((files.new ≡ files.old) × (out.new ≡ out.old) × (err.new ≡ err.old)) }
@@ -62,7 +62,7 @@ fn answer_over<R: Threads + Wait + Sync, F: Files, O: Sink, E: Sink, G: Gate + S
     requires predicates { map predicate_entry predicates.now ≡ program_predicates }
     requires lifts { map lift_entry lifts.now ≡ program_lifts }
     // the clauses of `answer_words`
-    ensures answered { IfOk result (IsAnswered program_library (answered_words (words_of words.now)) (reading_of F.content F.faults files.old files.new)
+    ensures answered { IfOk result (IsTopAnswered program_library (words_of words.now) (reading_of F.content F.faults files.old files.new)
         (writing_of O.written O.faults out.old out.new) (writing_of E.written E.faults err.old err.new)) }
     ensures err { OnErr result ((files.new ≡ files.old) × (out.new ≡ out.old) × (err.new ≡ err.old)) }
 {

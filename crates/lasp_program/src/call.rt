@@ -1,7 +1,7 @@
 //! A call with words of any bytes.
 
 ghost use Rattle.std.specs.Prelude.{◌≡◌, ◌⊎◌, IfOk, OnErr};
-ghost use Rattle.lasp_program.specs.Prelude.{reading_of, writing_of, AreTexts, IsAnswered, answered_words, IsUsage, program_library, bytes_of, TextsOrNone};
+ghost use Rattle.lasp_program.specs.Prelude.{reading_of, writing_of, AreTexts, IsTopAnswered, IsUsage, program_library, bytes_of, TextsOrNone};
 
 use crate::answer::answer_words;
 use lasp_edge::{Files, Sink};
@@ -36,7 +36,7 @@ pub fn answer_call<R: Threads + Wait + Sync, F: Files, O: Sink, E: Sink, G: Gate
 ) -> Result<u8, AllocError>
     // the words are those of the call that is answered; a word that is no text is usage
     ensures answered { IfOk result (λ status.
-        (AreTexts (bytes_of words.now) × IsAnswered program_library (answered_words (bytes_of words.now)) (reading_of F.content F.faults files.old files.new)
+        (AreTexts (bytes_of words.now) × IsTopAnswered program_library (bytes_of words.now) (reading_of F.content F.faults files.old files.new)
         (writing_of O.written O.faults out.old out.new) (writing_of E.written E.faults err.old err.new) status)
         ⊎ (¬ AreTexts (bytes_of words.now) × IsUsage (reading_of F.content F.faults files.old files.new)
         (writing_of O.written O.faults out.old out.new) (writing_of E.written E.faults err.old err.new) status)) }

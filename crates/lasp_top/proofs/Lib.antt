@@ -1,1 +1,2 @@
+pub mod ClosedLaws
 pub mod PlainLaws

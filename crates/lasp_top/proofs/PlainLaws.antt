@@ -14,7 +14,7 @@ use Rattle.model_program.specs.declared.form.Form.{Form}
 use Rattle.model_program.specs.declared.form.Form.TheVariants.{Plain}
 use Rattle.model_program.proofs.PlanLaws.{follows-memory}
 use Rattle.model_program.proofs.PromiseLaws.{call-answered}
-use Rattle.lasp_top.specs.Words.{plain_words}
+use Rattle.model_program.specs.Threads.{plain_words}
 
 form-plain : (graph script : List ℕ) → form (codes "plain" ∷ graph ∷ script ∷ []) ≡ Plain
 unfolding form

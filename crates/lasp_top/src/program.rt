@@ -1,30 +1,31 @@
 //! The program on one thread or several.
 
-ghost use Rattle.std.specs.Prelude.{◌≡◌, IfOk, string_bytes};
+ghost use Rattle.std.specs.Prelude.{◌≡◌, ◌<◌, IfOk, length, string_bytes};
+ghost use Rattle.model_program.specs.Call.{IsAnswered};
 ghost use Rattle.model_program.specs.Plan.{word_at};
-ghost use Rattle.lasp_run.specs.Prelude.{reading_of, writing_of, IsAnswered, library_of, words_of};
-ghost use Rattle.lasp_top.specs.Words.{workers_in, plain_words, answered_words};
+ghost use Rattle.model_program.specs.Threads.{plain_words};
+ghost use Rattle.model_program.specs.Top.{threaded_in, IsTraceAnswered, IsLoadAnswered, IsTopAnswered};
+ghost use Rattle.lasp_run.specs.Prelude.{reading_of, writing_of, library_of, words_of};
 
+use crate::load::run_load;
 use crate::threaded::run_threaded;
+use crate::trace::run_traced;
 use lasp_call::end;
 use lasp_edge::{Files, Sink};
 use lasp_fns::Library;
 use lasp_run::{one_thread, read_form};
 use lasp_workers::Gate;
-use model_program::{Failure, Form, Threaded};
+use model_program::{Failure, Form, Threaded, words_have_the_listed_forms};
 use std::alloc::{AllocError, Global};
 use std::sync::Wait;
 use std::thread::Threads;
 
-/// How many workers a run has; none where the form is no run by workers.
-fn workers_of(form: Form) -> Option<u8>
-    ensures { result ≡ workers_in form }
+/// The form for several threads, where it is one.
+fn threaded_of(form: Form) -> Option<Threaded>
+    ensures { result ≡ threaded_in form }
 {
     match form {
-        Form::Threaded(Threaded::Run(workers)) => Some(workers),
-        Form::Threaded(Threaded::Trace(_)) => None,
-        Form::Threaded(Threaded::Live(_)) => None,
-        Form::Threaded(Threaded::Load(_, _, _)) => None,
+        Form::Threaded(threaded) => Some(threaded),
         Form::Plain => None,
         Form::Check => None,
         Form::Dots => None,
@@ -56,7 +57,7 @@ fn plain_words(alloc: Global, words: &[String]) -> Result<Vec<String>, AllocErro
 }
 
 /// `run` by so many workers: as `plain` on the same files.
-fn answer_threaded<R: Threads + Wait + Sync, F: Files, O: Sink, E: Sink, G: Gate + Sync>(
+fn answer_run<R: Threads + Wait + Sync, F: Files, O: Sink, E: Sink, G: Gate + Sync>(
     rt: &R,
     alloc: Global,
     words: &[String],
@@ -79,7 +80,49 @@ fn answer_threaded<R: Threads + Wait + Sync, F: Files, O: Sink, E: Sink, G: Gate
     }
 }
 
-/// The program with worker threads. `run GRAPH SCRIPT WORKERS` is answered as `plain GRAPH SCRIPT` is, by so many workers, 1 to 16, each of which passes the gate in its jobs. All other words are answered as `one_thread` answers them.
+/// `trace` by so many workers.
+fn answer_trace<R: Threads + Wait + Sync, F: Files, O: Sink, E: Sink, G: Gate + Sync>(
+    rt: &R,
+    alloc: Global,
+    words: &[String],
+    files: &mut F,
+    out: &mut O,
+    err: &mut E,
+    workers: u8,
+    lib: &Library,
+    gate: &G,
+) -> u8
+    requires { 2 < length words.now }
+    ensures { IsTraceAnswered (library_of lib.now) (words_of words.now) (reading_of F.content F.faults files.old files.new)
+        (writing_of O.written O.faults out.old out.new) (writing_of E.written E.faults err.old err.new) result }
+{
+    let trace = run_traced(rt, alloc, words, files, workers, lib, gate);
+    end(words, trace, out, err)
+}
+
+/// `load` of a seed and a count by so many workers. It reads no file.
+fn answer_load<R: Threads + Wait + Sync, F: Files, O: Sink, E: Sink, G: Gate + Sync>(
+    rt: &R,
+    alloc: Global,
+    words: &[String],
+    files: &mut F,
+    out: &mut O,
+    err: &mut E,
+    seed: u32,
+    count: u32,
+    workers: u8,
+    lib: &Library,
+    gate: &G,
+) -> u8
+    requires { seed < 2147483648 }
+    ensures { IsLoadAnswered (library_of lib.now) seed count (words_of words.now) (reading_of F.content F.faults files.old files.new)
+        (writing_of O.written O.faults out.old out.new) (writing_of E.written E.faults err.old err.new) result }
+{
+    let summary = run_load(rt, alloc, seed, count, workers, lib, gate);
+    end(words, summary, out, err)
+}
+
+/// The program with worker threads, 1 to 16, each of which passes the gate in its jobs. `run GRAPH SCRIPT WORKERS` is answered as `plain GRAPH SCRIPT` is; `trace GRAPH SCRIPT WORKERS` writes the same report and then the journals of all nodes; `load SEED COUNT WORKERS` runs a script that it makes, reads no file, and writes a summary. All other words are answered as `one_thread` answers them.
 pub fn top<R: Threads + Wait + Sync, F: Files, O: Sink, E: Sink, G: Gate + Sync>(
     rt: &R,
     alloc: Global,
@@ -90,11 +133,21 @@ pub fn top<R: Threads + Wait + Sync, F: Files, O: Sink, E: Sink, G: Gate + Sync>
     lib: &Library,
     gate: &G,
 ) -> u8
-    ensures answered { IsAnswered (library_of lib.now) (answered_words (words_of words.now)) (reading_of F.content F.faults files.old files.new)
+    ensures answered { IsTopAnswered (library_of lib.now) (words_of words.now) (reading_of F.content F.faults files.old files.new)
         (writing_of O.written O.faults out.old out.new) (writing_of E.written E.faults err.old err.new) result }
 {
-    match workers_of(read_form(words)) {
-        Some(workers) => { answer_threaded(rt, alloc, words, files, out, err, workers, lib, gate) }
+    words_have_the_listed_forms();
+    match threaded_of(read_form(words)) {
+        Some(Threaded::Run(workers)) => {
+            answer_run(rt, alloc, words, files, out, err, workers, lib, gate)
+        }
+        Some(Threaded::Trace(workers)) => {
+            answer_trace(rt, alloc, words, files, out, err, workers, lib, gate)
+        }
+        Some(Threaded::Load(seed, count, workers)) => answer_load(
+            rt, alloc, words, files, out, err, seed, count, workers, lib, gate,
+        ),
+        Some(Threaded::Live(_)) => one_thread(alloc, words, files, out, err, lib),
         None => one_thread(alloc, words, files, out, err, lib),
     }
 }

@@ -6,9 +6,9 @@ use Rattle.model_program.specs.Follows.{Follows}
 use Rattle.model_program.specs.Program.{running}
 use Rattle.lasp_call.specs.Words.{answered}
 use Rattle.lasp_run.specs.Prelude.{reading_of, writing_of, library_of, words_of}
-use Rattle.lasp_top.specs.Words.{plain_words}
+use Rattle.model_program.specs.Threads.{plain_words}
 use Rattle.lasp_top.proofs.PlainLaws.{run-answered, memory-answered}
-use Rattle.lasp_top.proofs.program.answer_threaded.Goals as goal
+use Rattle.lasp_top.proofs.program.answer_run.Goals as goal
 
 pub returns-in-Ok : goal.returns-in-Ok
 returns-in-Ok g c =
