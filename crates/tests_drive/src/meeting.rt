@@ -35,43 +35,93 @@ impl Gate for Meeting {
     }
 }
 
-/// Graphs and scripts, with what they print. While a worker is held in its job of a variable, that stays unclean, so the other finds a job.
-const CASES: [(&str, &str, &str); 4] = [
-    (
-        r#"[["a","orset"],["m","map","a","abs"],["n","map","a","neg"]]"#,
-        r#"[["nodes",1],["add",0,"a",1],["settle"],["print",0,"m"]]"#,
-        "0 m [1]\nknown 0 1\n",
-    ),
-    (
-        r#"[["a","orset"],["b","orset"],["u","union","a","b"]]"#,
-        r#"[["nodes",1],["add",0,"a",1],["add",0,"b",2],["remove",0,"a",1],["print",0,"u"]]"#,
-        "0 u [2]\nknown 0 3\n",
-    ),
-    (
-        r#"[["a","orset"],["s","fold","a","sum","itself"]]"#,
-        r#"[["nodes",2],["add",0,"a",7],["add",1,"a",7],["sync"],["print",0,"s"],["remove",0,"a",7],["print",0,"s"]]"#,
-        "0 s 7\n0 s 0\nknown 0 2 1\nknown 1 1 1\n",
-    ),
-    (
-        r#"[["shelf","orset"],["cellar","orset"],["both","product","shelf","cellar"],["same","filter","both","key_match"],["kept","map","same","first"]]"#,
-        r#"[["nodes",3],["add",0,"shelf",[1,"tea"]],["add",1,"cellar",1],["add",2,"cellar",2],["sync"],["print",2,"kept"],["remove",0,"shelf",[1,"tea"]],["sync"],["print",2,"kept"]]"#,
-        "2 kept [[1,\"tea\"]]\n2 kept []\nknown 0 2 1 1\nknown 1 2 1 1\nknown 2 2 1 1\n",
-    ),
+/// A call of the program by two workers.
+#[derive(Clone, Copy)]
+struct Case {
+    words: &'static str,
+    graph: &'static str,
+    script: &'static str,
+    /// All that it prints, or how that begins where results stand in it, which may come in any order.
+    printed: &'static str,
+    is_whole: bool,
+}
+
+/// Two sets and their union.
+const UNION: &str = r#"[["a","orset"],["b","orset"],["u","union","a","b"]]"#;
+
+/// A node that adds to both sets, and removes one value.
+const ADDS: &str =
+    r#"[["nodes",1],["add",0,"a",1],["add",0,"b",2],["remove",0,"a",1],["print",0,"u"]]"#;
+
+/// While a worker is held in its job of a variable, that stays unclean, so the other finds a job.
+const CASES: [Case; 6] = [
+    Case {
+        words: "run graph script 2",
+        graph: r#"[["a","orset"],["m","map","a","abs"],["n","map","a","neg"]]"#,
+        script: r#"[["nodes",1],["add",0,"a",1],["settle"],["print",0,"m"]]"#,
+        printed: "0 m [1]\nknown 0 1\n",
+        is_whole: true,
+    },
+    Case {
+        words: "run graph script 2",
+        graph: UNION,
+        script: ADDS,
+        printed: "0 u [2]\nknown 0 3\n",
+        is_whole: true,
+    },
+    Case {
+        words: "run graph script 2",
+        graph: r#"[["a","orset"],["s","fold","a","sum","itself"]]"#,
+        script: r#"[["nodes",2],["add",0,"a",7],["add",1,"a",7],["sync"],["print",0,"s"],["remove",0,"a",7],["print",0,"s"]]"#,
+        printed: "0 s 7\n0 s 0\nknown 0 2 1\nknown 1 1 1\n",
+        is_whole: true,
+    },
+    Case {
+        words: "run graph script 2",
+        graph: r#"[["shelf","orset"],["cellar","orset"],["both","product","shelf","cellar"],["same","filter","both","key_match"],["kept","map","same","first"]]"#,
+        script: r#"[["nodes",3],["add",0,"shelf",[1,"tea"]],["add",1,"cellar",1],["add",2,"cellar",2],["sync"],["print",2,"kept"],["remove",0,"shelf",[1,"tea"]],["sync"],["print",2,"kept"]]"#,
+        printed: "2 kept [[1,\"tea\"]]\n2 kept []\nknown 0 2 1 1\nknown 1 2 1 1\nknown 2 2 1 1\n",
+        is_whole: true,
+    },
+    Case {
+        words: "trace graph script 2",
+        graph: UNION,
+        script: ADDS,
+        printed: "0 u [2]\nknown 0 3\n0 0 0 update a 1\n",
+        is_whole: false,
+    },
+    Case {
+        words: "load 1 200 2",
+        graph: "",
+        script: "",
+        printed: "load 1 200\na 51\nb 43\nc 30768\nu 91\ne 51\ni 3\nn 91\ns 48696\nknown 0 39 56 54 51\nknown 1 39 56 54 51\nknown 2 39 56 54 51\nknown 3 39 56 54 51\n",
+        is_whole: true,
+    },
 ];
 
-/// The program's status and what it prints by two workers, each of which passes this gate in its jobs.
-fn printed_by_two<R: Threads + Wait + Sync>(
+impl Case {
+    /// Whether this may be printed.
+    fn allows(&self, printed: &[u8]) -> bool {
+        if self.is_whole {
+            printed == self.printed.as_bytes()
+        } else {
+            printed.starts_with(self.printed.as_bytes())
+        }
+    }
+}
+
+/// The program's status and what it prints, where each of its workers passes this gate in its jobs.
+fn ended<R: Threads + Wait + Sync>(
     rt: &R,
     alloc: Global,
-    graph: &str,
-    script: &str,
+    case: Case,
     gate: &Meeting,
 ) -> Result<(u8, Vec<u8>), AllocError> {
     let mut files = MemFiles::new(alloc);
-    files.put_file("graph", graph.as_bytes())?;
-    files.put_file("script", script.as_bytes())?;
+    files.put_file("graph", case.graph.as_bytes())?;
+    files.put_file("script", case.script.as_bytes())?;
     let mut words = Vec::new(alloc);
-    for word in ["run", "graph", "script", "2"] {
+    for word in case.words.split_whitespace() {
         words.push(Vec::from_slice(alloc, word.as_bytes())?)?;
     }
     let mut out = MemSink::new(alloc, 1_000)?;
@@ -82,14 +132,14 @@ fn printed_by_two<R: Threads + Wait + Sync>(
 
 #[test]
 fn two_workers_are_in_their_jobs_at_once(rt: HostRuntime) -> Result<(), Fail> {
-    for (graph, script, report) in CASES {
+    for case in CASES {
         let gate = Meeting {
             inside: AtomicU32::new(0),
             met: AtomicBool::new(false),
         };
-        let (status, printed) = printed_by_two(&rt, rt.alloc(), graph, script, &gate)?;
+        let (status, printed) = ended(&rt, rt.alloc(), case, &gate)?;
         assert_eq!(rt; status, 0);
-        assert_eq!(rt; printed.as_slice(), report.as_bytes());
+        assert!(rt; case.allows(printed.as_slice()));
         assert_eq!(rt; gate.met.load(Ordering::SeqCst), true);
     }
     Ok(())

@@ -1,6 +1,6 @@
 //! Calls of a feed, each with what it asks for. Whatever they come to, the feed may make the next one.
 
-ghost use Rattle.std.specs.Prelude.{◌≡◌, ◌<◌, ◌++◌, ◌∷◌, [], ℕ, length, IfOk, OnOk, IsTrue};
+ghost use Rattle.std.specs.Prelude.{◌≡◌, ◌<◌, ◌++◌, ◌∷◌, [], ℕ, length, IfOk, OnOk, OnErr, IsTrue};
 ghost use Rattle.std.specs.Arc.{arc_value};
 ghost use Rattle.model_graph.specs.Graph.{is_source, kind_at};
 ghost use Rattle.model_graph.specs.Lawful.{variable_limit};
@@ -93,6 +93,25 @@ pub fn update<R: Wait>(
     updated
 }
 
+/// An update, once more where memory was wanting.
+pub fn update_again<R: Wait>(
+    rt: &R,
+    store: &Store,
+    f: &mut Feed,
+    graph: &Arc<Graph>,
+    var: u8,
+    doing: Doing,
+    n: u32,
+) -> Result<Released, UpdateRefused>
+    requires { IsFeed store.now (arc_value graph.now) f.old }
+    ensures { IsFeed store.now (arc_value graph.now) f.new }
+{
+    match update(rt, store, f, graph, var, doing, n) {
+        Err(UpdateRefused::Memory) => update(rt, store, f, graph, var, doing, n),
+        done => done,
+    }
+}
+
 /// Adds the numbers below a bound to a set.
 pub fn add_below<R: Wait>(
     rt: &R,
@@ -149,6 +168,24 @@ pub fn deliver<R: Wait>(
     let delivered = store.deliver(rt, f, number, message);
     f.known();
     delivered
+}
+
+/// The same, once more where memory was wanting.
+pub fn deliver_again<R: Wait>(
+    rt: &R,
+    store: &Store,
+    f: &mut Feed,
+    graph: &Arc<Graph>,
+    number: u32,
+    message: &Arc<Message>,
+) -> Result<Released, DeliverRefused>
+    requires { IsFeed store.now (arc_value graph.now) f.old }
+    ensures { IsFeed store.now (arc_value graph.now) f.new }
+{
+    match deliver(rt, store, f, graph, number, message) {
+        Err(DeliverRefused::Memory) => deliver(rt, store, f, graph, number, message),
+        done => done,
+    }
 }
 
 /// A message is joined in, which is tried once.
@@ -252,8 +289,30 @@ fn read_next(alloc: Global, graph: &Graph, lib: &Library, text: &str) -> Result<
     }
 }
 
-/// A variable is declared behind the others, by which the graph is this longer one.
+/// A variable is declared behind the others, by which the graph is this longer one; where it is refused the graph stays.
 fn extend<R: Wait>(
+    rt: &R,
+    store: &Store,
+    f: &mut Feed,
+    graph: &Arc<Graph>,
+    decl: &Decl,
+    longer: &Graph,
+) -> Result<(), AllocError>
+    requires feed { IsFeed store.now (arc_value graph.now) f.old }
+    requires room { length (arc_value graph.now) < variable_limit }
+    requires next { IsNext (arc_value graph.now) (decl_of decl.now) }
+    requires longer { longer.now ≡ arc_value graph.now ++ decl_of decl.now ∷ [] }
+    ensures ok { OnOk result (IsFeed store.now longer.now f.new) }
+    ensures err { OnErr result (IsFeed store.now (arc_value graph.now) f.new) }
+{
+    f.known();
+    let extended = store.extend(rt, f, decl);
+    f.known();
+    extended
+}
+
+/// The same, once more where memory was wanting.
+fn extend_again<R: Wait>(
     rt: &R,
     store: &Store,
     f: &mut Feed,
@@ -267,10 +326,10 @@ fn extend<R: Wait>(
     requires longer { longer.now ≡ arc_value graph.now ++ decl_of decl.now ∷ [] }
     ensures { OnOk result (IsFeed store.now longer.now f.new) }
 {
-    f.known();
-    let extended = store.extend(rt, f, decl);
-    f.known();
-    extended
+    match extend(rt, store, f, graph, decl, longer) {
+        Ok(()) => Ok(()),
+        Err(_) => extend(rt, store, f, graph, decl, longer),
+    }
 }
 
 /// A variable is declared behind the others. It answers the longer graph.
@@ -291,7 +350,7 @@ pub fn declare<R: Wait>(
     }
     let decl = read_next(alloc, graph, lib, text)?;
     let longer = Arc::new(alloc, graph.with(alloc, &decl)?)?;
-    match extend(rt, store, f, graph, &decl, &longer) {
+    match extend_again(rt, store, f, graph, &decl, &longer) {
         Ok(()) => Ok(longer),
         Err(error) => Err(Wrong::from(error)),
     }

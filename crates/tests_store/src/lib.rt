@@ -12,9 +12,13 @@ mod ended;
 #[cfg(test)]
 mod feeding;
 #[cfg(test)]
+mod lines;
+#[cfg(test)]
 mod meeting;
 #[cfg(test)]
 mod seated;
+#[cfg(test)]
+mod short;
 #[cfg(test)]
 mod together;
 #[cfg(test)]

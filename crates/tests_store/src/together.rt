@@ -7,6 +7,7 @@ ghost use Rattle.tests_store.specs.Kept.{IsFeed};
 
 use crate::ended::{Fed, entries_of, is_evaluated};
 use crate::feeding::{Doing, declare, deliver, graph_of, message, opened, settle, split, update};
+use crate::lines::are_its_entries;
 use crate::working::{Party, Worked, Worker};
 use crate::wrong::Wrong;
 use lasp_core::Core;
@@ -264,7 +265,7 @@ fn played<R: Threads + Wait + Sync>(
     Ok((core, fed, each))
 }
 
-/// Whether a store on which two hands did their jobs while its feed went on is as plain evaluation has it, and its entries are lawful.
+/// Whether a store on which two hands did their jobs while its feed went on is as plain evaluation has it, its entries are lawful, and the lines of its journal are these entries.
 fn is_as_evaluated<R: Threads + Wait + Sync>(
     rt: &R,
     alloc: Global,
@@ -274,7 +275,7 @@ fn is_as_evaluated<R: Threads + Wait + Sync>(
     let graph = graph_of(alloc, OPENING, &lib)?;
     let (core, fed, each) = played(rt, alloc, &graph, &lib, plan)?;
     let is_lawful = each == (plan.one, plan.other) && entries_of(&core, fed) == Some(each);
-    Ok(is_lawful && is_evaluated(alloc, &core, &lib)?)
+    Ok(is_lawful && is_evaluated(alloc, &core, &lib)? && are_its_entries(alloc, &core)?)
 }
 
 #[test]

@@ -1,8 +1,8 @@
 //! What calls came to, as a text.
 
 use crate::wrong::Wrong;
-use lasp_core::{NotYet, Released, Settle, Try};
-use lasp_state::State;
+use lasp_core::{Act, Core, NotYet, Released, Settle, Try};
+use lasp_state::{Op, State};
 use std::alloc::{AllocError, Global};
 use std::fmt::Debug;
 use std::sync::Arc;
@@ -86,6 +86,25 @@ impl Told {
         self.note(written);
     }
 
+    /// A core: what its entries do, its states, its counts, and the reads that wait.
+    pub fn core(&mut self, core: &Core) {
+        for i in 0..core.journal_len() {
+            let written = write_act(&mut self.text, &core.entry_at(i).what);
+            self.note(written);
+        }
+        for x in 0..core.states().len() {
+            let written = write_print(&mut self.text, core.states().at(x));
+            self.note(written);
+        }
+        let written = write_counts(&mut self.text, core);
+        self.note(written);
+        for i in 0..core.parked_len() {
+            let read = core.parked_at(i);
+            let written = write!(self.text, "read {} of {}; ", read.number(), read.var());
+            self.note(written);
+        }
+    }
+
     /// A variable, if there is one.
     pub fn var(&mut self, var: Option<u8>) {
         let written = match var {
@@ -100,6 +119,30 @@ impl Told {
         let written = write!(self.text, "{many} {what}; ");
         self.note(written);
     }
+}
+
+fn write_act(told: &mut String, act: &Act) -> Result<(), AllocError> {
+    match act {
+        Act::Update(x, Op::Add(_)) => write!(told, "add {x}; "),
+        Act::Update(x, Op::Inc(_)) => write!(told, "inc {x}; "),
+        Act::Update(x, _) => write!(told, "updates {x}; "),
+        Act::Deliver(number, _) => write!(told, "message {number}; "),
+        Act::Bind(y, _) => write!(told, "binds {y}; "),
+        Act::Extend(decl) => write!(told, "declares {}; ", decl.name.as_str()),
+    }
+}
+
+fn write_counts(told: &mut String, core: &Core) -> Result<(), AllocError> {
+    told.push_str("counts")?;
+    for count in core.counts().as_slice() {
+        write!(told, " {count}")?;
+    }
+    told.push_str("; ")
+}
+
+fn write_print(told: &mut String, state: &State) -> Result<(), AllocError> {
+    state.print_into(told)?;
+    told.push_str("; ")
 }
 
 fn write_done<E: Debug + Drop>(
