@@ -29,7 +29,7 @@ def files_of(program, words):
         return Files(*rest[:1], merged=rest[1:])
     if word == "dots":
         return Files(script=rest[0] if rest else None)
-    return Files(*rest[: 2 if word in ("plain", "export") else 1])
+    return Files(*rest[: 2 if word in ("plain", "run", "trace", "export") else 1])
 
 
 def read_line(line):
