@@ -16,12 +16,19 @@ use lasp_fns::StepLib;
 use std::alloc::{AllocError, Global};
 use std::sync::Wait;
 use std::sync::atomic::{AtomicBool, Ordering};
-use std::thread;
+use std::thread::Parker;
+use std::time::Duration;
 
-/// How often a worker lets others go first, at most, before it asks again.
-const MOST_PAUSES: u32 = 64;
+/// How long a worker rests at first before it asks, in microseconds: what little comes together is evaluated together.
+const SHORTEST_REST: u32 = 64;
 
-/// Takes a job of each replica in turn, passes the gate, evaluates the job and hands its result in, round after round, and tells how many jobs were finished, held at the greatest number of 64 bits. It ends after a round that began with `more` lowered and found nothing to do. While `more` is raised, a worker that finds nothing lets others go first, the longer the more rounds in a row found nothing.
+/// How long it rests at most.
+const LONGEST_REST: u32 = 16384;
+
+/// In how many parts it rests, and sees before each whether more comes.
+const PARTS: u32 = 4;
+
+/// Takes a job of each replica in turn, passes the gate, evaluates the job and hands its result in, round after round, and tells how many jobs were finished, held at the greatest number of 64 bits. It ends after a round that began with `more` lowered and found nothing to do. While `more` is raised, a worker rests before each round, four times as long as before the last one, 16 milliseconds at most, so that what little comes together is evaluated together; it ends its rest early where `more` is lowered.
 ///
 /// A replica whose job can't be evaluated, since the library lacks a function of its graph or the result would have more than 65,536 rows, is left for the rest of the call. Where there is no memory, all jobs were given back. It may wait for others where a replica's calls do.
 pub fn work<R: Wait, J: Jobs, G: Gate>(
@@ -43,27 +50,29 @@ pub fn work<R: Wait, J: Jobs, G: Gate>(
     let items = &mut replicas.items;
     leave_none(items);
     let mut finished: u64 = 0;
-    let mut pauses: u32 = 1;
+    let mut pause: u32 = SHORTEST_REST;
     for _ in rt.forever() {
+        rest_for_more(rt, pause, more);
+        pause = LONGEST_REST.min(4 * pause);
         let is_last = !more.load(Ordering::SeqCst);
         let done = go_round(alloc, worker, items, lib, gate)?;
         finished = finished.saturating_add(done);
         if done > 0 {
-            pauses = 1;
             continue;
         }
         if is_last {
             return Ok(finished);
         }
-        pause(pauses);
-        pauses = MOST_PAUSES.min(2 * pauses);
     }
     unreachable!()
 }
 
-/// Lets others go first, so many times.
-fn pause(times: u32) {
-    for _ in 0..times {
-        thread::yield_now();
+/// Rests as long as more comes, for so many microseconds at most.
+fn rest_for_more<R: Wait>(rt: &R, micros: u32, more: &AtomicBool) {
+    for _ in 0..PARTS {
+        if !more.load(Ordering::SeqCst) {
+            return;
+        }
+        Parker::new().park_timeout(rt, Duration::from_micros(u64::from(micros / PARTS)));
     }
 }

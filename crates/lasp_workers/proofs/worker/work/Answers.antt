@@ -61,7 +61,7 @@ loop-preserved-then-done-gt0 g c =
       left = subst (λ (l : List (Replica _)). All (IsLeftDone g.J.Jobs.frame g.J.Jobs.list lib) l) (sym (written-back c.go_round.new.replicas (drop (length c.go_round.new.replicas) c.loop.items.items) c.loop.items.len (c.go_round.auto.replicas ∙ c.deref_mut-in-loop.ensures.len)))
           (subst (λ (l : Library). All (IsLeftDone g.J.Jobs.frame g.J.Jobs.list l) c.go_round.new.replicas) (ap library_of c.loop.invariant.library) c.in_ok-done.ensures.left);
       library = c.in_ok-done.ensures.library ∙ c.loop.invariant.library;
-      short = omega arith;
+      short = omega (arith, c.min-pause.ensures);
     }
 
 pub returns-then-is_last-clause-each : goal.returns-then-is_last-clause-each
@@ -89,8 +89,8 @@ returns-then-is_last-clause-ticks g c = λ low.
     ((round-chain g.J.Jobs.place g.J.Jobs.frame g.J.Jobs.caller g.J.Jobs.list g.J.Jobs.looks g.J.Jobs.rows_owed before.0 c.in_ok-done.ensures.worked.0 (counted.ticks_of c.args.lib.now) (counted.ticks_of c.loop.lib) (counted.ticks_of c.go_round.new.lib) (pairs_of c.args.replicas.now) c.loop.items.items
     c.deref_mut-in-loop.result.now c.go_round.new.replicas (drop (length c.go_round.new.replicas) c.loop.items.items) c.loop.items.len (c.go_round.auto.replicas ∙ c.deref_mut-in-loop.ensures.len) c.deref_mut-in-loop.ensures.value before.2 c.in_ok-done.ensures.worked.1).few low).1
 
-pub overflow_mul-pauses : goal.overflow_mul-pauses
-overflow_mul-pauses g c = omega (arith, c.loop.invariant.short)
+pub overflow_mul-pause : goal.overflow_mul-pause
+overflow_mul-pause g c = omega (arith, c.loop.invariant.short)
 
 pub loop-preserved : goal.loop-preserved
 loop-preserved g c =
@@ -106,5 +106,5 @@ loop-preserved g c =
       left = subst (λ (l : List (Replica _)). All (IsLeftDone g.J.Jobs.frame g.J.Jobs.list lib) l) (sym (written-back c.go_round.new.replicas (drop (length c.go_round.new.replicas) c.loop.items.items) c.loop.items.len (c.go_round.auto.replicas ∙ c.deref_mut-in-loop.ensures.len)))
           (subst (λ (l : Library). All (IsLeftDone g.J.Jobs.frame g.J.Jobs.list l) c.go_round.new.replicas) (ap library_of c.loop.invariant.library) c.in_ok-done.ensures.left);
       library = c.in_ok-done.ensures.library ∙ c.loop.invariant.library;
-      short = omega (arith, c.min-pauses.ensures);
+      short = omega (arith, c.min-pause.ensures);
     }
