@@ -21,6 +21,9 @@ use std::alloc::{AllocError, Global};
 use std::marker::Model;
 use std::sync::Arc;
 
+/// How many reads there is room for, so that one that was opened can be kept.
+const MOST_READS: usize = 64;
+
 /// A core, the jobs that are out and were evaluated, and the reads that were opened.
 #[derive(Drop)]
 pub struct Desk {
@@ -61,13 +64,13 @@ fn gained_by(job: &Job) -> u64 {
 }
 
 impl Desk {
-    /// A core of which nothing is kept.
-    pub fn new(alloc: Global, core: Core) -> Desk {
-        Desk {
+    /// A core of which nothing is kept, with room for the reads that are opened.
+    pub fn new(alloc: Global, core: Core) -> Result<Desk, AllocError> {
+        Ok(Desk {
             core,
             works: Vec::new(alloc),
-            reads: Vec::new(alloc),
-        }
+            reads: Vec::with_capacity(alloc, MOST_READS)?,
+        })
     }
 
     /// The core.

@@ -6,11 +6,11 @@ use crate::desk::{Desk, Done};
 use crate::library::library;
 use crate::told::{
     is_same, tell_counts, tell_entries, tell_message, tell_reads, tell_released, tell_settled,
-    tell_states, told_core,
+    tell_states, told_core, told_reads,
 };
 use crate::traits::owed;
 use crate::wrong::Wrong;
-use lasp_core::{Core, Released, begins};
+use lasp_core::{Core, DeliverRefused, Released, UpdateRefused, begins};
 use lasp_fns::{Library, StepLib};
 use lasp_gossip::Network;
 use lasp_graph::States;
@@ -49,6 +49,7 @@ pub struct Table<'a> {
     pub desk: Desk,
     other: Core,
     network: Network,
+    // what the last call came to, with room for the number of a read that was opened
     told: String,
     pub tally: Tally,
 }
@@ -63,10 +64,10 @@ impl<'a> Table<'a> {
             lib,
             by_rows: StepLib::new(lib),
             by_base: StepLib::new(lib),
-            desk: Desk::new(alloc, core),
+            desk: Desk::new(alloc, core)?,
             other,
             network: Network::new(alloc, 268_435_456),
-            told: String::new(alloc),
+            told: String::with_capacity(alloc, 256)?,
             tally: Tally {
                 refused: 0,
                 compared: 0,
@@ -75,22 +76,25 @@ impl<'a> Table<'a> {
         })
     }
 
-    /// Makes a call. One that adds no entry leaves the core as it is, but for a read that it opens or closes; after one that adds entries the core is compared with plain evaluation.
+    /// Makes a call. One that adds no entry leaves the core as it is, but for a read that it opens or closes; after one that adds entries the core is compared with plain evaluation. A call that is refused, for want of memory too, adds none.
     pub fn play(&mut self, call: Call) -> Result<(), Wrong> {
-        let is_about_reads = matches!(call.verb, Verb::Open(_) | Verb::Close);
         let length = self.desk.core().journal_len();
-        let before = told_core(self.alloc, self.desk.core(), is_about_reads)?;
+        let core = told_core(self.alloc, self.desk.core())?;
+        let reads = told_reads(self.alloc, self.desk.core())?;
         self.told.clear();
-        self.act(call)?;
+        let acted = self.act(call);
         if self.desk.core().journal_len() != length {
+            acted?;
             return self.compare();
         }
-        let after = told_core(self.alloc, self.desk.core(), is_about_reads)?;
-        if after.as_str() == before.as_str() {
-            Ok(())
-        } else {
-            Err(Wrong::Changed)
+        let is_about_reads = matches!(call.verb, Verb::Open(_) | Verb::Close) && acted.is_ok();
+        if told_core(self.alloc, self.desk.core())?.as_str() != core.as_str() {
+            return Err(Wrong::Changed);
         }
+        if !is_about_reads && told_reads(self.alloc, self.desk.core())?.as_str() != reads.as_str() {
+            return Err(Wrong::Changed);
+        }
+        acted
     }
 
     /// Makes a call, and tells what it comes to.
@@ -121,10 +125,15 @@ impl<'a> Table<'a> {
         }
     }
 
-    /// Tells which reads a call released, or why it was refused.
-    fn tell_done<E: Debug + Drop>(&mut self, done: Result<Released, E>) -> Result<(), Wrong> {
+    /// Tells which reads a call released, or why it was refused, but for want of memory.
+    fn tell_done<E: Debug + Drop>(
+        &mut self,
+        done: Result<Released, E>,
+        is_wanting: bool,
+    ) -> Result<(), Wrong> {
         match done {
             Ok(released) => tell_released(&mut self.told, &released)?,
+            Err(_) if is_wanting => return Err(Wrong::Refused),
             Err(why) => {
                 self.tally.refused = self.tally.refused.saturating_add(1);
                 write!(self.told, " {why:?}")?;
@@ -136,22 +145,24 @@ impl<'a> Table<'a> {
     /// An update, of which nothing is told where it is the other core's.
     fn update(&mut self, call: Call, doing: Doing) -> Result<(), Wrong> {
         if call.is_there {
-            drop(update(self.alloc, &mut self.other, call.first, doing, call.second));
-            return Ok(());
+            let done = update(self.alloc, &mut self.other, call.first, doing, call.second);
+            return pass_over(done);
         }
         let done = self.desk.update(self.alloc, call.first, doing, call.second);
-        self.tell_done(done)
+        let is_wanting = matches!(done, Err(UpdateRefused::Memory));
+        self.tell_done(done, is_wanting)
     }
 
     /// Updates by each number from 0 on, or so often by 1.
     fn fill(&mut self, call: Call, doing: Doing) -> Result<(), Wrong> {
         for n in 0..call.second {
             let number = if matches!(doing, Doing::Count) { 1 } else { n };
-            if call.is_there {
-                drop(update(self.alloc, &mut self.other, call.first, doing, number));
+            let done = if call.is_there {
+                update(self.alloc, &mut self.other, call.first, doing, number)
             } else {
-                drop(self.desk.update(self.alloc, call.first, doing, number));
-            }
+                self.desk.update(self.alloc, call.first, doing, number)
+            };
+            pass_over(done)?;
         }
         Ok(())
     }
@@ -203,7 +214,8 @@ impl<'a> Table<'a> {
             self.told.push_str(" of another graph:")?;
         }
         let done = self.desk.deliver(number, &message);
-        self.tell_done(done)
+        let is_wanting = matches!(done, Err(DeliverRefused::Memory));
+        self.tell_done(done, is_wanting)
     }
 
     /// Tells of which variable a job is that is taken, how many rows changed for it, and how many it gained.
@@ -308,6 +320,14 @@ impl<'a> Table<'a> {
             write_line(&mut out, line, self.told.as_str())?;
         }
         Ok(out)
+    }
+}
+
+/// Passes over what an update came to, unless memory was wanting.
+fn pass_over(done: Result<Released, UpdateRefused>) -> Result<(), Wrong> {
+    match done {
+        Err(UpdateRefused::Memory) => Err(Wrong::Refused),
+        _ => Ok(()),
     }
 }
 

@@ -130,20 +130,23 @@ pub fn tell_released(out: &mut String, released: &Released) -> Result<(), AllocE
     Ok(())
 }
 
-/// What a call that adds no entry must leave as it is: how many entries there are, the counts and the states, and the reads that wait unless it is about reads.
-fn tell_core(out: &mut String, core: &Core, is_about_reads: bool) -> Result<(), AllocError> {
+/// What a call that adds no entry must leave as it is: how many entries there are, the counts and the states.
+fn tell_core(out: &mut String, core: &Core) -> Result<(), AllocError> {
     write!(out, "{}", core.journal_len())?;
     push_counts(out, core.counts().as_slice())?;
-    tell_states(out, core.states())?;
-    if is_about_reads {
-        return Ok(());
-    }
-    tell_reads(out, core)
+    tell_states(out, core.states())
 }
 
 /// The same as a text.
-pub fn told_core(alloc: Global, core: &Core, is_about_reads: bool) -> Result<String, AllocError> {
+pub fn told_core(alloc: Global, core: &Core) -> Result<String, AllocError> {
     let mut out = String::new(alloc);
-    tell_core(&mut out, core, is_about_reads)?;
+    tell_core(&mut out, core)?;
+    Ok(out)
+}
+
+/// The reads that wait, as a text.
+pub fn told_reads(alloc: Global, core: &Core) -> Result<String, AllocError> {
+    let mut out = String::new(alloc);
+    tell_reads(&mut out, core)?;
     Ok(out)
 }
