@@ -1,0 +1,8 @@
+use Rattle.model_delta_runs.proofs.RunLaws.{gossip-ends, gossip-stops}
+use Rattle.model_delta_runs.proofs.runs.deltas_change_nothing_of_a_run.Goals as goal
+
+pub returns-clause-ends : goal.returns-clause-ends
+returns-clause-ends c = gossip-ends
+
+pub returns-clause-stops : goal.returns-clause-stops
+returns-clause-stops c = gossip-stops
