@@ -1,7 +1,7 @@
 //! A delta between two messages, as bytes and as what it makes of a message.
 
 use lasp_delta::{DeltaRefused, apply, decode_delta, delta_of, encode_delta, is_before};
-use lasp_wire::{WireRefused, WireWhy, decode, encode};
+use lasp_wire::{WireRefused, decode, encode};
 use std::alloc::{AllocError, Global};
 use std::test::Fail;
 
@@ -14,11 +14,19 @@ const AFTER: &[u8; 68] =
     b"LASP\x02\x01\0\0\0\0\0\0\0\x02\x01\x01a\x01\0\0\0\x02\0\0\0\0\0\0\0\0\x05\0\0\0\x01\0\0\0\0\0\0\0\0\x01\0\0\0\0\0\0\0\0\0\x06\0\0\0\x01\0\0\0\0\0\0\0\0\x02\0";
 
 /// What the second has beside the first.
-const DELTA: &[u8; 53] =
+pub(super) const DELTA: &[u8; 53] =
     b"LASD\x01\x01\0\0\0\0\0\0\0\x01\0\0\0\0\0\0\0\x02\x01\x01a\x01\0\0\0\x01\0\0\0\0\0\0\0\0\x06\0\0\0\x01\0\0\0\0\0\0\0\0\x02\0";
 
 /// A message of a node that counted nothing yet.
 const NOTHING: &[u8; 22] = b"LASP\x02\x01\0\0\0\0\0\0\0\0\x01\x01a\x01\0\0\0\0";
+
+/// A message of two nodes: the first added 5 and 6 to a set `a`.
+const OF_TWO: &[u8; 76] =
+    b"LASP\x02\x02\0\0\0\0\0\0\0\x02\0\0\0\0\0\0\0\0\x01\x01a\x01\0\0\0\x02\0\0\0\0\0\0\0\0\x05\0\0\0\x01\0\0\0\0\0\0\0\0\x01\0\0\0\0\0\0\0\0\0\x06\0\0\0\x01\0\0\0\0\0\0\0\0\x02\0";
+
+/// What it has beside itself: nothing.
+const NOTHING_MORE: &[u8; 46] =
+    b"LASD\x01\x02\0\0\0\0\0\0\0\x02\0\0\0\0\0\0\0\0\0\0\0\0\0\0\0\x02\0\0\0\0\0\0\0\0\x01\x01a\x01\0\0\0\0";
 
 /// Whether the delta from a message to a later one has these bytes.
 fn is_spelled(
@@ -77,15 +85,6 @@ fn is_gap(made: Option<Result<Vec<u8>, DeltaRefused>>, known: u64, after: u64) -
     }
 }
 
-/// Whether bytes without the last are refused as short at a place.
-fn is_short(alloc: Global, bytes: &[u8], place: u64) -> bool {
-    let (cut, _) = bytes.split_at(bytes.len().saturating_sub(1));
-    match decode_delta(alloc, cut) {
-        Err(WireRefused::At { place: p, why }) => p == place && why == WireWhy::Short,
-        _ => false,
-    }
-}
-
 #[test]
 fn a_delta_brings_a_message_to_the_later_one_or_tells_of_a_gap(
     rt: HostRuntime,
@@ -93,6 +92,7 @@ fn a_delta_brings_a_message_to_the_later_one_or_tells_of_a_gap(
     assert!(rt; is_spelled(rt.alloc(), BEFORE, AFTER, DELTA)?);
     assert!(rt; is_made(applied(rt.alloc(), BEFORE, DELTA)?, AFTER));
     assert!(rt; is_gap(applied(rt.alloc(), NOTHING, DELTA)?, 0, 1));
-    assert!(rt; is_short(rt.alloc(), DELTA, 52));
+    assert!(rt; is_spelled(rt.alloc(), OF_TWO, OF_TWO, NOTHING_MORE)?);
+    assert!(rt; is_made(applied(rt.alloc(), OF_TWO, NOTHING_MORE)?, OF_TWO));
     Ok(())
 }

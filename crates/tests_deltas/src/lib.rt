@@ -3,3 +3,5 @@
 
 #[cfg(test)]
 mod bytes;
+#[cfg(test)]
+mod damaged;
