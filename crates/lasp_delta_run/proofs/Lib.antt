@@ -1,0 +1,4 @@
+pub mod GoLaws
+pub mod MessageLaws
+pub mod SyncLaws
+pub mod PlayLaws

@@ -1,0 +1,4 @@
+pub mod Letter
+pub mod Seen
+pub mod Acts
+pub mod Play
