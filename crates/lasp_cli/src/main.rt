@@ -4,14 +4,18 @@
 use lasp_edge::{DirFiles, StdSink};
 use lasp_program::{answer_call, words_after_name};
 use lasp_workers::NoGate;
-use std::alloc::AllocError;
+use std::alloc::{AllocError, AllocGlobal};
 use std::io::Write;
 use std::process::ExitCode;
+use std::random::RandomSource;
 use std::sync::Wait;
 use std::thread::Threads;
 
 /// Answers the words behind the program's name over the real files and the standard streams, with the threads that this runtime has.
-fn run<R: Threads + Wait + Sync>(rt: &HostRuntime, threads: &R) -> Result<u8, AllocError> {
+fn run<R: Threads + Wait + RandomSource + AllocGlobal + Sync>(
+    rt: &HostRuntime,
+    threads: &R,
+) -> Result<u8, AllocError> {
     let words = words_after_name(rt.alloc(), rt)?;
     let mut files = DirFiles::new(rt);
     let mut out = StdSink::new(rt.stdout());

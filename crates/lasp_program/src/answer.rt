@@ -11,12 +11,19 @@ use lasp_fns::{Library, LiftOp, MapOp, apply_lift, apply_map, apply_pred};
 use lasp_top::top;
 use lasp_value::Value;
 use lasp_workers::Gate;
-use std::alloc::{AllocError, Global};
+use std::alloc::{AllocError, AllocGlobal, Global};
+use std::random::RandomSource;
 use std::sync::Wait;
 use std::thread::Threads;
 
 /// Answers the words as `top` does over the program's functions. Where no memory is found for these, nothing is read or written.
-pub fn answer_words<R: Threads + Wait + Sync, F: Files, O: Sink, E: Sink, G: Gate + Sync>(
+pub fn answer_words<
+    R: Threads + Wait + RandomSource + AllocGlobal + Sync,
+    F: Files,
+    O: Sink,
+    E: Sink,
+    G: Gate + Sync,
+>(
     rt: &R,
     alloc: Global,
     words: &[String],
@@ -45,7 +52,13 @@ pub fn answer_words<R: Threads + Wait + Sync, F: Files, O: Sink, E: Sink, G: Gat
 }
 
 /// Answers the words over the functions of these tables, whose closures are made here. They come as slices, so that no step of the loops speaks of all their entries.
-fn answer_over<R: Threads + Wait + Sync, F: Files, O: Sink, E: Sink, G: Gate + Sync>(
+fn answer_over<
+    R: Threads + Wait + RandomSource + AllocGlobal + Sync,
+    F: Files,
+    O: Sink,
+    E: Sink,
+    G: Gate + Sync,
+>(
     rt: &R,
     alloc: Global,
     maps: &[(&str, &[MapOp])],

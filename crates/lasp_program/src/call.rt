@@ -6,7 +6,8 @@ ghost use Rattle.lasp_program.specs.Prelude.{reading_of, writing_of, AreTexts, I
 use crate::answer::answer_words;
 use lasp_edge::{Files, Sink};
 use lasp_workers::Gate;
-use std::alloc::{AllocError, Global};
+use std::alloc::{AllocError, AllocGlobal, Global};
+use std::random::RandomSource;
 use std::sync::Wait;
 use std::thread::Threads;
 
@@ -25,7 +26,13 @@ pub fn texts_of(alloc: Global, words: &[Vec<u8>]) -> Result<Option<Vec<String>>,
 }
 
 /// A call of the program with the words behind its name. Where no memory is found for them or for the functions, nothing is read or written.
-pub fn answer_call<R: Threads + Wait + Sync, F: Files, O: Sink, E: Sink, G: Gate + Sync>(
+pub fn answer_call<
+    R: Threads + Wait + RandomSource + AllocGlobal + Sync,
+    F: Files,
+    O: Sink,
+    E: Sink,
+    G: Gate + Sync,
+>(
     rt: &R,
     alloc: Global,
     words: &[Vec<u8>],

@@ -1,2 +1,3 @@
 pub mod FeedLaws
 pub mod CallLaws
+pub mod LentLaws

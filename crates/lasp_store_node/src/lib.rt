@@ -8,6 +8,7 @@
 //! ```
 #![tactic(auto)]
 
+mod lent;
 mod node;
 
 pub use node::StoreNode;

@@ -6,13 +6,15 @@ ghost use Rattle.model_world.specs.World.{message_at};
 ghost use Rattle.model_journal.specs.Entry.{Frame};
 ghost use Rattle.model_core.specs.Peer.{peer_of};
 ghost use Rattle.lasp_graph.specs.States.{held_of};
-ghost use Rattle.lasp_core.specs.Core.{state_after};
+ghost use Rattle.lasp_core.specs.Core.{IsOpen, state_after};
 ghost use Rattle.lasp_core.specs.Reads.{read_of};
+ghost use Rattle.lasp_state.specs.Threshold.{threshold_of};
 ghost use Rattle.lasp_histlock.specs.Passes.{first_pass};
 ghost use Rattle.lasp_store.specs.Turn.{graph_seen, frame_of};
 ghost use Rattle.lasp_drive.specs.Node.{IsFresh, OnlyLearns};
 ghost use Rattle.lasp_store_node.specs.View.{node_of, Place, place_of, IsFeed};
 
+use crate::lent::await_read;
 use lasp_core::{DeliverRefused, ReadNo, Settle, UpdateRefused};
 use lasp_drive::{Node, NodeStop};
 use lasp_fns::Library;
@@ -20,8 +22,9 @@ use lasp_graph::Graph;
 use lasp_state::{Op, State, Threshold};
 use lasp_store::{Feed, Store};
 use lasp_wire::{Counts, Message};
-use std::alloc::{AllocError, Global};
+use std::alloc::{AllocError, AllocGlobal, Global};
 use std::marker::Model;
+use std::random::RandomSource;
 use std::sync::{Arc, Wait};
 
 /// A node whose replica is in a store, which others may use meanwhile by hands of their own. Each call is a turn of the feed, so it may wait for who has the core; settling takes a turn or two for each variable. Contracts see it as its feed.
@@ -80,6 +83,19 @@ impl<R: Wait> StoreNode<'_, R> {
         state
     }
 
+    /// Opens a read.
+    fn open(&mut self, x: u8, threshold: Threshold) -> Result<ReadNo, AllocError>
+        requires { IsOpen (frame_of self.old) self.old.seen (record { number = 0; var = x; threshold = threshold_of threshold }) }
+        ensures open { IfOk result (λ r. IsOpen (frame_of self.new) self.new.seen (read_of r)) }
+        ensures learns { OnlyLearns (node_of self.old) (node_of self.new) }
+        ensures place { place_of self.new ≡ place_of self.old }
+    {
+        self.feed.known();
+        let read = self.store.open_read(self.rt, &mut self.feed, x, threshold);
+        self.feed.known();
+        read
+    }
+
     /// What it sends.
     fn sent(&mut self, alloc: Global) -> Result<Message, AllocError>
         ensures message { IfOk result (λ m. m ≡ message_at (graph_seen self.old) (peer_of (frame_of self.old) self.old.seen)) }
@@ -93,7 +109,19 @@ impl<R: Wait> StoreNode<'_, R> {
     }
 }
 
-impl<R: Wait> Node for StoreNode<'_, R> {
+impl<R: Wait + RandomSource + AllocGlobal> StoreNode<'_, R> {
+    /// Opens a read and waits for it.
+    fn read_to_threshold(&mut self, x: u8, threshold: Threshold) -> Result<(), AllocError>
+        requires { IsOpen (frame_of self.old) self.old.seen (record { number = 0; var = x; threshold = threshold_of threshold }) }
+        ensures learns { OnlyLearns (node_of self.old) (node_of self.new) }
+        ensures place { place_of self.new ≡ place_of self.old }
+    {
+        let read = self.open(x, threshold)?;
+        await_read(self.rt, self.store, &mut self.feed, read)
+    }
+}
+
+impl<R: Wait + RandomSource + AllocGlobal> Node for StoreNode<'_, R> {
     type Read = ReadNo;
 
     ghost view = { λ p. node_of p };
@@ -213,7 +241,12 @@ impl<R: Wait> Node for StoreNode<'_, R> {
 
     fn reached(&mut self, _alloc: Global, x: u8, threshold: Threshold) -> Result<bool, AllocError> {
         let state = self.look(x)?;
-        Ok(threshold.meets(&state))
+        if !threshold.meets(&state) {
+            return Ok(false);
+        }
+        // it is at the threshold: where waiting is refused, the look has told so
+        self.read_to_threshold(x, threshold)?;
+        Ok(true)
     }
 
     fn counts(&mut self, alloc: Global) -> Result<Counts, AllocError> {

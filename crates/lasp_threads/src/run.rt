@@ -23,7 +23,8 @@ use lasp_script::Script;
 use lasp_store::{Feed, Store};
 use lasp_store_node::StoreNode;
 use lasp_workers::Gate;
-use std::alloc::{AllocError, Global};
+use std::alloc::{AllocError, AllocGlobal, Global};
+use std::random::RandomSource;
 use std::sync::{Arc, Wait};
 use std::thread::Threads;
 
@@ -47,7 +48,7 @@ fn graph_and_nodes<'a, R>(
 }
 
 /// Runs a script on the feeds of stores while the workers work in its stretches, and gives its report. Feeds and workers come back also where the run stops.
-fn report_beside<R: Threads + Wait, T: Sync, W: Works<T> + Send>(
+fn report_beside<R: Threads + Wait + RandomSource + AllocGlobal, T: Sync, W: Works<T> + Send>(
     rt: &R,
     workers: Vec<W>,
     tools: &T,
@@ -83,7 +84,7 @@ fn report_beside<R: Threads + Wait, T: Sync, W: Works<T> + Send>(
 /// Runs a script on these stores with so many workers and gives its report. There are a store and its feed for each node of the script, to which nothing has happened.
 ///
 /// Between two points the calling thread feeds the stores while the workers evaluate, each on a thread of its own where one can be had; a stretch in which no command changes a node starts none. Where memory is short, there are fewer workers, or they have hands at fewer stores. The feeds are given back on every return, in no turn and with all hands of the workers, so that each store can be closed.
-pub fn drive<R: Threads + Wait + Sync, G: Gate + Sync>(
+pub fn drive<R: Threads + Wait + RandomSource + AllocGlobal + Sync, G: Gate + Sync>(
     rt: &R,
     alloc: Global,
     graph: &Arc<Graph>,

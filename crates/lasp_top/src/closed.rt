@@ -12,12 +12,13 @@ use lasp_script::Script;
 use lasp_threads::{close_stores, drive, fresh_stores};
 use lasp_workers::Gate;
 use model_runs::journals_with_the_calls_have_the_sources;
-use std::alloc::Global;
+use std::alloc::{AllocGlobal, Global};
+use std::random::RandomSource;
 use std::sync::{Arc, Wait};
 use std::thread::Threads;
 
 /// Runs a script over stores of its own, by so many workers, and gives its report and the cores of its nodes.
-pub(crate) fn run_closed<R: Threads + Wait + Sync, G: Gate + Sync>(
+pub(crate) fn run_closed<R: Threads + Wait + RandomSource + AllocGlobal + Sync, G: Gate + Sync>(
     rt: &R,
     alloc: Global,
     graph: &Arc<Graph>,

@@ -16,12 +16,13 @@ use lasp_script::Script;
 use lasp_workers::Gate;
 use model_program::Failure;
 use model_runs::journals_with_the_calls_have_the_sources;
-use std::alloc::Global;
+use std::alloc::{AllocGlobal, Global};
+use std::random::RandomSource;
 use std::sync::{Arc, Wait};
 use std::thread::Threads;
 
 /// Runs the script over its graph by so many workers, and gives the summary.
-fn summary<R: Threads + Wait + Sync, G: Gate + Sync>(
+fn summary<R: Threads + Wait + RandomSource + AllocGlobal + Sync, G: Gate + Sync>(
     rt: &R,
     alloc: Global,
     graph: &Arc<Graph>,
@@ -46,7 +47,7 @@ fn summary<R: Threads + Wait + Sync, G: Gate + Sync>(
 }
 
 /// Makes the script of a seed and a count, and runs it over the graph.
-fn load_over<R: Threads + Wait + Sync, G: Gate + Sync>(
+fn load_over<R: Threads + Wait + RandomSource + AllocGlobal + Sync, G: Gate + Sync>(
     rt: &R,
     alloc: Global,
     graph: &Arc<Graph>,
@@ -70,7 +71,7 @@ fn load_over<R: Threads + Wait + Sync, G: Gate + Sync>(
 }
 
 /// `load`: makes a graph and a script, and runs them by so many workers.
-pub(crate) fn run_load<R: Threads + Wait + Sync, G: Gate + Sync>(
+pub(crate) fn run_load<R: Threads + Wait + RandomSource + AllocGlobal + Sync, G: Gate + Sync>(
     rt: &R,
     alloc: Global,
     seed: u32,

@@ -16,7 +16,8 @@ use lasp_fns::Library;
 use lasp_run::{one_thread, read_form};
 use lasp_workers::Gate;
 use model_program::{Failure, Form, Threaded, words_have_the_listed_forms};
-use std::alloc::{AllocError, Global};
+use std::alloc::{AllocError, AllocGlobal, Global};
+use std::random::RandomSource;
 use std::sync::Wait;
 use std::thread::Threads;
 
@@ -57,7 +58,13 @@ fn plain_words(alloc: Global, words: &[String]) -> Result<Vec<String>, AllocErro
 }
 
 /// `run` by so many workers: as `plain` on the same files.
-fn answer_run<R: Threads + Wait + Sync, F: Files, O: Sink, E: Sink, G: Gate + Sync>(
+fn answer_run<
+    R: Threads + Wait + RandomSource + AllocGlobal + Sync,
+    F: Files,
+    O: Sink,
+    E: Sink,
+    G: Gate + Sync,
+>(
     rt: &R,
     alloc: Global,
     words: &[String],
@@ -81,7 +88,13 @@ fn answer_run<R: Threads + Wait + Sync, F: Files, O: Sink, E: Sink, G: Gate + Sy
 }
 
 /// `trace` by so many workers.
-fn answer_trace<R: Threads + Wait + Sync, F: Files, O: Sink, E: Sink, G: Gate + Sync>(
+fn answer_trace<
+    R: Threads + Wait + RandomSource + AllocGlobal + Sync,
+    F: Files,
+    O: Sink,
+    E: Sink,
+    G: Gate + Sync,
+>(
     rt: &R,
     alloc: Global,
     words: &[String],
@@ -101,7 +114,13 @@ fn answer_trace<R: Threads + Wait + Sync, F: Files, O: Sink, E: Sink, G: Gate + 
 }
 
 /// `load` of a seed and a count by so many workers. It reads no file.
-fn answer_load<R: Threads + Wait + Sync, F: Files, O: Sink, E: Sink, G: Gate + Sync>(
+fn answer_load<
+    R: Threads + Wait + RandomSource + AllocGlobal + Sync,
+    F: Files,
+    O: Sink,
+    E: Sink,
+    G: Gate + Sync,
+>(
     rt: &R,
     alloc: Global,
     words: &[String],
@@ -123,7 +142,13 @@ fn answer_load<R: Threads + Wait + Sync, F: Files, O: Sink, E: Sink, G: Gate + S
 }
 
 /// The program with worker threads, 1 to 16, each of which passes the gate in its jobs. `run GRAPH SCRIPT WORKERS` is answered as `plain GRAPH SCRIPT` is; `trace GRAPH SCRIPT WORKERS` writes the same report and then the journals of all nodes; `load SEED COUNT WORKERS` runs a script that it makes, reads no file, and writes a summary. All other words are answered as `one_thread` answers them.
-pub fn top<R: Threads + Wait + Sync, F: Files, O: Sink, E: Sink, G: Gate + Sync>(
+pub fn top<
+    R: Threads + Wait + RandomSource + AllocGlobal + Sync,
+    F: Files,
+    O: Sink,
+    E: Sink,
+    G: Gate + Sync,
+>(
     rt: &R,
     alloc: Global,
     words: &[String],

@@ -13,12 +13,13 @@ use lasp_script::Script;
 use lasp_threads::{drive, fresh_stores};
 use lasp_workers::Gate;
 use model_program::Failure;
-use std::alloc::Global;
+use std::alloc::{AllocGlobal, Global};
+use std::random::RandomSource;
 use std::sync::{Arc, Wait};
 use std::thread::Threads;
 
 /// Runs a script over stores of its own, by so many workers.
-fn drive_fresh<R: Threads + Wait + Sync, G: Gate + Sync>(
+fn drive_fresh<R: Threads + Wait + RandomSource + AllocGlobal + Sync, G: Gate + Sync>(
     rt: &R,
     alloc: Global,
     graph: &Arc<Graph>,
@@ -46,7 +47,7 @@ fn drive_fresh<R: Threads + Wait + Sync, G: Gate + Sync>(
 
 #[tactic(auto, using(lasp_run::proofs::PartLaws::runs))]
 /// Runs a script over its graph by so many workers, and gives the report.
-fn report<R: Threads + Wait + Sync, G: Gate + Sync>(
+fn report<R: Threads + Wait + RandomSource + AllocGlobal + Sync, G: Gate + Sync>(
     rt: &R,
     alloc: Global,
     graph: &Arc<Graph>,
@@ -65,7 +66,11 @@ fn report<R: Threads + Wait + Sync, G: Gate + Sync>(
 }
 
 /// `run`: reads the graph and the script, and runs them with so many workers.
-pub(crate) fn run_threaded<R: Threads + Wait + Sync, F: Files, G: Gate + Sync>(
+pub(crate) fn run_threaded<
+    R: Threads + Wait + RandomSource + AllocGlobal + Sync,
+    F: Files,
+    G: Gate + Sync,
+>(
     rt: &R,
     alloc: Global,
     words: &[String],

@@ -17,7 +17,8 @@ use lasp_script::Script;
 use lasp_trace::push_journal;
 use lasp_workers::Gate;
 use model_program::Failure;
-use std::alloc::{AllocError, Global};
+use std::alloc::{AllocError, AllocGlobal, Global};
+use std::random::RandomSource;
 use std::sync::{Arc, Wait};
 use std::thread::Threads;
 
@@ -43,7 +44,7 @@ fn push_journals(alloc: Global, report: &mut Vec<u8>, cores: &[Core]) -> Result<
 }
 
 /// Runs a script over its graph by so many workers, and gives the report and the journals.
-fn trace<R: Threads + Wait + Sync, G: Gate + Sync>(
+fn trace<R: Threads + Wait + RandomSource + AllocGlobal + Sync, G: Gate + Sync>(
     rt: &R,
     alloc: Global,
     graph: &Arc<Graph>,
@@ -65,7 +66,11 @@ fn trace<R: Threads + Wait + Sync, G: Gate + Sync>(
 }
 
 /// `trace`: reads the graph and the script, runs them with so many workers, and tells the journals.
-pub(crate) fn run_traced<R: Threads + Wait + Sync, F: Files, G: Gate + Sync>(
+pub(crate) fn run_traced<
+    R: Threads + Wait + RandomSource + AllocGlobal + Sync,
+    F: Files,
+    G: Gate + Sync,
+>(
     rt: &R,
     alloc: Global,
     words: &[String],

@@ -5,8 +5,9 @@ use crate::program::{Room, run_line};
 use crate::text::{add_line, each, split, times};
 use anyhow::{Result, bail};
 use lasp_edge::{Files, MemFiles};
-use std::alloc::{AllocError, Global};
+use std::alloc::{AllocError, AllocGlobal, Global};
 use std::mem;
+use std::random::RandomSource;
 use std::sync::Wait;
 use std::thread::Threads;
 
@@ -51,7 +52,12 @@ impl Case {
     }
 
     /// Takes in a line.
-    pub fn take<R: Threads + Wait + Sync>(&mut self, rt: &R, word: &str, rest: &str) -> Result<()> {
+    pub fn take<R: Threads + Wait + RandomSource + AllocGlobal + Sync>(
+        &mut self,
+        rt: &R,
+        word: &str,
+        rest: &str,
+    ) -> Result<()> {
         match word.as_bytes() {
             b"file" => self.begin_file(rest),
             b"more" => self.append(rest.as_bytes()),
@@ -104,13 +110,17 @@ impl Case {
         self.append(b"")
     }
 
-    fn run<R: Threads + Wait + Sync>(&mut self, rt: &R, line: &str) -> Result<()> {
+    fn run<R: Threads + Wait + RandomSource + AllocGlobal + Sync>(
+        &mut self,
+        rt: &R,
+        line: &str,
+    ) -> Result<()> {
         let room = mem::replace(&mut self.room, AMPLE);
         self.run_within(rt, line, room)
     }
 
     /// Runs the program with outputs of this room, behind a look at how the run before ended.
-    fn run_within<R: Threads + Wait + Sync>(
+    fn run_within<R: Threads + Wait + RandomSource + AllocGlobal + Sync>(
         &mut self,
         rt: &R,
         line: &str,
@@ -123,7 +133,11 @@ impl Case {
     }
 
     /// Runs the program with each room that is too small for what the last run must write.
-    fn run_cuts<R: Threads + Wait + Sync>(&mut self, rt: &R, line: &str) -> Result<()> {
+    fn run_cuts<R: Threads + Wait + RandomSource + AllocGlobal + Sync>(
+        &mut self,
+        rt: &R,
+        line: &str,
+    ) -> Result<()> {
         let whole = Vec::from_slice(self.alloc, self.wanted.out.as_slice())?;
         for taken in 0..whole.len() {
             self.run_cut(rt, line, whole.as_slice(), taken)?;
@@ -132,7 +146,7 @@ impl Case {
     }
 
     /// Runs the program with room for so many bytes of this text, of which it leaves just these.
-    fn run_cut<R: Threads + Wait + Sync>(
+    fn run_cut<R: Threads + Wait + RandomSource + AllocGlobal + Sync>(
         &mut self,
         rt: &R,
         line: &str,

@@ -3,7 +3,8 @@
 use crate::case::Case;
 use crate::text::split;
 use anyhow::Result;
-use std::alloc::{AllocError, Global};
+use std::alloc::{AllocError, AllocGlobal, Global};
+use std::random::RandomSource;
 use std::sync::Wait;
 use std::thread::Threads;
 
@@ -32,7 +33,11 @@ impl Cases {
     }
 
     /// Takes in a line.
-    pub fn take<R: Threads + Wait + Sync>(&mut self, rt: &R, line: &str) -> Result<()> {
+    pub fn take<R: Threads + Wait + RandomSource + AllocGlobal + Sync>(
+        &mut self,
+        rt: &R,
+        line: &str,
+    ) -> Result<()> {
         let (word, rest) = split(line);
         match word.as_bytes() {
             b"" | b"#" => Ok(()),

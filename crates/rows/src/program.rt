@@ -4,7 +4,8 @@ use crate::ended::Ended;
 use lasp_edge::{MemFiles, MemSink};
 use lasp_program::answer_call;
 use lasp_workers::NoGate;
-use std::alloc::{AllocError, Global};
+use std::alloc::{AllocError, AllocGlobal, Global};
+use std::random::RandomSource;
 use std::sync::Wait;
 use std::thread::Threads;
 
@@ -33,7 +34,7 @@ fn words_of(alloc: Global, line: &str) -> Result<Vec<Vec<u8>>, AllocError> {
 }
 
 /// How the program ends on these words, where its outputs have this room.
-pub fn run_line<R: Threads + Wait + Sync>(
+pub fn run_line<R: Threads + Wait + RandomSource + AllocGlobal + Sync>(
     rt: &R,
     alloc: Global,
     line: &str,

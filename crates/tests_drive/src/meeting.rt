@@ -3,7 +3,8 @@
 use lasp_edge::{MemFiles, MemSink};
 use lasp_program::answer_call;
 use lasp_workers::Gate;
-use std::alloc::{AllocError, Global};
+use std::alloc::{AllocError, AllocGlobal, Global};
+use std::random::RandomSource;
 use std::sync::Wait;
 use std::sync::atomic::{AtomicBool, AtomicU32, Ordering};
 use std::test::Fail;
@@ -111,7 +112,7 @@ impl Case {
 }
 
 /// The program's status and what it prints, where each of its workers passes this gate in its jobs.
-fn ended<R: Threads + Wait + Sync>(
+fn ended<R: Threads + Wait + RandomSource + AllocGlobal + Sync>(
     rt: &R,
     alloc: Global,
     case: Case,

@@ -1,0 +1,76 @@
+-- What a feed that was lent keeps.
+use Rattle.std.proofs.Common.{◌≡◌, List, [], Option, Some, None, Result, Ok, Err, refl, sym, ap, subst, ◌∙◌}
+use Rattle.std.specs.Prelude.{OnOk}
+use Rattle.model_states.specs.Content.{Content}
+use Rattle.model_world.specs.World.{shown_at}
+use Rattle.lasp_core.specs.Watched.{IsBusy}
+use Rattle.lasp_core.specs.declared.watched.Try.{Try}
+use Rattle.lasp_core.specs.declared.watched.Try.TheVariants.{Busy, Refused}
+use Rattle.lasp_histlock.specs.Names.{LockId}
+use Rattle.lasp_histlock.specs.Passes.{after_miss}
+use Rattle.lasp_drive.specs.Node.{Learns, LearnsAnd, OnlyLearns}
+use Rattle.lasp_drive.specs.Reads.{Reads, as_they_are}
+use Rattle.lasp_store.specs.Turn.{Knows, HadTurn, TriedTurn}
+use Rattle.lasp_store.specs.Settled.{KnowsOwn}
+use Rattle.lasp_store.specs.Tried.{IfRefused}
+use Rattle.lasp_store_node.specs.View.{node_of, IsFeed}
+use Rattle.lasp_store_node.specs.Lent.{IsLent, IsLentFrom}
+use Rattle.lasp_store_node.proofs.FeedLaws.{turn-learns, turn-place}
+
+-- what a node learns by two calls it learns by both
+pub learns-chain : (change : List Content → Reads → Reads) (a b c : Knows) → Learns (node_of a) (node_of b) → Learns (node_of b) (node_of c) → LearnsAnd change (node_of a) (node_of c)
+learns-chain change a b c x y = record {
+  learns = record {
+    still = record { graph = y.still.graph ∙ x.still.graph; replica = y.still.replica ∙ x.still.replica; nodes = y.still.nodes ∙ x.still.nodes };
+    peer = y.peer ∙ x.peer;
+    calls = y.calls ∙ x.calls;
+    more = λ v threshold met. y.more v threshold (x.more v threshold met);
+    settled = λ settled. y.settled (x.settled settled ∙ settled ∙ (λ i. shown_at (sym x.still.graph i) (sym x.peer i))) ∙ x.settled settled;
+  };
+  reads = refl;
+}
+
+-- it learns nothing by no call
+learns-nothing : (a : Knows) → OnlyLearns (node_of a) (node_of a)
+learns-nothing a = record {
+  learns = record { still = record { graph = refl; replica = refl; nodes = refl }; peer = refl; calls = refl; more = λ v threshold met. met; settled = λ settled. refl };
+  reads = refl;
+}
+
+its-own : (store : LockId) (p : Knows) → IsFeed store p → IsFeed p.lock p
+its-own store p f = record { seated = record { lock = refl; idle = f.seated.idle; framed = f.seated.framed; legal = f.seated.legal }; first = f.first }
+
+-- a feed that is lent
+pub just-lent : (start : Option Knows) (store : LockId) (p : Knows) → start ≡ Some p → IsFeed store p → IsLentFrom start p
+just-lent start store p is f = subst (λ (o : Option Knows). IsLentFrom o p) (sym is) (record { feed = its-own store p f; place = refl; learns = learns-nothing p })
+
+lent-turn : (start old new : Knows) → IsLent start old → KnowsOwn old → KnowsOwn new → HadTurn [] old new → IsLent start new
+lent-turn start old new l own-old own-new t = record {
+  feed = record {
+    seated = record { lock = refl; idle = ap (λ (p : Knows). p.turn) t.pass; framed = t.framed; legal = t.legal };
+    first = ap (λ (p : Knows). p.number) t.pass ∙ l.feed.first;
+  };
+  place = turn-place old new [] l.feed.seated.idle t ∙ l.place;
+  learns = learns-chain as_they_are start old new l.learns.learns (turn-learns as_they_are old.lock old old new refl l.feed own-old own-new t).learns;
+}
+
+lent-miss : (start old new : Knows) → IsLent start old → new ≡ after_miss old → IsLent start new
+lent-miss start old new l is = subst (IsLent start) (sym is) (record {
+  feed = record { seated = record { lock = refl; idle = l.feed.seated.idle; framed = l.feed.seated.framed; legal = l.feed.seated.legal }; first = l.feed.first };
+  place = l.place;
+  learns = l.learns;
+})
+
+polled : {A E : Type 0} (start old new : Knows) (r : Result A (Try E)) → IsLent start old → KnowsOwn old → KnowsOwn new → (IsBusy r → new ≡ after_miss old) → OnOk r (TriedTurn [] old new) → IfRefused r (λ why. TriedTurn [] old new) → IsLent start new
+polled start old new (Ok a) l own-old own-new busy ok refused = lent-turn start old new l own-old own-new ok.turn
+polled start old new (Err Busy) l own-old own-new busy ok refused = lent-miss start old new l (busy tt)
+polled start old new (Err (Refused why)) l own-old own-new busy ok refused = lent-turn start old new l own-old own-new refused.turn
+
+-- it is still lent behind a call that tried once
+pub lent-polled : {A E : Type 0} (start : Option Knows) (old new : Knows) (r : Result A (Try E)) → IsLentFrom start old → KnowsOwn old → KnowsOwn new → (IsBusy r → new ≡ after_miss old) → OnOk r (TriedTurn [] old new) → IfRefused r (λ why. TriedTurn [] old new) → IsLentFrom start new
+lent-polled None old new r l own-old own-new busy ok refused = absurd l
+lent-polled (Some start) old new r l own-old own-new busy ok refused = polled start old new r l own-old own-new busy ok refused
+
+pub lent-lock : (start : Option Knows) (store : LockId) (old new : Knows) → IsLentFrom start old → IsLentFrom start new → old.lock ≡ store → new.lock ≡ store
+lent-lock None store old new l m is = absurd l
+lent-lock (Some start) store old new l m is = ap (λ q. q.lock) m.place ∙ sym (ap (λ q. q.lock) l.place) ∙ is

@@ -1,0 +1,8 @@
+use Rattle.lasp_drive.specs.Reads.{as_they_are}
+use Rattle.lasp_store_node.proofs.FeedLaws.{turn-learns}
+use Rattle.lasp_store_node.proofs.node.StoreNode.open.Goals as goal
+
+pub returns-clause-learns : goal.returns-clause-learns
+returns-clause-learns g c =
+    turn-learns as_they_are _ c.self.inside.feed c.args.self.now c.open_read-read.new.h c.self.view_is c.self.invariant
+    (record { own = c.known.ensures.own; allowed = c.known.ensures.allowed }) (record { own = c.known-2.ensures.own; allowed = c.known-2.ensures.allowed }) c.open_read-read.ensures.turn
