@@ -11,7 +11,7 @@ IsUnleft r = r.is_left ≡ false
 
 -- the replica with another mark
 abbrev marked : {J : Type 0} → Bool → Replica J → Replica J
-marked b r = record { node = r.node; jobs = r.jobs; is_left = b }
+marked b r = record { node = r.node; jobs = r.jobs; is_left = b; waits_for = r.waits_for }
 
 -- a mark isn't seen
 pub same-pairs : {J : Type 0} (b : Bool) (items : List (Replica J)) (i : ℕ) (d : Replica J) → map pair_of (slice_set items i (marked b (slice_index_or items i d))) ≡ map pair_of items

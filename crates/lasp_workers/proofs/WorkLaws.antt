@@ -1,6 +1,5 @@
 -- How the parts of a worker's calls make up the whole.
 use Rattle.std.proofs.Common.{◌≡◌, ℕ, zero, suc, ◌+◌, ◌-◌, ◌^◌, ◌≤◌, ◌<◌, min, Bool, true, false, if◌then◌else◌, List, [], ◌∷◌, ◌++◌, length, Option, Some, None, refl, sym, ap, subst, ◌∙◌, append-nil, append_assoc, length-append, arith}
-use Rattle.std.specs.Int.{from_bool}
 use Rattle.std.specs.Prelude.{All, slice_set, slice_index_or, map, take}
 use Rattle.std.specs.List.{AllByRecursion, AllZip, sum_by}
 use Rattle.std.proofs.lemmas.List.Elements.{All-set, All-get_or, All-push}
@@ -176,6 +175,10 @@ module _ {J P : Type 0} (place : J → P) (frame : J → Frame) (caller : J → 
 pub counted-on : (m n a b : ℕ) → a ≡ counted_up 0 m → b ≡ counted_up 0 n → min (a + b) greatest_count ≡ counted_up 0 (m + n)
 counted-on m n a b one two = omega (arith, one, two)
 
+-- a count that goes on by some more
+pub counted-up : (m n a : ℕ) → a ≡ counted_up 0 m → counted_up a n ≡ counted_up 0 (m + n)
+counted-up m n a is = omega (arith, is)
+
 pub counted-between : (m n was now : ℕ) → m ≡ counted_up 0 n → now ≡ was + n → m ≡ counted_up 0 (now - was)
 counted-between m n was now count more = omega (arith, count, more)
 
@@ -225,15 +228,6 @@ pub round-done : {J : Type 0} (P : ℕ × J → Type 0) (items : List (Replica J
 round-done P items i r low before last =
     subst (λ (l : List _). All P l) (sym (ap (map pair_of) (take_more_set items i r low) ∙ map-append pair_of (take i items) (r ∷ [])))
     (All-push P (map pair_of (take i items)) (pair_of r) before last)
-
-pub byte-counted : (b : Bool) (n : ℕ) → n ≡ from_bool b → n ≡ counted_up 0 (if b then 1 else 0)
-byte-counted true n is = is
-byte-counted false n is = is
-
--- where nothing was counted, no part of it was
-pub added-nothing : (a r n : ℕ) (b : Bool) → n ≡ from_bool b → r ≡ min (a + n) greatest_count → r ≡ 0 → (a ≡ 0) × (b ≡ false)
-added-nothing a r n true one is none = absurd (omega (arith, one, is, none))
-added-nothing a r n false one is none = (omega (arith, is, none), refl)
 
 -- one round behind others, whose replicas stand where those stood that were borrowed for it
 pub round-chain : {J P : Type 0} (place : J → P) (frame : J → Frame) (caller : J → ℕ) (list : J → List Entry) (looks : J → Option ℕ) (rows_owed : J → ℕ)

@@ -1,3 +1,4 @@
 pub mod Replicas
 pub mod Done
 pub mod Worked
+pub mod Asked

@@ -96,8 +96,3 @@ module _ {J P : Type 0} (place : J → P) (frame : J → Frame) (caller : J → 
 abbrev pub Counts : {E : Type 0} → Result Bool E → (ℕ → Type 0) → Type 0
 Counts (Ok finished) P = P (if finished then 1 else 0)
 Counts (Err e) P = P 0
-
--- what was done is of so many jobs as the answer tells, held at the greatest number of 64 bits
-abbrev pub CountsUp : {E : Type 0} → Result ℕ E → (ℕ → Type 0) → Type 0
-CountsUp (Ok count) P = (n : ℕ) × P n × (count ≡ counted_up 0 n)
-CountsUp (Err e) P = (n : ℕ) × P n

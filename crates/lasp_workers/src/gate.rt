@@ -4,6 +4,19 @@
 pub trait Gate {
     /// The worker with this number has a job of this variable of this node's replica.
     fn pass(&self, worker: u32, node: u8, var: u8);
+
+    /// Whether the worker may do its job of this variable. Where it may not, it gives it back and asks again later; where it may, it tells when it is through.
+    fn admits(&self, _worker: u32, _node: u8, _var: u8) -> bool {
+        true
+    }
+
+    /// The worker is through with its job of this variable.
+    fn leaves(&self, _worker: u32, _node: u8, _var: u8) {}
+
+    /// Whether a worker that wasn't admitted to this variable would still not be. It asks for no job before.
+    fn keeps_out(&self, _worker: u32, _node: u8, _var: u8) -> bool {
+        false
+    }
 }
 
 /// A gate that holds nobody.

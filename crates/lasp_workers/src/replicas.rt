@@ -5,12 +5,13 @@ ghost use Rattle.lasp_workers.specs.Replicas.{pairs_of};
 
 use std::alloc::{AllocError, Global};
 
-/// A node's replica, and whether the worker has left it in this call.
+/// A node's replica, whether the worker has left it in this call, and the variable to which it wasn't admitted.
 #[derive(Drop)]
 pub struct Replica<J> {
     pub(crate) node: u8,
     pub(crate) jobs: J,
     pub(crate) is_left: bool,
+    pub(crate) waits_for: Option<u8>,
 }
 
 /// The replicas of some nodes, each with the node's number. Contracts see the list of these pairs.
@@ -46,6 +47,7 @@ impl<J> Replicas<J> {
             node,
             jobs,
             is_left: false,
+            waits_for: None,
         }) {
             Ok(()) => Ok(()),
             Err(refused) => {
@@ -53,6 +55,7 @@ impl<J> Replicas<J> {
                     node: _,
                     jobs,
                     is_left: _,
+                    waits_for: _,
                 } = refused.value;
                 Err((jobs, AllocError))
             }
@@ -70,6 +73,7 @@ impl<J> Replicas<J> {
                     node,
                     jobs,
                     is_left: _,
+                    waits_for: _,
                 },
             ) => Some((node, jobs)),
             None => None,

@@ -1,12 +1,15 @@
 //! One round over all replicas.
 
-ghost use Rattle.std.specs.Prelude.{◌≡◌, All, map, IfOk, false};
+ghost use Rattle.std.specs.Prelude.{◌≡◌, All, map, IfOk, true, false};
 ghost use Rattle.lasp_fns.specs.Steps as counted;
 ghost use Rattle.lasp_graph.specs.Library.{library_of};
 ghost use Rattle.lasp_workers.specs.Replicas.{pair_of};
-ghost use Rattle.lasp_workers.specs.Worked.{CountsUp, HaveWorked, IsLeftDone, IsDoneAt};
+ghost use Rattle.lasp_replica.specs.Jobs.{counted_up};
+ghost use Rattle.lasp_workers.specs.Asked.{CountsUp, finished_by};
+ghost use Rattle.lasp_workers.specs.Worked.{HaveWorked, IsLeftDone, IsDoneAt};
+ghost use Rattle.lasp_workers.specs.declared.ask.Asked.TheVariants.{Done};
 
-use crate::ask::ask;
+use crate::ask::{Asked, ask};
 use crate::gate::Gate;
 use crate::replicas::Replica;
 use lasp_core::Jobs;
@@ -23,26 +26,56 @@ pub(crate) fn leave_none<J>(replicas: &mut [Replica<J>])
     }
 }
 
-/// Asks each replica once, and tells how many jobs were finished, held at the greatest number of 64 bits. Where none was, nothing is left to do.
+/// What a round came to.
+#[derive(Clone, Copy)]
+pub(crate) struct Round {
+    /// How many jobs were finished, held at the greatest number of 64 bits.
+    pub(crate) finished: u64,
+    /// Whether nothing is left to do.
+    pub(crate) is_done: bool,
+}
+
+/// Asks each replica once.
 pub(crate) fn go_round<J: Jobs, G: Gate>(
     alloc: Global,
     worker: u32,
     replicas: &mut [Replica<J>],
     lib: &mut StepLib,
     gate: &G,
-) -> Result<u64, AllocError>
+) -> Result<Round, AllocError>
     requires left { All (IsLeftDone J.frame J.list (library_of (counted.library_of lib.old))) replicas.old }
     ensures worked { CountsUp result (λ n. HaveWorked J.place J.frame J.caller J.list J.looks J.rows_owed n (counted.ticks_of lib.old) (counted.ticks_of lib.new) (map pair_of replicas.old) (map pair_of replicas.new)) }
     ensures left { All (IsLeftDone J.frame J.list (library_of (counted.library_of lib.old))) replicas.new }
-    ensures done { IfOk result (λ n. n ≡ 0 → All (IsDoneAt J.frame J.list (library_of (counted.library_of lib.old))) (map pair_of replicas.new)) }
+    ensures done { IfOk result (λ round. round.is_done ≡ true → All (IsDoneAt J.frame J.list (library_of (counted.library_of lib.old))) (map pair_of replicas.new)) }
     ensures library { counted.library_of lib.new ≡ counted.library_of lib.old }
 {
-    let mut finished: u64 = 0;
+    let mut round = Round {
+        finished: 0,
+        is_done: true,
+    };
     for i in 0..replicas.len() {
         match ask(alloc, worker, &mut replicas[i], lib, gate) {
-            Ok(is_finished) => finished = finished.saturating_add(u64::from(is_finished)),
+            Ok(asked) => round = with(round, asked),
             Err(error) => return Err(error),
         }
     }
-    Ok(finished)
+    Ok(round)
+}
+
+/// The round with one replica more, of which this came.
+fn with(round: Round, asked: Asked) -> Round
+    ensures finished { result.finished ≡ counted_up round.finished (finished_by asked) }
+    ensures done { result.is_done ≡ true → (round.is_done ≡ true) × (asked ≡ Done) }
+{
+    match asked {
+        Asked::Finished => Round {
+            finished: round.finished.saturating_add(1),
+            is_done: false,
+        },
+        Asked::Waits => Round {
+            finished: round.finished,
+            is_done: false,
+        },
+        Asked::Done => round,
+    }
 }

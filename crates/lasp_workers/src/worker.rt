@@ -25,10 +25,13 @@ const SHORTEST_REST: u32 = 64;
 /// How long it rests at most.
 const LONGEST_REST: u32 = 16384;
 
+/// How long it rests at most where all that is left is what the gate keeps it from.
+const LONGEST_WAIT: u32 = 1024;
+
 /// In how many parts it rests, and sees before each whether more comes.
 const PARTS: u32 = 4;
 
-/// Takes a job of each replica in turn, passes the gate, evaluates the job and hands its result in, round after round, and tells how many jobs were finished, held at the greatest number of 64 bits. It ends after a round that began with `more` lowered and found nothing to do. While `more` is raised, a worker rests before each round, four times as long as before the last one, 16 milliseconds at most, so that what little comes together is evaluated together; it ends its rest early where `more` is lowered.
+/// Takes a job of each replica in turn, passes the gate, evaluates the job and hands its result in, round after round, and tells how many jobs were finished, held at the greatest number of 64 bits. It ends after a round that began with `more` lowered and found nothing to do. While `more` is raised, a worker rests before each round, four times as long as before the last one, 16 milliseconds at most, so that what little comes together is evaluated together; it ends its rest early where `more` is lowered. Behind that it rests only where all that is left to do is what the gate keeps it from, a millisecond at most.
 ///
 /// A replica whose job can't be evaluated, since the library lacks a function of its graph or the result would have more than 65,536 rows, is left for the rest of the call. Where there is no memory, all jobs were given back. It may wait for others where a replica's calls do.
 pub fn work<R: Wait, J: Jobs, G: Gate>(
@@ -53,16 +56,18 @@ pub fn work<R: Wait, J: Jobs, G: Gate>(
     let mut pause: u32 = SHORTEST_REST;
     for _ in rt.forever() {
         rest_for_more(rt, pause, more);
-        pause = LONGEST_REST.min(4 * pause);
         let is_last = !more.load(Ordering::SeqCst);
-        let done = go_round(alloc, worker, items, lib, gate)?;
-        finished = finished.saturating_add(done);
-        if done > 0 {
-            continue;
-        }
+        let round = go_round(alloc, worker, items, lib, gate)?;
+        finished = finished.saturating_add(round.finished);
         if is_last {
-            return Ok(finished);
+            if round.is_done {
+                return Ok(finished);
+            }
+            if round.finished == 0 {
+                rest(rt, LONGEST_WAIT.min(pause));
+            }
         }
+        pause = LONGEST_REST.min(4 * pause);
     }
     unreachable!()
 }
@@ -73,6 +78,11 @@ fn rest_for_more<R: Wait>(rt: &R, micros: u32, more: &AtomicBool) {
         if !more.load(Ordering::SeqCst) {
             return;
         }
-        Parker::new().park_timeout(rt, Duration::from_micros(u64::from(micros / PARTS)));
+        rest(rt, micros / PARTS);
     }
+}
+
+/// Sleeps for so many microseconds.
+fn rest<R: Wait>(rt: &R, micros: u32) {
+    Parker::new().park_timeout(rt, Duration::from_micros(u64::from(micros)));
 }

@@ -1,4 +1,4 @@
-use Rattle.std.proofs.Common.{◌≡◌, ◌∙◌, ◌+◌, ◌<◌, ℕ, List, map, take, length, refl, sym, ap, subst, arith, if◌then◌else◌}
+use Rattle.std.proofs.Common.{◌≡◌, ◌∙◌, ◌+◌, ◌<◌, ℕ, List, map, take, length, refl, sym, ap, subst, arith}
 use Rattle.std.specs.Prelude.{All, slice_index_or}
 use Rattle.std.proofs.lemmas.List.{length-set, take_all}
 use Rattle.std.proofs.lemmas.List.Elements.{All-set}
@@ -7,8 +7,9 @@ use Rattle.lasp_fns.specs.Steps as counted
 use Rattle.lasp_graph.specs.Library.{library_of}
 use Rattle.lasp_workers.specs.declared.replicas.Replica.{Replica}
 use Rattle.lasp_workers.specs.Replicas.{pair_of}
+use Rattle.lasp_workers.specs.Asked.{finished_by}
 use Rattle.lasp_workers.specs.Worked.{IsLeftDone, IsDoneAt}
-use Rattle.lasp_workers.proofs.WorkLaws.{worked-itself, round-worked, round-done, counted-on, byte-counted, added-nothing}
+use Rattle.lasp_workers.proofs.WorkLaws.{worked-itself, round-worked, round-done, counted-up}
 use Rattle.lasp_workers.proofs.round.go_round.Goals as goal
 
 pub loop-i-init : goal.loop-i-init
@@ -47,17 +48,17 @@ loop-i-preserved g c =
     let before = c.loop-i.invariant.worked in
     let low : c.loop-i.i < length c.loop-i.replicas = omega (arith, c.loop-i-test.true, c.loop-i.auto.replicas) in
     let size = length-set c.loop-i.replicas c.loop-i.i c.ask.new.replica in
-    let one : ℕ = if c.in-Ok.is_finished then 1 else 0 in
+    let one : ℕ = finished_by c.in-Ok.asked in
     record {
       worked = (
         before.0 + one,
-        c.saturating_add-finished.ensures ∙ counted-on before.0 one c.loop-i.finished c.from.result before.1 (byte-counted c.in-Ok.is_finished c.from.result c.from.ensures),
+        c.with-round.ensures.finished ∙ counted-up before.0 one c.loop-i.round.finished before.1,
         round-worked g.J.Jobs.place g.J.Jobs.frame g.J.Jobs.caller g.J.Jobs.list g.J.Jobs.looks g.J.Jobs.rows_owed before.0 one (counted.ticks_of c.args.lib.now) (counted.ticks_of c.loop-i.lib) (counted.ticks_of c.ask.new.lib) c.loop-i.i c.index-replicas-i.result c.ask.new.replica c.args.replicas.now c.loop-i.replicas low before.2 c.in-Ok.ensures.asked,
       );
       left = All-set (IsLeftDone g.J.Jobs.frame g.J.Jobs.list lib) c.loop-i.replicas c.loop-i.i c.ask.new.replica
           (subst (λ (l : Library). IsLeftDone g.J.Jobs.frame g.J.Jobs.list l c.ask.new.replica) (ap library_of c.loop-i.invariant.library) c.in-Ok.ensures.left) c.loop-i.invariant.left;
       done = λ none.
-          let both = added-nothing c.loop-i.finished c.saturating_add-finished.result c.from.result c.in-Ok.is_finished c.from.ensures c.saturating_add-finished.ensures none in
+          let both = c.with-round.ensures.done none in
           round-done (IsDoneAt g.J.Jobs.frame g.J.Jobs.list lib) c.loop-i.replicas c.loop-i.i c.ask.new.replica low (c.loop-i.invariant.done both.0)
           (subst (λ (l : Library). IsDoneAt g.J.Jobs.frame g.J.Jobs.list l (pair_of c.ask.new.replica)) (ap library_of c.loop-i.invariant.library) (c.in-Ok.ensures.done both.1));
       library = c.in-Ok.ensures.library ∙ c.loop-i.invariant.library;

@@ -35,59 +35,42 @@ go_round-requires g c = record {
       (subst (λ (l : Library). All (IsLeftDone g.J.Jobs.frame g.J.Jobs.list l) c.loop.items.items) (sym (ap library_of c.loop.invariant.library)) c.loop.invariant.left);
 }
 
-pub returns-in_err-done-clause-each : goal.returns-in_err-done-clause-each
-returns-in_err-done-clause-each g c =
+pub returns-in_err-round-clause-each : goal.returns-in_err-round-clause-each
+returns-in_err-round-clause-each g c =
     let before = c.loop.invariant.worked in
-    (round-chain g.J.Jobs.place g.J.Jobs.frame g.J.Jobs.caller g.J.Jobs.list g.J.Jobs.looks g.J.Jobs.rows_owed before.0 c.in_err-done.ensures.worked.0 (counted.ticks_of c.args.lib.now) (counted.ticks_of c.loop.lib) (counted.ticks_of c.go_round.new.lib) (pairs_of c.args.replicas.now) c.loop.items.items
-    c.deref_mut-in-loop.result.now c.go_round.new.replicas (drop (length c.go_round.new.replicas) c.loop.items.items) c.loop.items.len (c.go_round.auto.replicas ∙ c.deref_mut-in-loop.ensures.len) c.deref_mut-in-loop.ensures.value before.2 c.in_err-done.ensures.worked.1).later
+    (round-chain g.J.Jobs.place g.J.Jobs.frame g.J.Jobs.caller g.J.Jobs.list g.J.Jobs.looks g.J.Jobs.rows_owed before.0 c.in_err-round.ensures.worked.0 (counted.ticks_of c.args.lib.now) (counted.ticks_of c.loop.lib) (counted.ticks_of c.go_round.new.lib) (pairs_of c.args.replicas.now) c.loop.items.items
+    c.deref_mut-in-loop.result.now c.go_round.new.replicas (drop (length c.go_round.new.replicas) c.loop.items.items) c.loop.items.len (c.go_round.auto.replicas ∙ c.deref_mut-in-loop.ensures.len) c.deref_mut-in-loop.ensures.value before.2 c.in_err-round.ensures.worked.1).later
 
-pub returns-in_err-done-clause-ticks : goal.returns-in_err-done-clause-ticks
-returns-in_err-done-clause-ticks g c = λ low.
+pub returns-in_err-round-clause-ticks : goal.returns-in_err-round-clause-ticks
+returns-in_err-round-clause-ticks g c = λ low.
     let before = c.loop.invariant.worked in
-    ((round-chain g.J.Jobs.place g.J.Jobs.frame g.J.Jobs.caller g.J.Jobs.list g.J.Jobs.looks g.J.Jobs.rows_owed before.0 c.in_err-done.ensures.worked.0 (counted.ticks_of c.args.lib.now) (counted.ticks_of c.loop.lib) (counted.ticks_of c.go_round.new.lib) (pairs_of c.args.replicas.now) c.loop.items.items
-    c.deref_mut-in-loop.result.now c.go_round.new.replicas (drop (length c.go_round.new.replicas) c.loop.items.items) c.loop.items.len (c.go_round.auto.replicas ∙ c.deref_mut-in-loop.ensures.len) c.deref_mut-in-loop.ensures.value before.2 c.in_err-done.ensures.worked.1).few low).1
+    ((round-chain g.J.Jobs.place g.J.Jobs.frame g.J.Jobs.caller g.J.Jobs.list g.J.Jobs.looks g.J.Jobs.rows_owed before.0 c.in_err-round.ensures.worked.0 (counted.ticks_of c.args.lib.now) (counted.ticks_of c.loop.lib) (counted.ticks_of c.go_round.new.lib) (pairs_of c.args.replicas.now) c.loop.items.items
+    c.deref_mut-in-loop.result.now c.go_round.new.replicas (drop (length c.go_round.new.replicas) c.loop.items.items) c.loop.items.len (c.go_round.auto.replicas ∙ c.deref_mut-in-loop.ensures.len) c.deref_mut-in-loop.ensures.value before.2 c.in_err-round.ensures.worked.1).few low).1
 
-pub loop-preserved-then-done-gt0 : goal.loop-preserved-then-done-gt0
-loop-preserved-then-done-gt0 g c =
+pub returns-then-round-clause-each : goal.returns-then-round-clause-each
+returns-then-round-clause-each g c =
     let before = c.loop.invariant.worked in
-    let lib = library_of (counted.library_of c.args.lib.now) in
-    record {
-      worked = (
-        before.0 + c.in_ok-done.ensures.worked.0,
-        c.saturating_add-finished.ensures ∙ counted-on before.0 c.in_ok-done.ensures.worked.0 c.loop.finished c.in_ok-done.done before.1 c.in_ok-done.ensures.worked.2,
-        round-chain g.J.Jobs.place g.J.Jobs.frame g.J.Jobs.caller g.J.Jobs.list g.J.Jobs.looks g.J.Jobs.rows_owed before.0 c.in_ok-done.ensures.worked.0 (counted.ticks_of c.args.lib.now) (counted.ticks_of c.loop.lib) (counted.ticks_of c.go_round.new.lib) (pairs_of c.args.replicas.now) c.loop.items.items
-            c.deref_mut-in-loop.result.now c.go_round.new.replicas (drop (length c.go_round.new.replicas) c.loop.items.items) c.loop.items.len (c.go_round.auto.replicas ∙ c.deref_mut-in-loop.ensures.len) c.deref_mut-in-loop.ensures.value before.2 c.in_ok-done.ensures.worked.1,
-      );
-      left = subst (λ (l : List (Replica _)). All (IsLeftDone g.J.Jobs.frame g.J.Jobs.list lib) l) (sym (written-back c.go_round.new.replicas (drop (length c.go_round.new.replicas) c.loop.items.items) c.loop.items.len (c.go_round.auto.replicas ∙ c.deref_mut-in-loop.ensures.len)))
-          (subst (λ (l : Library). All (IsLeftDone g.J.Jobs.frame g.J.Jobs.list l) c.go_round.new.replicas) (ap library_of c.loop.invariant.library) c.in_ok-done.ensures.left);
-      library = c.in_ok-done.ensures.library ∙ c.loop.invariant.library;
-      short = omega (arith, c.min-pause.ensures);
-    }
+    (round-chain g.J.Jobs.place g.J.Jobs.frame g.J.Jobs.caller g.J.Jobs.list g.J.Jobs.looks g.J.Jobs.rows_owed before.0 c.in_ok-round.ensures.worked.0 (counted.ticks_of c.args.lib.now) (counted.ticks_of c.loop.lib) (counted.ticks_of c.go_round.new.lib) (pairs_of c.args.replicas.now) c.loop.items.items
+    c.deref_mut-in-loop.result.now c.go_round.new.replicas (drop (length c.go_round.new.replicas) c.loop.items.items) c.loop.items.len (c.go_round.auto.replicas ∙ c.deref_mut-in-loop.ensures.len) c.deref_mut-in-loop.ensures.value before.2 c.in_ok-round.ensures.worked.1).later
 
-pub returns-then-is_last-clause-each : goal.returns-then-is_last-clause-each
-returns-then-is_last-clause-each g c =
-    let before = c.loop.invariant.worked in
-    (round-chain g.J.Jobs.place g.J.Jobs.frame g.J.Jobs.caller g.J.Jobs.list g.J.Jobs.looks g.J.Jobs.rows_owed before.0 c.in_ok-done.ensures.worked.0 (counted.ticks_of c.args.lib.now) (counted.ticks_of c.loop.lib) (counted.ticks_of c.go_round.new.lib) (pairs_of c.args.replicas.now) c.loop.items.items
-    c.deref_mut-in-loop.result.now c.go_round.new.replicas (drop (length c.go_round.new.replicas) c.loop.items.items) c.loop.items.len (c.go_round.auto.replicas ∙ c.deref_mut-in-loop.ensures.len) c.deref_mut-in-loop.ensures.value before.2 c.in_ok-done.ensures.worked.1).later
-
-pub returns-then-is_last-clause-done : goal.returns-then-is_last-clause-done
-returns-then-is_last-clause-done g c =
+pub returns-then-round-clause-done : goal.returns-then-round-clause-done
+returns-then-round-clause-done g c =
     subst (λ (l : List (Replica _)). All (IsDoneAt g.J.Jobs.frame g.J.Jobs.list (library_of (counted.library_of c.args.lib.now))) (map pair_of l))
     (sym (written-back c.go_round.new.replicas (drop (length c.go_round.new.replicas) c.loop.items.items) c.loop.items.len (c.go_round.auto.replicas ∙ c.deref_mut-in-loop.ensures.len)))
-    (subst (λ (l : Library). All (IsDoneAt g.J.Jobs.frame g.J.Jobs.list l) (map pair_of c.go_round.new.replicas)) (ap library_of c.loop.invariant.library) (c.in_ok-done.ensures.done (omega (arith, c.if-done-gt0.false))))
+    (subst (λ (l : Library). All (IsDoneAt g.J.Jobs.frame g.J.Jobs.list l) (map pair_of c.go_round.new.replicas)) (ap library_of c.loop.invariant.library) (c.in_ok-round.ensures.done c.if-round.true))
 
-pub returns-then-is_last-clause-alone : goal.returns-then-is_last-clause-alone
-returns-then-is_last-clause-alone g c = λ none.
+pub returns-then-round-clause-alone : goal.returns-then-round-clause-alone
+returns-then-round-clause-alone g c = λ none.
     let before = c.loop.invariant.worked in
-    let all = round-chain g.J.Jobs.place g.J.Jobs.frame g.J.Jobs.caller g.J.Jobs.list g.J.Jobs.looks g.J.Jobs.rows_owed before.0 c.in_ok-done.ensures.worked.0 (counted.ticks_of c.args.lib.now) (counted.ticks_of c.loop.lib) (counted.ticks_of c.go_round.new.lib) (pairs_of c.args.replicas.now) c.loop.items.items
-    c.deref_mut-in-loop.result.now c.go_round.new.replicas (drop (length c.go_round.new.replicas) c.loop.items.items) c.loop.items.len (c.go_round.auto.replicas ∙ c.deref_mut-in-loop.ensures.len) c.deref_mut-in-loop.ensures.value before.2 c.in_ok-done.ensures.worked.1 in
-    counted-between c.saturating_add-finished.result (before.0 + c.in_ok-done.ensures.worked.0) (all_entries g.J.Jobs.list (pairs_of c.args.replicas.now)) _ (c.saturating_add-finished.ensures ∙ counted-on before.0 c.in_ok-done.ensures.worked.0 c.loop.finished c.in_ok-done.done before.1 c.in_ok-done.ensures.worked.2) (all.alone none).1
+    let all = round-chain g.J.Jobs.place g.J.Jobs.frame g.J.Jobs.caller g.J.Jobs.list g.J.Jobs.looks g.J.Jobs.rows_owed before.0 c.in_ok-round.ensures.worked.0 (counted.ticks_of c.args.lib.now) (counted.ticks_of c.loop.lib) (counted.ticks_of c.go_round.new.lib) (pairs_of c.args.replicas.now) c.loop.items.items
+    c.deref_mut-in-loop.result.now c.go_round.new.replicas (drop (length c.go_round.new.replicas) c.loop.items.items) c.loop.items.len (c.go_round.auto.replicas ∙ c.deref_mut-in-loop.ensures.len) c.deref_mut-in-loop.ensures.value before.2 c.in_ok-round.ensures.worked.1 in
+    counted-between c.saturating_add-finished.result (before.0 + c.in_ok-round.ensures.worked.0) (all_entries g.J.Jobs.list (pairs_of c.args.replicas.now)) _ (c.saturating_add-finished.ensures ∙ counted-on before.0 c.in_ok-round.ensures.worked.0 c.loop.finished c.in_ok-round.round.finished before.1 c.in_ok-round.ensures.worked.2) (all.alone none).1
 
-pub returns-then-is_last-clause-ticks : goal.returns-then-is_last-clause-ticks
-returns-then-is_last-clause-ticks g c = λ low.
+pub returns-then-round-clause-ticks : goal.returns-then-round-clause-ticks
+returns-then-round-clause-ticks g c = λ low.
     let before = c.loop.invariant.worked in
-    ((round-chain g.J.Jobs.place g.J.Jobs.frame g.J.Jobs.caller g.J.Jobs.list g.J.Jobs.looks g.J.Jobs.rows_owed before.0 c.in_ok-done.ensures.worked.0 (counted.ticks_of c.args.lib.now) (counted.ticks_of c.loop.lib) (counted.ticks_of c.go_round.new.lib) (pairs_of c.args.replicas.now) c.loop.items.items
-    c.deref_mut-in-loop.result.now c.go_round.new.replicas (drop (length c.go_round.new.replicas) c.loop.items.items) c.loop.items.len (c.go_round.auto.replicas ∙ c.deref_mut-in-loop.ensures.len) c.deref_mut-in-loop.ensures.value before.2 c.in_ok-done.ensures.worked.1).few low).1
+    ((round-chain g.J.Jobs.place g.J.Jobs.frame g.J.Jobs.caller g.J.Jobs.list g.J.Jobs.looks g.J.Jobs.rows_owed before.0 c.in_ok-round.ensures.worked.0 (counted.ticks_of c.args.lib.now) (counted.ticks_of c.loop.lib) (counted.ticks_of c.go_round.new.lib) (pairs_of c.args.replicas.now) c.loop.items.items
+    c.deref_mut-in-loop.result.now c.go_round.new.replicas (drop (length c.go_round.new.replicas) c.loop.items.items) c.loop.items.len (c.go_round.auto.replicas ∙ c.deref_mut-in-loop.ensures.len) c.deref_mut-in-loop.ensures.value before.2 c.in_ok-round.ensures.worked.1).few low).1
 
 pub overflow_mul-pause : goal.overflow_mul-pause
 overflow_mul-pause g c = omega (arith, c.loop.invariant.short)
@@ -98,13 +81,13 @@ loop-preserved g c =
     let lib = library_of (counted.library_of c.args.lib.now) in
     record {
       worked = (
-        before.0 + c.in_ok-done.ensures.worked.0,
-        c.saturating_add-finished.ensures ∙ counted-on before.0 c.in_ok-done.ensures.worked.0 c.loop.finished c.in_ok-done.done before.1 c.in_ok-done.ensures.worked.2,
-        round-chain g.J.Jobs.place g.J.Jobs.frame g.J.Jobs.caller g.J.Jobs.list g.J.Jobs.looks g.J.Jobs.rows_owed before.0 c.in_ok-done.ensures.worked.0 (counted.ticks_of c.args.lib.now) (counted.ticks_of c.loop.lib) (counted.ticks_of c.go_round.new.lib) (pairs_of c.args.replicas.now) c.loop.items.items
-            c.deref_mut-in-loop.result.now c.go_round.new.replicas (drop (length c.go_round.new.replicas) c.loop.items.items) c.loop.items.len (c.go_round.auto.replicas ∙ c.deref_mut-in-loop.ensures.len) c.deref_mut-in-loop.ensures.value before.2 c.in_ok-done.ensures.worked.1,
+        before.0 + c.in_ok-round.ensures.worked.0,
+        c.saturating_add-finished.ensures ∙ counted-on before.0 c.in_ok-round.ensures.worked.0 c.loop.finished c.in_ok-round.round.finished before.1 c.in_ok-round.ensures.worked.2,
+        round-chain g.J.Jobs.place g.J.Jobs.frame g.J.Jobs.caller g.J.Jobs.list g.J.Jobs.looks g.J.Jobs.rows_owed before.0 c.in_ok-round.ensures.worked.0 (counted.ticks_of c.args.lib.now) (counted.ticks_of c.loop.lib) (counted.ticks_of c.go_round.new.lib) (pairs_of c.args.replicas.now) c.loop.items.items
+            c.deref_mut-in-loop.result.now c.go_round.new.replicas (drop (length c.go_round.new.replicas) c.loop.items.items) c.loop.items.len (c.go_round.auto.replicas ∙ c.deref_mut-in-loop.ensures.len) c.deref_mut-in-loop.ensures.value before.2 c.in_ok-round.ensures.worked.1,
       );
       left = subst (λ (l : List (Replica _)). All (IsLeftDone g.J.Jobs.frame g.J.Jobs.list lib) l) (sym (written-back c.go_round.new.replicas (drop (length c.go_round.new.replicas) c.loop.items.items) c.loop.items.len (c.go_round.auto.replicas ∙ c.deref_mut-in-loop.ensures.len)))
-          (subst (λ (l : Library). All (IsLeftDone g.J.Jobs.frame g.J.Jobs.list l) c.go_round.new.replicas) (ap library_of c.loop.invariant.library) c.in_ok-done.ensures.left);
-      library = c.in_ok-done.ensures.library ∙ c.loop.invariant.library;
+          (subst (λ (l : Library). All (IsLeftDone g.J.Jobs.frame g.J.Jobs.list l) c.go_round.new.replicas) (ap library_of c.loop.invariant.library) c.in_ok-round.ensures.left);
+      library = c.in_ok-round.ensures.library ∙ c.loop.invariant.library;
       short = omega (arith, c.min-pause.ensures);
     }
