@@ -2,17 +2,18 @@
 
 ghost use Rattle.std.specs.Prelude.{◌≡◌, ◌≤◌, map, vec_capacity};
 
+use crate::shared::Shared;
 use crate::worker::Works;
-use std::sync::atomic::{AtomicBool, Ordering};
+use std::sync::atomic::Ordering;
 use std::thread::{Threads, join};
 
-/// Makes a call while all workers work, each on a thread of its own where one can be had, and lowers `more` behind it. The call is made on this thread, and the workers end where nothing is left to do for them.
+/// Makes a call while all workers work, each on a thread of its own where one can be had, and tells them behind it that the stretch has ended. The call is made on this thread, and the workers end where nothing is left to do for them.
 #[cycle(work_beside)]
 pub(crate) fn work_beside<R: Threads, T: Sync, W: Works<T> + Send, A, F: FnOnce() -> A>(
     rt: &R,
     mut workers: Vec<W>,
     tools: &T,
-    more: &AtomicBool,
+    shared: &Shared,
     call: F,
 ) -> (Vec<W>, A)
     requires { F.pre call }
@@ -22,20 +23,20 @@ pub(crate) fn work_beside<R: Threads, T: Sync, W: Works<T> + Send, A, F: FnOnce(
 {
     let Some(last) = workers.pop() else {
         let answer = call();
-        more.store(false, Ordering::SeqCst);
+        shared.more.store(false, Ordering::SeqCst);
         return (workers, answer);
     };
     let own = move || -> W
         ensures { W.place result ≡ W.place last }
     {
         let mut worker = last;
-        worker.work(tools, more);
+        worker.work(tools, shared);
         worker
     };
     let others = move || -> (Vec<W>, A)
         requires { F.pre call }
         ensures { F.post call result.1 × (map W.place result.0.items ≡ map W.place workers.items) × (vec_capacity workers ≤ vec_capacity result.0) }
-    { work_beside(rt, workers, tools, more, call) };
+    { work_beside(rt, workers, tools, shared, call) };
     let (last, (mut workers, answer)) = join(rt, own, others);
     match workers.push(last) {
         Ok(()) => (workers, answer),

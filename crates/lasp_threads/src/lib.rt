@@ -15,8 +15,10 @@ mod hands;
 mod nodes;
 mod report;
 mod run;
+mod shared;
 mod stores;
 mod stretch;
+mod turns;
 mod worker;
 
 pub use closing::close_stores;

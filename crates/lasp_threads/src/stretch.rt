@@ -7,12 +7,12 @@ ghost use Rattle.lasp_drive.specs.Play.{MayPlay, Plays};
 ghost use Rattle.lasp_drive.specs.Stretch.{MayGoOn, Advances, Crosses, PassesOn};
 
 use crate::aside::work_beside;
+use crate::shared::Shared;
 use crate::worker::Works;
 use lasp_drive::{Driver, Halt, Node, advance, is_point};
 use lasp_fns::Library;
 use lasp_script::{Command, Script};
 use std::alloc::Global;
-use std::sync::atomic::AtomicBool;
 use std::thread::Threads;
 
 /// Whether a command changes what a node holds. A declaration is a point, and so no part of a stretch.
@@ -69,12 +69,12 @@ fn stretch_beside<N: Node, R: Threads, T: Sync, W: Works<T> + Send>(
     if !has_change(script, from) {
         return (workers, advance(driver, alloc, lib, script, from));
     }
-    let more = AtomicBool::new(true);
+    let shared = Shared::new(alloc, &driver.graph, script.nodes());
     work_beside(
         rt,
         workers,
         tools,
-        &more,
+        &shared,
         move || -> (Driver<N>, Result<u64, Halt>)
             requires { (from ≤ length script.now.commands) × MayGoOn (library_of lib.now) (from + 1) (seen N.view N.read driver) (drop from script.now.commands) }
             ensures { Advances N.view N.read N.place (library_of lib.entry.now) from script.entry.now.commands driver result.1 result.0 }

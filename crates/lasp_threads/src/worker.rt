@@ -3,12 +3,13 @@
 ghost use Rattle.std.specs.Prelude.{◌≡◌};
 ghost use Rattle.lasp_threads.specs.Spots.{spots_of};
 
+use crate::shared::Shared;
+use crate::turns::Turns;
 use lasp_fns::{Library, StepLib};
 use lasp_store::Seated;
 use lasp_workers::{Gate, Replicas, work};
 use std::alloc::Global;
 use std::sync::Wait;
-use std::sync::atomic::AtomicBool;
 
 /// What may work on a thread of its own, with tools that all workers share.
 pub(crate) trait Works<T>: Drop {
@@ -17,8 +18,8 @@ pub(crate) trait Works<T>: Drop {
 
     ghost place: { Self → Place };
 
-    /// Works until `more` is lowered and nothing is left to do.
-    fn work(&mut self, tools: &T, more: &AtomicBool)
+    /// Works until the stretch has ended and nothing is left to do.
+    fn work(&mut self, tools: &T, shared: &Shared)
         ensures { place self.new ≡ place self.old };
 }
 
@@ -40,8 +41,12 @@ impl<R: Wait, G: Gate> Works<Library> for Worker<'_, R, G> {
 
     ghost place = { λ w. spots_of w.replicas };
 
-    fn work(&mut self, lib: &Library, more: &AtomicBool) {
+    fn work(&mut self, lib: &Library, shared: &Shared) {
         let mut steps = StepLib::new(lib);
+        let turns = Turns {
+            gate: self.gate,
+            visits: &shared.visits,
+        };
         // what it leaves undone for want of memory the next point does
         let _ = work(
             self.rt,
@@ -49,8 +54,8 @@ impl<R: Wait, G: Gate> Works<Library> for Worker<'_, R, G> {
             self.number,
             &mut self.replicas,
             &mut steps,
-            self.gate,
-            more,
+            &turns,
+            &shared.more,
         );
     }
 }

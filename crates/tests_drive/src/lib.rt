@@ -2,4 +2,8 @@
 #![tactic(auto)]
 
 #[cfg(test)]
+mod call;
+#[cfg(test)]
 mod meeting;
+#[cfg(test)]
+mod turns;

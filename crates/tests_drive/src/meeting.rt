@@ -1,14 +1,10 @@
 //! That two workers are in their jobs at once, where the program runs a script by two.
 
-use lasp_edge::{MemFiles, MemSink};
-use lasp_program::answer_call;
+use crate::call::{Case, ended};
 use lasp_workers::Gate;
-use std::alloc::{AllocError, AllocGlobal, Global};
-use std::random::RandomSource;
-use std::sync::Wait;
 use std::sync::atomic::{AtomicBool, AtomicU32, Ordering};
 use std::test::Fail;
-use std::thread::{self, Threads};
+use std::thread;
 
 /// How often a worker in its job looks for another, at most.
 const MOST_LOOKS: u32 = 10_000_000;
@@ -34,17 +30,6 @@ impl Gate for Meeting {
         }
         self.inside.fetch_sub(1, Ordering::SeqCst);
     }
-}
-
-/// A call of the program by two workers.
-#[derive(Clone, Copy)]
-struct Case {
-    words: &'static str,
-    graph: &'static str,
-    script: &'static str,
-    /// All that it prints, or how that begins where results stand in it, which may come in any order.
-    printed: &'static str,
-    is_whole: bool,
 }
 
 /// Two sets and their union.
@@ -99,37 +84,6 @@ const CASES: [Case; 6] = [
         is_whole: true,
     },
 ];
-
-impl Case {
-    /// Whether this may be printed.
-    fn allows(&self, printed: &[u8]) -> bool {
-        if self.is_whole {
-            printed == self.printed.as_bytes()
-        } else {
-            printed.starts_with(self.printed.as_bytes())
-        }
-    }
-}
-
-/// The program's status and what it prints, where each of its workers passes this gate in its jobs.
-fn ended<R: Threads + Wait + RandomSource + AllocGlobal + Sync>(
-    rt: &R,
-    alloc: Global,
-    case: Case,
-    gate: &Meeting,
-) -> Result<(u8, Vec<u8>), AllocError> {
-    let mut files = MemFiles::new(alloc);
-    files.put_file("graph", case.graph.as_bytes())?;
-    files.put_file("script", case.script.as_bytes())?;
-    let mut words = Vec::new(alloc);
-    for word in case.words.split_whitespace() {
-        words.push(Vec::from_slice(alloc, word.as_bytes())?)?;
-    }
-    let mut out = MemSink::new(alloc, 1_000)?;
-    let mut err = MemSink::new(alloc, 1_000)?;
-    let status = answer_call(rt, alloc, &words, &mut files, &mut out, &mut err, gate)?;
-    Ok((status, Vec::from_slice(alloc, out.bytes())?))
-}
 
 #[test]
 fn two_workers_are_in_their_jobs_at_once(rt: HostRuntime) -> Result<(), Fail> {

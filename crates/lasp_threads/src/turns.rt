@@ -1,0 +1,143 @@
+//! Who is at which variable, so that no two workers do the same, nor what would have to be done again.
+
+use lasp_graph::Graph;
+use lasp_workers::Gate;
+use std::alloc::Global;
+use std::sync::atomic::{AtomicU64, Ordering};
+
+/// How many variables a node may have.
+const VARIABLES: u8 = 64;
+
+/// How often workers are kept out of a variable before one is let in beside who is there.
+const PATIENCE: u64 = 1024;
+
+/// Who is where. Threads share it.
+#[derive(Drop)]
+pub(crate) struct Visits {
+    /// Of each variable of each node, whether a worker is there: 0 where none is, else 1 and how often others asked since.
+    asked: Vec<AtomicU64>,
+    /// Of each variable of the graph, itself and those from which it follows, as bits.
+    above: Vec<u64>,
+}
+
+/// A gate around another one, which lets one worker at a time to a variable, and none while another is at a variable from which it follows: what comes of that would have to be taken in, too. Where a worker stays for long, the others wait no more. The gate within is asked by who has its turn. It changes when a job is done, and never what comes of it.
+#[derive(Drop)]
+pub(crate) struct Turns<'a, G> {
+    pub(crate) gate: &'a G,
+    pub(crate) visits: &'a Visits,
+}
+
+/// A variable as a bit.
+fn bit(var: u8) -> u64 {
+    1u64.wrapping_shl(u32::from(var))
+}
+
+/// The bits of a variable; of one that isn't there, its own.
+fn bits_at(above: &[u64], var: u8) -> u64 {
+    match above.get(usize::from(var)) {
+        Some(bits) => *bits,
+        None => bit(var),
+    }
+}
+
+/// Of each variable, itself and those from which it follows. Where memory is short, of the first ones.
+fn bits_above(alloc: Global, graph: &Graph) -> Vec<u64> {
+    let mut above = Vec::new(alloc);
+    for y in 0..graph.len() {
+        let bits = match graph.at(y).kind.inputs() {
+            Some((first, second)) => bits_at(&above, first) | bits_at(&above, second),
+            None => 0,
+        };
+        if above.push(bits | bit(y as u8)).is_err() {
+            return above;
+        }
+    }
+    above
+}
+
+impl Visits {
+    /// Nobody is anywhere. Where memory is short, nobody is kept out of the variables of the last nodes.
+    pub(crate) fn new(alloc: Global, graph: &Graph, nodes: u8) -> Visits {
+        let mut asked = Vec::new(alloc);
+        for _ in 0..usize::from(VARIABLES) * usize::from(nodes) {
+            if asked.push(AtomicU64::new(0)).is_err() {
+                break;
+            }
+        }
+        let above = bits_above(alloc, graph);
+        Visits { asked, above }
+    }
+
+    fn at(&self, node: u8, var: u8) -> Option<&AtomicU64> {
+        self.asked.get(usize::from(VARIABLES) * usize::from(node) + usize::from(var))
+    }
+
+    /// Whether a worker is at the variable, for whom there is patience still.
+    fn is_taken(&self, node: u8, var: u8) -> bool {
+        match self.at(node, var) {
+            Some(asked) => {
+                let many = asked.load(Ordering::SeqCst);
+                if 0 < many && many < PATIENCE {
+                    asked.fetch_add(1, Ordering::SeqCst);
+                }
+                0 < many && many < PATIENCE
+            }
+            None => false,
+        }
+    }
+
+    /// Whether a worker is at the variable, or at one from which it follows.
+    fn is_busy(&self, node: u8, var: u8) -> bool {
+        let above = bits_at(&self.above, var);
+        for x in 0..VARIABLES {
+            if above & bit(x) != 0 && self.is_taken(node, x) {
+                return true;
+            }
+        }
+        false
+    }
+
+    /// A worker goes to the variable, unless another was faster.
+    fn begin(&self, node: u8, var: u8) -> bool {
+        match self.at(node, var) {
+            Some(asked) => {
+                let many = asked.swap(1, Ordering::SeqCst);
+                many == 0 || PATIENCE <= many
+            }
+            None => true,
+        }
+    }
+
+    /// The worker at the variable is through.
+    fn end(&self, node: u8, var: u8) {
+        if let Some(asked) = self.at(node, var) {
+            asked.store(0, Ordering::SeqCst);
+        }
+    }
+}
+
+impl<G: Gate> Gate for Turns<'_, G> {
+    fn pass(&self, worker: u32, node: u8, var: u8) {
+        self.gate.pass(worker, node, var);
+    }
+
+    fn admits(&self, worker: u32, node: u8, var: u8) -> bool {
+        if self.visits.is_busy(node, var) || !self.visits.begin(node, var) {
+            return false;
+        }
+        let is_admitted = self.gate.admits(worker, node, var);
+        if !is_admitted {
+            self.visits.end(node, var);
+        }
+        is_admitted
+    }
+
+    fn leaves(&self, worker: u32, node: u8, var: u8) {
+        self.visits.end(node, var);
+        self.gate.leaves(worker, node, var);
+    }
+
+    fn keeps_out(&self, worker: u32, node: u8, var: u8) -> bool {
+        self.visits.is_busy(node, var) || self.gate.keeps_out(worker, node, var)
+    }
+}

@@ -1,0 +1,63 @@
+//! That workers take turns at a variable.
+
+use crate::call::{Case, ended};
+use lasp_workers::Gate;
+use std::sync::atomic::{AtomicBool, AtomicU32, Ordering};
+use std::test::Fail;
+use std::thread;
+
+/// For how many turns a worker stays in its job: long enough for others to come by, and much shorter than they wait.
+const STAY: u32 = 10;
+
+/// A gate that sees whether two workers are at the one derived variable at once.
+#[derive(Drop)]
+struct Turnstile {
+    inside: AtomicU32,
+    passed: AtomicU32,
+    is_crowded: AtomicBool,
+}
+
+impl Gate for Turnstile {
+    fn pass(&self, _worker: u32, _node: u8, _var: u8) {
+        self.passed.fetch_add(1, Ordering::SeqCst);
+        for _ in 0..STAY {
+            thread::yield_now();
+        }
+    }
+
+    fn admits(&self, _worker: u32, _node: u8, _var: u8) -> bool {
+        if self.inside.fetch_add(1, Ordering::SeqCst) > 0 {
+            self.is_crowded.store(true, Ordering::SeqCst);
+        }
+        true
+    }
+
+    fn leaves(&self, _worker: u32, _node: u8, _var: u8) {
+        self.inside.fetch_sub(1, Ordering::SeqCst);
+    }
+}
+
+/// Stretches of one addition each, behind which one variable of one node lags.
+const ADDS: Case = Case {
+    words: "run graph script 8",
+    graph: r#"[["a","orset"],["s","fold","a","sum","itself"]]"#,
+    script: r#"[["nodes",1],["add",0,"a",1],["settle"],["add",0,"a",2],["settle"],["add",0,"a",3],["settle"],["add",0,"a",4],["settle"],["add",0,"a",5],["print",0,"s"]]"#,
+    printed: "0 s 15\nknown 0 5\n",
+    is_whole: true,
+};
+
+#[test]
+fn one_worker_at_a_time_is_at_a_variable(rt: HostRuntime) -> Result<(), Fail> {
+    let gate = Turnstile {
+        inside: AtomicU32::new(0),
+        passed: AtomicU32::new(0),
+        is_crowded: AtomicBool::new(false),
+    };
+    let (status, printed) = ended(&rt, rt.alloc(), ADDS, &gate)?;
+    assert_eq!(rt; status, 0);
+    assert!(rt; ADDS.allows(printed.as_slice()));
+    assert!(rt; gate.passed.load(Ordering::SeqCst) > 0);
+    assert_eq!(rt; gate.inside.load(Ordering::SeqCst), 0);
+    assert_eq!(rt; gate.is_crowded.load(Ordering::SeqCst), false);
+    Ok(())
+}
