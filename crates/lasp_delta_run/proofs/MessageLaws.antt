@@ -37,7 +37,7 @@ use Rattle.lasp_delta_run.specs.Seen.{DeltaView, gossip_of, IsUnderWay}
 use Rattle.lasp_delta.specs.Answered.{HasCause}
 use Rattle.lasp_delta.specs.declared.refused.DeltaRefused.{DeltaRefused}
 use Rattle.lasp_delta.specs.declared.refused.DeltaRefused.TheVariants as refused
-use Rattle.lasp_delta_run.specs.Acts.{Did, BringsTheSame, StandsFor, has_gap, gap_of, Went}
+use Rattle.lasp_delta_run.specs.Acts.{Did, BringsTheSame, StandsFor, knows_too_little, refused_for_gap, Went}
 use Rattle.lasp_delta_run.proofs.GoLaws.{act-one, going-in, run-asked}
 use Rattle.std.proofs.lemmas.List.{length-map, take_more}
 use Rattle.std.proofs.lemmas.Option.{slice_get_read, get_or_from_slice_get}
@@ -162,12 +162,12 @@ brings-same c p i d both under_way member within present done e =
 
 -- ---- whether there was a gap
 
-pub no-gap-done : (d : DriverView) (p : ℕ) (delta : Delta) (mine both : Message) → mine ≡ message_in d p → applied mine delta ≡ Ok both → false ≡ has_gap d p delta
+pub no-gap-done : (d : DriverView) (p : ℕ) (delta : Delta) (mine both : Message) → mine ≡ message_in d p → applied mine delta ≡ Ok both → false ≡ knows_too_little d p delta
 no-gap-done d p delta mine both is e =
     let here : applied (message_in d p) delta ≡ Ok both = ap (λ (m : Message). applied m delta) (sym is) ∙ e in
     sym (ap (λ (o : Option Cause). is_some o) ((no-gap (peer_at (run_of d).peers p).counts delta.from).1 ((cause-done (message_in d p) both delta).0 here).0))
 
-pub gap-told : (d : DriverView) (p : ℕ) (delta : Delta) (mine : Message) (refused : DeltaRefused) (gap : Bool) → mine ≡ message_in d p → HasCause refused (applied mine delta) → gap_of refused ≡ Some gap → gap ≡ has_gap d p delta
+pub gap-told : (d : DriverView) (p : ℕ) (delta : Delta) (mine : Message) (refused : DeltaRefused) (gap : Bool) → mine ≡ message_in d p → HasCause refused (applied mine delta) → refused_for_gap refused ≡ Some gap → gap ≡ knows_too_little d p delta
 gap-told d p delta mine (refused.Gap q have need) gap is e told =
     let here : applied (message_in d p) delta ≡ Err (Gap q have need) = ap (λ (m : Message). applied m delta) (sym is) ∙ e in
     let yes : gap ≡ true = cc in
@@ -243,14 +243,14 @@ brings-asked c p i d e m asked h =
     }
 
 -- the gaps by what was told of one
-pub gaps-more : (d : DeltaView) (p i : ℕ) (gap : Bool) → gap ≡ has_gap d.driver p (delta_number (gossip_of d) i) → d.gaps + (if gap then 1 else 0) ≡ d.gaps + gap_at (gossip_of d) p i
+pub gaps-more : (d : DeltaView) (p i : ℕ) (gap : Bool) → gap ≡ knows_too_little d.driver p (delta_number (gossip_of d) i) → d.gaps + (if gap then 1 else 0) ≡ d.gaps + gap_at (gossip_of d) p i
 gaps-more d p i gap e = ap (λ (b : Bool). d.gaps + (if b then 1 else 0)) e
 
-pub went-taken : (c p i deliveries gaps : ℕ) (gap : Bool) (d : DeltaView) (e : DriverView) (delta : Delta) → IsUnderWay c d → Did c d.driver (Take p i ∷ []) e → delta_number (gossip_of d) i ≡ delta → gap ≡ has_gap d.driver p delta
+pub went-taken : (c p i deliveries gaps : ℕ) (gap : Bool) (d : DeltaView) (e : DriverView) (delta : Delta) → IsUnderWay c d → Did c d.driver (Take p i ∷ []) e → delta_number (gossip_of d) i ≡ delta → gap ≡ knows_too_little d.driver p delta
     → gaps ≡ d.gaps + (if gap then 1 else 0) → deliveries ≡ d.deliveries + 1 → Went c c d (Take p i ∷ []) (record { driver = e; last = d.last; deltas = d.deltas; deliveries = deliveries; gaps = gaps })
 went-taken c p i deliveries gaps gap d e delta under_way did is has more one =
     subst (λ (k : ℕ). Went c c d (Take p i ∷ []) (record { driver = e; last = d.last; deltas = d.deltas; deliveries = k; gaps = gaps })) (sym one)
-    (went-take c p i gaps d e under_way did (more ∙ gaps-more d p i gap (has ∙ ap (has_gap d.driver p) (sym is))))
+    (went-take c p i gaps d e under_way did (more ∙ gaps-more d p i gap (has ∙ ap (knows_too_little d.driver p) (sym is))))
 
 -- ---- what is read of a run
 

@@ -42,14 +42,14 @@ pub record StandsFor (d : DriverView) (p i : ℕ) (delta : Delta) : Type 0 where
   pub brings : (both : Message) → IsMessage (message_at d.graph (peer_at (run_of d).peers p)) → IsMessage both → applied (message_at d.graph (peer_at (run_of d).peers p)) delta ≡ Ok both → BringsTheSame d p i both
 
 -- whether node p knows too little for a delta
-abbrev pub has_gap : DriverView → ℕ → Delta → Bool
-has_gap d p delta = is_some (first_gap 0 (peer_at (run_of d).peers p).counts delta.from)
+abbrev pub knows_too_little : DriverView → ℕ → Delta → Bool
+knows_too_little d p delta = is_some (first_gap 0 (peer_at (run_of d).peers p).counts delta.from)
 
 -- whether a delta was refused for a gap; of want of memory nothing is told
-abbrev pub gap_of : DeltaRefused → Option Bool
-gap_of (refused.Gap q have need) = Some true
-gap_of (refused.TooManyRows x) = Some false
-gap_of refused.Memory = None
+abbrev pub refused_for_gap : DeltaRefused → Option Bool
+refused_for_gap (refused.Gap q have need) = Some true
+refused_for_gap (refused.TooManyRows x) = Some false
+refused_for_gap refused.Memory = None
 
 -- ---- with what travels
 

@@ -39,11 +39,11 @@ fn one_more(count: u64) -> Result<u64, AllocError>
     }
 }
 
-/// One more where there was a gap.
-fn with_gap(count: u64, gap: bool) -> Result<u64, AllocError>
-    ensures { IfOk result (λ more. more ≡ count + (if gap then 1 else 0)) }
+/// One more where something happened, else as many.
+fn one_more_if(count: u64, happened: bool) -> Result<u64, AllocError>
+    ensures { IfOk result (λ more. more ≡ count + (if happened then 1 else 0)) }
 {
-    if gap { one_more(count) } else { Ok(count) }
+    if happened { one_more(count) } else { Ok(count) }
 }
 
 impl<N: Node> DeltaRun<N> {
@@ -99,7 +99,7 @@ impl<N: Node> DeltaRun<N> {
             Ok(gap) => gap,
             Err(halt) => return Err(halt),
         };
-        let gaps = with_gap(self.gaps, gap)?;
+        let gaps = one_more_if(self.gaps, gap)?;
         self.deliveries = deliveries;
         self.gaps = gaps;
         Ok(())

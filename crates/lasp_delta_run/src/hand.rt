@@ -5,7 +5,7 @@ ghost use Rattle.std.specs.Arc.{arc_value};
 ghost use Rattle.model_world.specs.World.{Take, message_at, peer_at};
 ghost use Rattle.lasp_drive.specs.Driver.{seen, run_of};
 ghost use Rattle.lasp_drive.specs.Acts.{MayAct};
-ghost use Rattle.lasp_delta_run.specs.Acts.{Did, DoesSeen, BringsTheSame, StandsFor, has_gap, gap_of};
+ghost use Rattle.lasp_delta_run.specs.Acts.{Did, DoesSeen, BringsTheSame, StandsFor, knows_too_little, refused_for_gap};
 
 use lasp_delta::{Delta, DeltaRefused, apply};
 use lasp_drive::{Driver, Halt, Node, NodeStop};
@@ -54,8 +54,8 @@ pub(crate) fn hand<N: Node>(
 }
 
 /// Whether a delta was refused for a gap; nothing is told where memory was wanting.
-fn gap_of(refused: DeltaRefused) -> Option<bool>
-    ensures { result ≡ gap_of refused }
+fn refused_for_gap(refused: DeltaRefused) -> Option<bool>
+    ensures { result ≡ refused_for_gap refused }
 {
     match refused {
         DeltaRefused::Gap { .. } => Some(true),
@@ -78,7 +78,7 @@ pub(crate) fn bring<N: Node>(
     requires number { c ≤ 100000 }
     requires stands { StandsFor (seen N.view N.read driver.old) p i delta.now }
     ensures done { DoesSeen c (seen N.view N.read driver.old) (Take p i ∷ []) result (seen N.view N.read driver.new) }
-    ensures gap { IfOk result (λ gap. gap ≡ has_gap (seen N.view N.read driver.old) p delta.now) }
+    ensures gap { IfOk result (λ gap. gap ≡ knows_too_little (seen N.view N.read driver.old) p delta.now) }
 {
     let mine = message_of(driver, alloc, c, p, i)?;
     mine.recall();
@@ -91,7 +91,7 @@ pub(crate) fn bring<N: Node>(
                 Err(halt) => Err(halt),
             }
         }
-        Err(refused) => match gap_of(refused) {
+        Err(refused) => match refused_for_gap(refused) {
             Some(gap) => match driver.take(alloc, c, p, i) {
                 Ok(()) => Ok(gap),
                 Err(halt) => Err(halt),
