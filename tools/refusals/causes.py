@@ -4,7 +4,7 @@ A line stands here as there: of its words, those in capitals stand for what the 
 """
 LINES = {
     "usage": "The words have none of these forms: lasp plain GRAPH SCRIPT, lasp run GRAPH SCRIPT WORKERS with 1 to 16 workers, lasp check GRAPH, lasp export GRAPH SCRIPT NODE with NODE a digit from 0 to 7, "
-    "lasp merge GRAPH FILE .. with one to eight files, lasp dots SCRIPT, lasp trace GRAPH SCRIPT WORKERS, lasp load SEED COUNT WORKERS with a seed up to 2147483647 and 1 to 20000 updates, site GRAPH NODE STATE SCRIPT FILE .. with NODE a digit and at most eight files.",
+    "lasp merge GRAPH FILE .. with one to eight files, lasp delta GRAPH SCRIPT, lasp dots SCRIPT, lasp trace GRAPH SCRIPT WORKERS, lasp load SEED COUNT WORKERS with a seed up to 2147483647 and 1 to 20000 updates, site GRAPH NODE STATE SCRIPT FILE .. with NODE a digit and at most eight files.",
     "graph NUMBER CAUSE": "The graph is refused.",
     "script NUMBER CAUSE": "The script is refused.",
     "read fault FILE": "The file couldn't be read: it isn't there, is a folder, or isn't for you to read.",

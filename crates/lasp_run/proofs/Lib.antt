@@ -6,3 +6,4 @@ pub mod OpenLaws
 pub mod PartLaws
 pub mod TextLaws
 pub mod DotLaws
+pub mod DeltaLaws

@@ -23,7 +23,7 @@ pub use Rattle.model_program.specs.Follows.{Follows, Gives, Performs}
 pub use Rattle.model_program.specs.Line.{graph_why_text, line_of, refusal_status, refusal_words, script_why_text, state_why_text, status_of, wire_why_text}
 pub use Rattle.model_program.specs.Merge.{counts_line, file_joined, may_take, merge_answer, merge_text, merging_file, merging_files, merging_more, message_joined, state_refused, value_lines}
 pub use Rattle.model_program.specs.Plan.{Says, exactly, reading, word_at}
-pub use Rattle.model_program.specs.Program.{IsUsageForm, checking, dots_scripting, export_answer, export_form, exporting, form, graph_refused, load_form, merging, node_word, number_in, opening, plan, run_answer, running, running_dots, script_refused, scripting, spelled_in, threaded_form, with_workers, workers_word}
+pub use Rattle.model_program.specs.Program.{IsUsageForm, checking, delta_answer, dots_scripting, export_answer, export_form, exporting, form, graph_refused, load_form, merging, node_word, number_in, opening, plan, run_answer, running, running_deltas, running_dots, script_refused, scripting, spelled_in, threaded_form, with_workers, workers_word}
 pub use Rattle.model_program.specs.declared.threaded.Threaded.TheVariants.{Live, Load, Run, Trace}
 pub use Rattle.model_scripts.specs.Progress.{grown, grown_by}
 pub use Rattle.model_scripts.specs.Script.{script_of}

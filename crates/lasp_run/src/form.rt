@@ -100,6 +100,7 @@ fn threaded_form(words: &[String]) -> Form
 pub fn read_form(words: &[String]) -> Form
     ensures exact { result ≡ form (words_of words.now) }
     ensures plain { result ≡ Form.Plain → 2 < length words.now }
+    ensures delta { result ≡ Form.Delta → 2 < length words.now }
     ensures check { result ≡ Form.Check → 1 < length words.now }
     ensures dots { result ≡ Form.Dots → 1 < length words.now }
     ensures export { (node : ℕ) → result ≡ Form.Export node → 2 < length words.now }
@@ -123,6 +124,9 @@ pub fn read_form(words: &[String]) -> Form
     }
     if words.len() == 4 {
         return threaded_form(words);
+    }
+    if words.len() == 3 && words[0].as_str() == "delta" {
+        return Form::Delta;
     }
     Form::Wrong
 }

@@ -2,6 +2,7 @@
 #![tactic(auto)]
 
 mod check;
+mod deltas;
 mod dots;
 mod form;
 mod merge;

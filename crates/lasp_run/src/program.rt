@@ -4,6 +4,7 @@ ghost use Rattle.std.specs.Prelude.{◌≡◌};
 ghost use Rattle.lasp_run.specs.Prelude.{AreUnchanged, AreLater, seen, reading_of, writing_of, IsAnswered, Follows, form, plan, IsUsageForm, library_of, words_of, answered};
 
 use crate::check::run_check;
+use crate::deltas::run_deltas;
 use crate::dots::answer_dots;
 use crate::form::read_form;
 use crate::merge::run_merge;
@@ -29,6 +30,7 @@ fn answer<F: Files>(
 {
     match read_form(words) {
         Form::Plain => run_plain::<CoreNode, F>(alloc, words, files, lib),
+        Form::Delta => run_deltas::<CoreNode, F>(alloc, words, files, lib),
         Form::Check => run_check(alloc, words, files, lib),
         Form::Dots => answer_dots(alloc, words, files, lib),
         Form::Export(node) => run_export::<CoreNode, F>(alloc, words, node, files, lib),
@@ -38,7 +40,8 @@ fn answer<F: Files>(
     }
 }
 
-/// The program on one thread. `plain GRAPH SCRIPT` reads both files, runs the script and writes its report to `out`. `export GRAPH SCRIPT NODE` does the same,
+/// The program on one thread. `plain GRAPH SCRIPT` reads both files, runs the script and writes its report to `out`. `delta GRAPH SCRIPT` does the same with messages that travel as deltas,
+/// and writes behind the report how they did. `export GRAPH SCRIPT NODE` does as `plain`,
 /// but writes what the node would send at the end. `merge GRAPH FILE ..` reads the graph and 1 to 8 such files, and writes what its variables show of all of them.
 /// `check GRAPH` reads the graph alone and writes `NAME KIND WIDTH` for each of its variables. `dots SCRIPT` reads the script alone, runs it on replicas of one set without tombstones,
 /// and writes the report and how many pairs each keeps. The functions that a graph names are the library's.

@@ -28,6 +28,7 @@ fn threaded_of(form: Form) -> Option<Threaded>
     match form {
         Form::Threaded(threaded) => Some(threaded),
         Form::Plain => None,
+        Form::Delta => None,
         Form::Check => None,
         Form::Dots => None,
         Form::Export(_) => None,

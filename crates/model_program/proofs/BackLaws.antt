@@ -25,14 +25,16 @@ use Rattle.model_dot_worlds.specs.DotWorld.{one_set}
 use Rattle.model_dot_worlds.specs.Words.{first_other}
 use Rattle.model_dot_worlds.proofs.WordLaws.{other-told, none-known}
 use Rattle.model_program.specs.Dots.{dots_answer}
-use Rattle.model_program.specs.Cause.{IsGraphRefused, graph_long, graph_bad, IsScriptRefused, script_long, script_bad, IsFileRefused, file_long, no_message, wrong_graph, source_large, dots_long, dots_bad, ReadsGraph, HasCause, usage, graph_refused, script_refused, run_stopped, reported, checked as checked_so, dots_refused, other_word, dots_done, export_refused, no_such_node, export_stopped, exported, file_refused, variable_too_large, merged}
+use Rattle.model_program.specs.Cause.{IsGraphRefused, graph_long, graph_bad, IsScriptRefused, script_long, script_bad, IsFileRefused, file_long, no_message, wrong_graph, source_large, dots_long, dots_bad, ReadsGraph, HasCause, usage, graph_refused, script_refused, run_stopped, reported, checked as checked_so, dots_refused, other_word, dots_done, export_refused, no_such_node, export_stopped, exported, file_refused, variable_too_large, merged, delta_refused, delta_stopped, delta_done}
 use Rattle.model_program.specs.Check.{check_text}
 use Rattle.model_program.specs.Merge.{file_at, may_take, replica_before, merge_text, merging_files, joined}
 use Rattle.model_program.specs.Plan.{Exactly, Answer, Plan, Says, exactly, checked, within, reading, word_at, file_limit, told_answer}
-use Rattle.model_program.specs.Program.{form, plan, IsUsageForm, plan_of, opening, scripting, running_script, exporting_script, run_answer, export_answer, exported_bytes, stopped, graph_refused as refused_graph, script_refused as refused_script}
+use Rattle.model_program.specs.Program.{form, plan, IsUsageForm, plan_of, opening, scripting, running_script, exporting_script, run_answer, export_answer, exported_bytes, stopped, graph_refused as refused_graph, script_refused as refused_script, told_deltas, delta_answer, delta_script}
+use Rattle.model_delta_runs.specs.Gossip.{Gossip, gossiped, gossip_output}
+use Rattle.model_delta_runs.proofs.RunLaws.{gossip-stops}
 use Rattle.model_program.specs.Told.{IsFileTold, IsGraphTold, IsScriptTold, IsDotsTold, IsOfGraph, IsOfNodes, IsJoined, AreJoined, none, more}
 use Rattle.model_program.specs.declared.form.Form.{Form}
-use Rattle.model_program.specs.declared.form.Form.TheVariants.{Plain, Check, Dots, Export, Merge, Threaded, Wrong}
+use Rattle.model_program.specs.declared.form.Form.TheVariants.{Plain, Delta, Check, Dots, Export, Merge, Threaded, Wrong}
 use Rattle.model_program.specs.declared.refusal.Refusal.{Refusal}
 use Rattle.model_program.specs.declared.refusal.Refusal.TheVariants as refusal
 use Rattle.model_program.proofs.CauseLaws.{told-answer}
@@ -123,6 +125,21 @@ module _ (lib : Library) (content : List ℕ → Option (List ℕ)) (words : Lis
   plain-found a is e (graph_is_refused {x = x} h) = (Err x, graph_refused (subst ReadsGraph (sym is) tt) h)
   plain-found a is e (graph_is_read g graph) =
       plain-script g is graph (script-seen g (λ s. Says (exactly (run_answer report_of g s))) a (sym (opening-read lib content words (λ h. running_script lib report_of h) g graph) ∙ e))
+
+  -- ---- `delta`
+
+  delta-run : (g : List Decl) (s : Script) → form words ≡ Delta → IsGraphTold lib content words g → IsScriptTold lib content words g s → (r : Result Gossip Stop) → gossiped g s ≡ r → Found
+  delta-run g s is graph script (Ok run) e = (Ok (Exactly (gossip_output run)), delta_done is graph script e)
+  delta-run g s is graph script (Err halt) e = (Err (stopped (grown g s.commands) halt), delta_stopped is graph script ((gossip-stops g s halt).0 e))
+
+  delta-told : (g : List Decl) → form words ≡ Delta → IsGraphTold lib content words g → ScriptSeen g → Found
+  delta-told g is graph (script_is_refused {x = x} h) = (Err x, delta_refused is graph h)
+  delta-told g is graph (script_is_read s script) = delta-run g s is graph script (gossiped g s) refl
+
+  delta-found : (a : Answer) → form words ≡ Delta → told (plan_of lib words Delta) ≡ Some a → GraphSeen → Found
+  delta-found a is e (graph_is_refused {x = x} h) = (Err x, graph_refused (subst ReadsGraph (sym is) tt) h)
+  delta-found a is e (graph_is_read g graph) =
+      delta-told g is graph (script-seen g (λ s. Says (exactly (delta_answer g s))) a (sym (opening-read lib content words (λ h. delta_script lib h) g graph) ∙ e))
 
   -- ---- `check`
 
@@ -232,6 +249,7 @@ module _ (lib : Library) (content : List ℕ → Option (List ℕ)) (words : Lis
 
   found : (f : Form) (a : Answer) → form words ≡ f → told (plan_of lib words f) ≡ Some a → Found
   found Plain a is e = plain-found a is e (graph-seen (λ g. running_script lib report_of g) a e)
+  found Delta a is e = delta-found a is e (graph-seen (λ g. delta_script lib g) a e)
   found Check a is e = check-found is (graph-seen (λ g. Says (exactly (Ok (check_text g)))) a e)
   found Dots a is e = dots-found a is e
   found (Export node) a is e = export-found node a is e (graph-seen (λ g. exporting_script lib node g) a e)
@@ -248,6 +266,7 @@ module _ (lib : Library) (content : List ℕ → Option (List ℕ)) (words : Lis
   -- where the words name a graph first, their plan begins with it
   graph-first : (f : Form) (x : Refusal) → ReadsGraph f → IsGraphRefused lib content words x → told (plan_of lib words f) ≡ Some (Err x)
   graph-first Plain x right h = graph-told (λ g. running_script lib report_of g) x h
+  graph-first Delta x right h = graph-told (λ g. delta_script lib g) x h
   graph-first Check x right h = graph-told (λ g. Says (exactly (Ok (check_text g)))) x h
   graph-first (Export node) x right h = graph-told (λ g. exporting_script lib node g) x h
   graph-first Merge x right h = graph-told (λ g. merging_files g (length words - 3)) x h
@@ -258,6 +277,7 @@ module _ (lib : Library) (content : List ℕ → Option (List ℕ)) (words : Lis
   -- words that one thread answers with usage
   usage-first : (f : Form) → IsUsageForm f → told (plan_of lib words f) ≡ Some (Err refusal.Usage)
   usage-first Plain is = absurd is
+  usage-first Delta is = absurd is
   usage-first Check is = absurd is
   usage-first Dots is = absurd is
   usage-first (Export node) is = absurd is
@@ -299,6 +319,11 @@ module _ (lib : Library) (content : List ℕ → Option (List ℕ)) (words : Lis
       told-form lib content words Plain is ∙ to-answer lib content words g (run_answer report_of) s (ended_answer report_of g s (Err halt)) graph script (run-ends report_of g s (Err halt) e)
   cause-told _ (reported {g = g} {s = s} {run = run} is graph script e) =
       told-form lib content words Plain is ∙ to-answer lib content words g (run_answer report_of) s (ended_answer report_of g s (Ok run)) graph script (run-ends report_of g s (Ok run) e)
+  cause-told _ (delta_refused {g = g} {x = x} is graph h) = to-run Delta g delta_answer is refl graph ∙ script-told g (λ s. Says (exactly (delta_answer g s))) x h
+  cause-told _ (delta_stopped {g = g} {s = s} {halt = halt} is graph script e) =
+      told-form lib content words Delta is ∙ to-answer lib content words g delta_answer s (told_deltas g s (Err halt)) graph script (ap (told_deltas g s) ((gossip-stops g s halt).1 e))
+  cause-told _ (delta_done {g = g} {s = s} {run = run} is graph script e) =
+      told-form lib content words Delta is ∙ to-answer lib content words g delta_answer s (told_deltas g s (Ok run)) graph script (ap (told_deltas g s) e)
   cause-told _ (checked_so {g = g} is graph) =
       told-form lib content words Check is
       ∙ opening-read lib content words (λ h. Says (exactly (Ok (check_text h)))) g graph

@@ -9,9 +9,9 @@ use Rattle.std.proofs.lemmas.Slice.Eq.{bytes_eq-Decides}
 use Rattle.model_program.specs.Plan.{word_at}
 use Rattle.model_program.specs.Program.{node_word, export_form, workers_word, with_workers, number_in, load_form, threaded_form, form}
 use Rattle.model_program.proofs.NumberLaws.{number-decimal, number-spelled}
-use Rattle.model_program.specs.Listed.{AreWorkers, IsListed, plain, check, dots, export, merge, run, trace, live, load}
+use Rattle.model_program.specs.Listed.{AreWorkers, IsListed, plain, delta, check, dots, export, merge, run, trace, live, load}
 use Rattle.model_program.specs.declared.form.Form.{Form}
-use Rattle.model_program.specs.declared.form.Form.TheVariants.{Plain, Check, Dots, Export, Merge, Threaded, Wrong}
+use Rattle.model_program.specs.declared.form.Form.TheVariants.{Plain, Delta, Check, Dots, Export, Merge, Threaded, Wrong}
 use Rattle.model_program.specs.declared.threaded.Threaded as threads
 use Rattle.model_program.specs.declared.threaded.Threaded.TheVariants.{Run, Trace, Live, Load}
 
@@ -50,9 +50,12 @@ word-true word text h = (bytes_eq-Decides word text).0 h
 abbrev chosen : Bool → Bool → Bool → Bool → Option ℕ → Bool → Form → Form
 chosen a b e c node d rest = if a then Plain else if b then Check else if e then Dots else if c then export_form node else if d then Merge else rest
 
+abbrev is_delta : List (List ℕ) → Bool
+is_delta words = length words == 3 && bytes_eq (word_at words 0) (codes "delta")
+
 -- the form of other words
 abbrev rest_form : List (List ℕ) → Form
-rest_form words = if length words == 4 then threaded_form words else Wrong
+rest_form words = if length words == 4 then threaded_form words else if is_delta words then Delta else Wrong
 
 abbrev is_plain : List (List ℕ) → Bool
 is_plain words = length words == 3 && bytes_eq (word_at words 0) (codes "plain")
@@ -79,6 +82,13 @@ plain-listed (a ∷ []) h = absurd cc
 plain-listed (a ∷ b ∷ []) h = absurd cc
 plain-listed (a ∷ b ∷ c ∷ []) h = subst (λ (w : List ℕ). IsListed (w ∷ b ∷ c ∷ []) Plain) (sym (word-true a (codes "plain") h)) plain
 plain-listed (a ∷ b ∷ c ∷ d ∷ rest) h = absurd (omega (arith, (Decides-eqb (length (a ∷ b ∷ c ∷ d ∷ rest)) 3).0 (and_parts _ _ h).0))
+
+delta-listed : (words : List (List ℕ)) → is_delta words ≡ true → IsListed words Delta
+delta-listed [] h = absurd cc
+delta-listed (a ∷ []) h = absurd cc
+delta-listed (a ∷ b ∷ []) h = absurd cc
+delta-listed (a ∷ b ∷ c ∷ []) h = subst (λ (w : List ℕ). IsListed (w ∷ b ∷ c ∷ []) Delta) (sym (word-true a (codes "delta") h)) delta
+delta-listed (a ∷ b ∷ c ∷ d ∷ rest) h = absurd (omega (arith, (Decides-eqb (length (a ∷ b ∷ c ∷ d ∷ rest)) 3).0 (and_parts _ _ h).0))
 
 check-listed : (words : List (List ℕ)) → is_check words ≡ true → IsListed words Check
 check-listed [] h = absurd cc
@@ -165,15 +175,19 @@ answer-threaded : (a b c d : List ℕ) → FormAnswer (a ∷ b ∷ c ∷ d ∷ [
 unfolding threaded_form
 answer-threaded a b c d = answer-picked a b c d (bytes_eq a (codes "run")) (bytes_eq a (codes "trace")) (bytes_eq a (codes "live")) (bytes_eq a (codes "load")) refl refl refl refl
 
-answer-more : (words : List (List ℕ)) (four : Bool) → (length words == 4) ≡ four → 5 ≤ length words → FormAnswer words (if four then threaded_form words else Wrong)
+answer-delta : (words : List (List ℕ)) (d : Bool) → is_delta words ≡ d → FormAnswer words (if d then Delta else Wrong)
+answer-delta words true e = listed (delta-listed words e)
+answer-delta words false e = none
+
+answer-more : (words : List (List ℕ)) (four : Bool) → (length words == 4) ≡ four → 5 ≤ length words → FormAnswer words (if four then threaded_form words else if is_delta words then Delta else Wrong)
 answer-more words true e many = absurd (omega (arith, (Decides-eqb (length words) 4).0 e, many))
-answer-more words false e many = none
+answer-more words false e many = answer-delta words (is_delta words) refl
 
 answer-rest : (words : List (List ℕ)) → FormAnswer words (rest_form words)
 answer-rest [] = none
 answer-rest (a ∷ []) = none
 answer-rest (a ∷ b ∷ []) = none
-answer-rest (a ∷ b ∷ c ∷ []) = none
+answer-rest (a ∷ b ∷ c ∷ []) = answer-delta (a ∷ b ∷ c ∷ []) (is_delta (a ∷ b ∷ c ∷ [])) refl
 answer-rest (a ∷ b ∷ c ∷ d ∷ []) = answer-threaded a b c d
 answer-rest (a ∷ b ∷ c ∷ d ∷ f ∷ rest) = answer-more (a ∷ b ∷ c ∷ d ∷ f ∷ rest) (length (a ∷ b ∷ c ∷ d ∷ f ∷ rest) == 4) refl (omega arith)
 
@@ -222,6 +236,7 @@ merge-form graph files some few =
 pub listed-form : (words : List (List ℕ)) (f : Form) → IsListed words f → form words ≡ f
 unfolding form threaded_form
 listed-form words f plain = refl
+listed-form words f delta = refl
 listed-form words f check = refl
 listed-form words f dots = refl
 listed-form words f (export {node = node} few) = ap export_form (node-decimal node few)
@@ -236,6 +251,7 @@ listed-form words f (load {seed = seed} {count = count} {workers = workers} smal
 
 not-wrong : (words : List (List ℕ)) (f : Form) → IsListed words f → f ≡ Wrong → ⊥
 not-wrong words f plain e = absurd cc
+not-wrong words f delta e = absurd cc
 not-wrong words f check e = absurd cc
 not-wrong words f dots e = absurd cc
 not-wrong words f (export few) e = absurd cc

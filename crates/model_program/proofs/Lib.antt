@@ -18,5 +18,6 @@ pub mod BackLaws
 mod StatusLaws
 mod AlikeLaws
 mod DotCauses
+mod DeltaTextLaws
 mod DotTextLaws
 pub mod TopLaws

@@ -12,7 +12,7 @@ use Rattle.model_wire.specs.declared.wire_why.WireWhy.{WireWhy}
 use Rattle.model_world.specs.World.{Peer, delivered}
 use Rattle.model_program.specs.Plan.{Answer, Plan, Says, exactly, told_answer, word_at, file_limit, checked}
 use Rattle.model_program.specs.Merge.{file_at, state_refused, large_refused, may_take, replica_before, message_joined, file_joined, merge_answer, merge_text, merging_more, merging_files, nodes_in, joined}
-use Rattle.model_program.specs.Listed.{IsListed, plain, check as a_check, dots, export, merge, run, trace, live, load}
+use Rattle.model_program.specs.Listed.{IsListed, plain, delta, check as a_check, dots, export, merge, run, trace, live, load}
 use Rattle.model_program.specs.Program.{form}
 use Rattle.model_program.specs.declared.form.Form.{Form}
 use Rattle.model_program.specs.declared.form.Form.TheVariants as form_of
@@ -157,6 +157,7 @@ shown-answer g files r large e = ap (after_shown g files r) e
 listed-many : (words : List (List ℕ)) (f : Form) → IsListed words f → f ≡ form_of.Merge → 3 ≤ length words
 listed-many words f plain e = absurd cc
 listed-many words f a_check e = absurd cc
+listed-many words f delta e = absurd cc
 listed-many words f dots e = absurd cc
 listed-many words f (export few) e = absurd cc
 listed-many words f (merge some few) e = omega (arith, some)

@@ -11,6 +11,7 @@ use Rattle.model_program.proofs.AlikeLaws.{known-places, alike-places}
 use Rattle.model_program.proofs.AnswerLaws.{follows-told, refused-ends, written-ends, complete-ends, quiet-ends}
 use Rattle.model_program.proofs.BackLaws.{told-cause}
 use Rattle.model_program.proofs.DirectLaws.{direct-ends}
+use Rattle.model_program.proofs.DeltaTextLaws.{deltas-write}
 use Rattle.model_program.proofs.DotTextLaws.{dots-writes}
 
 -- a call that followed a plan and ended by its answer
@@ -38,6 +39,7 @@ call-answered lib words files answer out err status same later unread follows ou
   direct = λ g script tells done. direct-ends lib words (view_of files) g script answer out err status tells follows ends done;
   known = λ g script tells done. known-places g script;
   alike = λ g script tells done. alike-places g script;
+  deltas = λ g script tells done. deltas-write lib words (view_of files) g script answer out err status tells follows ends done;
   dots = λ script run tells is done. dots-writes lib words (view_of files) script run answer out err status tells (inl is) follows ends done;
   dots_unlimited = λ script run tells is done. dots-writes lib words (view_of files) script run answer out err status tells (inr is) follows ends done;
   unread = unread;

@@ -10,7 +10,7 @@ use Rattle.model_readings.specs.declared.graph_why.GraphWhy.{GraphWhy}
 use Rattle.model_scripts.specs.declared.script_why.ScriptWhy.{ScriptWhy}
 use Rattle.model_scripts.specs.Progress.{grown}
 use Rattle.model_program.specs.Call.{Reading, view_of, DecidesBy, Writes, Begins, IsLacking, IsPlanned}
-use Rattle.model_program.specs.Cause.{IsGraphRefused, graph_long, graph_bad, IsScriptRefused, script_long, script_bad, IsFileRefused, file_long, no_message, wrong_graph, source_large, IsDotsRefused, dots_long, dots_bad, HasCause, usage, graph_refused, script_refused, run_stopped, reported, checked, dots_refused, other_word, dots_done, export_refused, no_such_node, export_stopped, exported, file_refused, variable_too_large, merged}
+use Rattle.model_program.specs.Cause.{IsGraphRefused, graph_long, graph_bad, IsScriptRefused, script_long, script_bad, IsFileRefused, file_long, no_message, wrong_graph, source_large, IsDotsRefused, dots_long, dots_bad, HasCause, usage, graph_refused, script_refused, run_stopped, reported, checked, dots_refused, other_word, dots_done, export_refused, no_such_node, export_stopped, exported, file_refused, variable_too_large, merged, delta_refused, delta_stopped, delta_done}
 use Rattle.model_program.specs.Ends.{Writing, MeetsFault}
 use Rattle.model_program.specs.Line.{refusal_status}
 use Rattle.model_program.specs.Plan.{Text, Answer, Plan}
@@ -51,6 +51,9 @@ usage-form lib content words _ (graph_refused {x = x} right h) e = absurd (graph
 usage-form lib content words _ (script_refused {g = g} {x = x} is graph h) e = absurd (script-other lib content words g x h (err-same x refusal.Usage e))
 usage-form lib content words _ (run_stopped {g = g} {s = s} {halt = halt} is graph script ends) e = absurd (stop-other (grown g s.commands) halt (err-same (stopped (grown g s.commands) halt) refusal.Usage e))
 usage-form lib content words _ (reported is graph script ends) e = absurd cc
+usage-form lib content words _ (delta_refused {g = g} {x = x} is graph h) e = absurd (script-other lib content words g x h (err-same x refusal.Usage e))
+usage-form lib content words _ (delta_stopped {g = g} {s = s} {halt = halt} is graph script ends) e = absurd (stop-other (grown g s.commands) halt (err-same (stopped (grown g s.commands) halt) refusal.Usage e))
+usage-form lib content words _ (delta_done is graph script ends) e = absurd cc
 usage-form lib content words _ (checked is graph) e = absurd cc
 usage-form lib content words _ (dots_refused {x = x} is h) e = absurd (dots-other lib content words x h (err-same x refusal.Usage e))
 usage-form lib content words _ (other_word is script first) e = absurd cc

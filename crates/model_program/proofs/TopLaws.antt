@@ -18,10 +18,9 @@ use Rattle.model_scripts.proofs.Reached.{accepted-script_of}
 use Rattle.model_trace.specs.Traced.{AreTraced, IsTrace, trace_lines}
 use Rattle.model_values.specs.Told.{Appends}
 use Rattle.model_world.specs.Command.{Script}
-use Rattle.model_world.specs.Report.{report_of}
 use Rattle.model_world.specs.World.{Run, ended}
 use Rattle.model_world.specs.declared.stop.Stop.{Stop}
-use Rattle.model_program.specs.Call.{AreUnchanged, AreLater, IsLater, Reading, view_of, DecidesBy}
+use Rattle.model_program.specs.Call.{AreUnchanged, AreLater, IsLater, Reading, view_of}
 use Rattle.model_program.specs.Ends.{Writing, Ends, Settles}
 use Rattle.model_program.specs.Follows.{View, AllowsText, Follows}
 use Rattle.model_program.specs.Plan.{Answer, Says, exactly, told_answer}
@@ -30,7 +29,6 @@ use Rattle.model_program.specs.Told.{IsGraphTold, IsScriptTold}
 use Rattle.model_program.specs.Program.{graph_refused, script_refused, stopped, run_answer}
 use Rattle.model_program.specs.Top.{HasTraceCause, graph_refused as trace_graph_refused, script_refused as trace_script_refused, run_stopped as trace_stopped, traced, IsTraceAnswered, HasLoadCause, graph_refused as load_graph_refused, script_refused as load_script_refused, run_stopped as load_stopped, loaded, IsLoadAnswered}
 use Rattle.model_program.specs.declared.refusal.Refusal.{Refusal}
-use Rattle.model_program.specs.declared.refusal.Refusal.TheVariants as refusal
 use Rattle.model_program.specs.declared.failure.Failure.{Failure}
 use Rattle.model_program.proofs.AlikeLaws.{known-places, alike-places}
 use Rattle.model_program.proofs.AnswerLaws.{follows-told}

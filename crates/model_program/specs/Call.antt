@@ -11,6 +11,7 @@ use Rattle.model_world.specs.Report.{report_of}
 use Rattle.model_dot_worlds.specs.DotReport.{live_lines}
 use Rattle.model_dot_worlds.specs.DotWorld.{one_set}
 use Rattle.model_dot_worlds.specs.Unlimited.{unlimited}
+use Rattle.model_delta_runs.specs.Gossip.{Gossip, gossiped, delta_line}
 use Rattle.model_known.specs.Direct.{direct_report}
 use Rattle.model_program.specs.Cause.{HasCause}
 use Rattle.model_program.specs.Ends.{Writing, writing, Tells, Ends, NoFault, MeetsFault}
@@ -19,7 +20,7 @@ use Rattle.model_program.specs.Line.{status_of, line_of}
 use Rattle.model_program.specs.Plan.{Text, IsText, Answer, Plan, told_answer}
 use Rattle.model_program.specs.Places.{AreKnown, AreAlike}
 use Rattle.model_program.specs.Program.{form, plan, IsUsageForm}
-use Rattle.model_program.specs.Told.{TellsRun, TellsDots}
+use Rattle.model_program.specs.Told.{TellsRun, TellsDeltas, TellsDots}
 use Rattle.model_program.specs.declared.failure.Failure.{Failure}
 use Rattle.model_program.specs.declared.failure.Failure.TheVariants.{Refused}
 use Rattle.model_program.specs.declared.refusal.Refusal.{Refusal}
@@ -130,6 +131,9 @@ pub record IsAnswered {N : Type 0} (lib : Library) (words : List (List ℕ)) (fi
   -- of such a run: at each place each node has what is known by its counts, so nodes with equal counts, at one place or two with the same graph, have equal sources, show the same and print the same
   pub known : (g : List Decl) (script : Script) → TellsRun lib (files.content files.before) words g script → status ≡ 0 → AreKnown g script
   pub alike : (g : List Decl) (script : Script) → TellsRun lib (files.content files.before) words g script → status ≡ 0 → AreAlike g script
+  -- where the contents of both files are told, `delta` writes the report of the run, and behind it how its messages travelled
+  pub deltas : (g : List Decl) (script : Script) → TellsDeltas lib (files.content files.before) words g script → status ≡ 0
+      → (s : Gossip) × (gossiped g script ≡ Ok s) × (ended g script ≡ Ok s.run) × Appends out.before (report_of s.run ++ delta_line s) out.after
   -- where the contents of the script are told, `dots` writes the report of its run over one set, and how many live rows each node's set has: of the run that comes to its end, and of any as if no limit stopped it
   pub dots : (script : Script) (run : Run) → TellsDots lib (files.content files.before) words script → ended one_set script ≡ Ok run → status ≡ 0 → Appends out.before (report_of run ++ live_lines 0 run.peers) out.after
   pub dots_unlimited : (script : Script) (run : Run) → TellsDots lib (files.content files.before) words script → run ≡ unlimited (start one_set script.nodes) script.commands → status ≡ 0

@@ -6,6 +6,7 @@ use Rattle.model_graph.specs.Graph.{Decl, name_at}
 use Rattle.model_messages.specs.Message.{Message}
 use Rattle.model_world.specs.Command.{Script}
 use Rattle.model_world.specs.Report.{report_of}
+use Rattle.model_delta_runs.specs.Gossip.{Gossip, gossiped, gossip_output}
 use Rattle.model_world.specs.World.{Run, ended}
 use Rattle.model_world.specs.declared.stop.Stop.{Stop}
 use Rattle.model_readings.specs.Graph.{graph_of}
@@ -25,7 +26,7 @@ use Rattle.model_dot_worlds.specs.Words.{IsFirstOther}
 use Rattle.model_program.specs.Program.{form, stopped, exported_bytes, IsUsageForm}
 use Rattle.model_program.specs.Told.{IsFileTold, IsGraphTold, IsScriptTold, IsDotsTold, IsOfGraph, IsOfNodes, AreJoined}
 use Rattle.model_program.specs.declared.form.Form.{Form}
-use Rattle.model_program.specs.declared.form.Form.TheVariants.{Plain, Check, Dots, Export, Merge, Threaded, Wrong}
+use Rattle.model_program.specs.declared.form.Form.TheVariants.{Plain, Delta, Check, Dots, Export, Merge, Threaded, Wrong}
 use Rattle.model_program.specs.declared.refusal.Refusal.{Refusal}
 use Rattle.model_program.specs.declared.refusal.Refusal.TheVariants as refusal
 use Rattle.model_program.specs.declared.state_why.StateWhy.TheVariants.{Wire, WrongGraph}
@@ -58,6 +59,7 @@ pub data IsFileRefused (content : List ℕ → Option (List ℕ)) (words : List 
 -- words of this form name a graph's file first
 abbrev pub ReadsGraph : Form → Type 0
 ReadsGraph Plain = Unit {0}
+ReadsGraph Delta = Unit {0}
 ReadsGraph Check = Unit {0}
 ReadsGraph (Export node) = Unit {0}
 ReadsGraph Merge = Unit {0}
@@ -75,6 +77,12 @@ pub data HasCause (lib : Library) (content : List ℕ → Option (List ℕ)) (wo
       → HasCause lib content words (Err (stopped (grown g s.commands) halt))
   reported : {g : List Decl} {s : Script} {run : Run} → form words ≡ Plain → IsGraphTold lib content words g → IsScriptTold lib content words g s → ended g s ≡ Ok run
       → HasCause lib content words (Ok (Exactly (report_of run)))
+  -- `delta`
+  delta_refused : {g : List Decl} {x : Refusal} → form words ≡ Delta → IsGraphTold lib content words g → IsScriptRefused lib content words g x → HasCause lib content words (Err x)
+  delta_stopped : {g : List Decl} {s : Script} {halt : Stop} → form words ≡ Delta → IsGraphTold lib content words g → IsScriptTold lib content words g s → ended g s ≡ Err halt
+      → HasCause lib content words (Err (stopped (grown g s.commands) halt))
+  delta_done : {g : List Decl} {s : Script} {run : Gossip} → form words ≡ Delta → IsGraphTold lib content words g → IsScriptTold lib content words g s → gossiped g s ≡ Ok run
+      → HasCause lib content words (Ok (Exactly (gossip_output run)))
   -- `check`
   checked : {g : List Decl} → form words ≡ Check → IsGraphTold lib content words g → HasCause lib content words (Ok (Exactly (check_text g)))
   -- `dots`

@@ -19,6 +19,7 @@ use Rattle.model_scripts.specs.Script.{script_of}
 use Rattle.model_scripts.specs.declared.script_why.ScriptWhy.{ScriptWhy}
 use Rattle.model_scripts.specs.declared.script_why.ScriptWhy.TheVariants.{NoSuchNode}
 use Rattle.model_dot_worlds.specs.DotWorld.{one_set}
+use Rattle.model_delta_runs.specs.Gossip.{Gossip, gossiped, gossip_output}
 use Rattle.model_program.specs.Check.{check_text}
 use Rattle.model_program.specs.Dots.{dots_answer}
 use Rattle.model_program.specs.Merge.{merging_files}
@@ -26,7 +27,7 @@ use Rattle.model_program.specs.Plan.{Plan, Says, exactly, checked, reading, word
 use Rattle.model_program.specs.declared.refusal.Refusal.{Refusal}
 use Rattle.model_program.specs.declared.refusal.Refusal.TheVariants as refusal
 use Rattle.model_program.specs.declared.form.Form.{Form}
-use Rattle.model_program.specs.declared.form.Form.TheVariants.{Plain, Check, Dots, Export, Merge, Threaded, Wrong}
+use Rattle.model_program.specs.declared.form.Form.TheVariants.{Plain, Delta, Check, Dots, Export, Merge, Threaded, Wrong}
 use Rattle.model_program.specs.declared.threaded.Threaded as threads
 use Rattle.model_program.specs.declared.threaded.Threaded.TheVariants as threaded
 
@@ -83,6 +84,7 @@ form words =
     if length words == 4 && bytes_eq (word_at words 0) (codes "export") then export_form (node_word (word_at words 3)) else
     if nat_lt 2 (length words) && nat_lt (length words) 11 && bytes_eq (word_at words 0) (codes "merge") then Merge else
     if length words == 4 then threaded_form words else
+    if length words == 3 && bytes_eq (word_at words 0) (codes "delta") then Delta else
     Wrong
 
 -- the graph is the second word's file
@@ -110,6 +112,22 @@ running_script lib output g = scripting lib g (λ script. Says (exactly (run_ans
 -- graph, script, run, and then a text of its last world
 abbrev pub running : Library → (Run → List ℕ) → Plan
 running lib output = opening lib (λ g. running_script lib output g)
+
+-- what is written where a run by deltas comes to its end, or the refusal where it stops
+abbrev pub told_deltas : List Decl → Script → Result Gossip Stop → Result (List ℕ) Refusal
+told_deltas g script run = refusing (stopped (grown g script.commands)) run >>= (λ s. Ok (gossip_output s))
+
+-- what is written of a run by deltas: the report of the run, and how it travelled
+abbrev pub delta_answer : List Decl → Script → Result (List ℕ) Refusal
+delta_answer g script = told_deltas g script (gossiped g script)
+
+-- script, run, and then the report and how it travelled
+abbrev pub delta_script : Library → List Decl → Plan
+delta_script lib g = scripting lib g (λ script. Says (exactly (delta_answer g script)))
+
+-- graph, script, run, and then the report and how it travelled
+abbrev pub running_deltas : Library → Plan
+running_deltas lib = opening lib (λ g. delta_script lib g)
 
 -- graph, and then what its variables are
 abbrev pub checking : Library → Plan
@@ -147,6 +165,7 @@ merging lib more = opening lib (λ g. merging_files g more)
 
 abbrev pub plan_of : Library → List (List ℕ) → Form → Plan
 plan_of lib words Plain = running lib report_of
+plan_of lib words Delta = running_deltas lib
 plan_of lib words Check = checking lib
 plan_of lib words Dots = running_dots lib
 plan_of lib words (Export node) = exporting lib node
@@ -157,6 +176,7 @@ plan_of lib words Wrong = Says (Err refusal.Usage)
 -- one thread answers words of this form with usage: it is for several threads, or none
 abbrev pub IsUsageForm : Form → Type 0
 IsUsageForm Plain = ⊥
+IsUsageForm Delta = ⊥
 IsUsageForm Check = ⊥
 IsUsageForm Dots = ⊥
 IsUsageForm (Export node) = ⊥

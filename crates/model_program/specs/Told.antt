@@ -12,7 +12,7 @@ use Rattle.model_scripts.specs.Script.{script_of}
 use Rattle.model_program.specs.Merge.{declared_in, sources_of, IsPrefixOf, file_at, nodes_in, joined}
 use Rattle.model_program.specs.Plan.{word_at, file_limit}
 use Rattle.model_program.specs.Program.{form}
-use Rattle.model_program.specs.declared.form.Form.TheVariants.{Plain, Dots}
+use Rattle.model_program.specs.declared.form.Form.TheVariants.{Plain, Delta, Dots}
 
 -- these bytes are told of the file that the word at this place names, and they are not too many
 pub record IsFileTold (content : List ℕ → Option (List ℕ)) (words : List (List ℕ)) (f : ℕ) (bytes : List ℕ) : Type 0 where
@@ -40,6 +40,12 @@ pub record IsDotsTold (lib : Library) (content : List ℕ → Option (List ℕ))
 -- the words are `plain GRAPH SCRIPT`, and the files say this graph and this script
 pub record TellsRun (lib : Library) (content : List ℕ → Option (List ℕ)) (words : List (List ℕ)) (g : List Decl) (s : Script) : Type 0 where
   pub plain : form words ≡ Plain
+  pub graph : IsGraphTold lib content words g
+  pub script : IsScriptTold lib content words g s
+
+-- the words are `delta GRAPH SCRIPT`, and the files say this graph and this script
+pub record TellsDeltas (lib : Library) (content : List ℕ → Option (List ℕ)) (words : List (List ℕ)) (g : List Decl) (s : Script) : Type 0 where
+  pub delta : form words ≡ Delta
   pub graph : IsGraphTold lib content words g
   pub script : IsScriptTold lib content words g s
 

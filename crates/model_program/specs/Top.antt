@@ -25,7 +25,7 @@ use Rattle.model_program.specs.Program.{form, stopped}
 use Rattle.model_program.specs.Threads.{plain_words, tracing, loading}
 use Rattle.model_program.specs.Told.{IsGraphTold, IsScriptTold}
 use Rattle.model_program.specs.declared.form.Form.{Form}
-use Rattle.model_program.specs.declared.form.Form.TheVariants.{Plain, Check, Dots, Export, Merge, Threaded, Wrong}
+use Rattle.model_program.specs.declared.form.Form.TheVariants.{Plain, Delta, Check, Dots, Export, Merge, Threaded, Wrong}
 use Rattle.model_program.specs.declared.refusal.Refusal.{Refusal}
 use Rattle.model_program.specs.declared.refusal.Refusal.TheVariants as refusal
 use Rattle.model_program.specs.declared.threaded.Threaded as threads
@@ -73,6 +73,7 @@ abbrev pub threaded_in : Form → Option threads.Threaded
 threaded_in (Threaded t) = Some t
 threaded_in Plain = None
 threaded_in Check = None
+threaded_in Delta = None
 threaded_in Dots = None
 threaded_in (Export node) = None
 threaded_in Merge = None

@@ -2,6 +2,7 @@
 
 mod answers;
 mod declarations;
+mod deltas;
 mod dots;
 mod exports;
 mod merges;
@@ -12,6 +13,7 @@ mod words;
 
 pub use answers::{causes_of_answers, causes_of_checks};
 pub use declarations::{causes_of_declarations, causes_of_next_declarations};
+pub use deltas::causes_of_deltas;
 pub use dots::{causes_of_dots, dots_ends_with_few_statuses};
 pub use exports::causes_of_exports;
 pub use merges::causes_of_merges;

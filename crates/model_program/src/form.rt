@@ -7,6 +7,8 @@ use super::threaded::Threaded;
 pub enum Form {
     /// `plain GRAPH SCRIPT`
     Plain,
+    /// `delta GRAPH SCRIPT`
+    Delta,
     /// `check GRAPH`
     Check,
     /// `dots SCRIPT`

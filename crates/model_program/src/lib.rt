@@ -10,7 +10,7 @@ mod threaded;
 
 pub use causes::{
     answers_come_exactly_where_they_have_a_cause, causes_of_answers, causes_of_checks,
-    causes_of_declarations, causes_of_dots, causes_of_exports, causes_of_merges,
+    causes_of_declarations, causes_of_deltas, causes_of_dots, causes_of_exports, causes_of_merges,
     causes_of_next_declarations, dots_ends_with_few_statuses,
     graphs_are_refused_at_their_first_refusal, statuses_tell_the_answer,
     threaded_answers_come_exactly_where_they_have_a_cause, told_files_decide_an_answer,

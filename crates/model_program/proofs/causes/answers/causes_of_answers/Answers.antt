@@ -1,4 +1,4 @@
-use Rattle.std.proofs.Common.{refl, ◌∙◌}
+use Rattle.std.proofs.Common.{◌∙◌}
 use Rattle.std.specs.Prelude.{Ok, Err}
 use Rattle.model_world.specs.Report.{report_of}
 use Rattle.model_world.specs.declared.stop.Stop.TheVariants as stop
