@@ -77,10 +77,17 @@ impl Visits {
         match self.at(node, var) {
             Some(asked) => {
                 let many = asked.load(Ordering::SeqCst);
-                if 0 < many && many < PATIENCE {
-                    asked.fetch_add(1, Ordering::SeqCst);
+                let is_taken = 0 < many && many < PATIENCE;
+                if is_taken {
+                    // (who was there may have left since, and then nobody is counted)
+                    let _ = asked.compare_exchange(
+                        many,
+                        many + 1,
+                        Ordering::SeqCst,
+                        Ordering::SeqCst,
+                    );
                 }
-                0 < many && many < PATIENCE
+                is_taken
             }
             None => false,
         }
@@ -133,8 +140,8 @@ impl<G: Gate> Gate for Turns<'_, G> {
     }
 
     fn leaves(&self, worker: u32, node: u8, var: u8) {
-        self.visits.end(node, var);
         self.gate.leaves(worker, node, var);
+        self.visits.end(node, var);
     }
 
     fn keeps_out(&self, worker: u32, node: u8, var: u8) -> bool {

@@ -9,17 +9,21 @@ use std::thread;
 /// For how many turns a worker stays in its job: long enough for others to come by, and much shorter than they wait.
 const STAY: u32 = 10;
 
-/// A gate that sees whether two workers are at the one derived variable at once.
+/// A gate that sees whether two workers are at the one derived variable at once, and whether a worker has another number than 1 to 8.
 #[derive(Drop)]
 struct Turnstile {
     inside: AtomicU32,
     passed: AtomicU32,
     is_crowded: AtomicBool,
+    is_unknown: AtomicBool,
 }
 
 impl Gate for Turnstile {
-    fn pass(&self, _worker: u32, _node: u8, _var: u8) {
+    fn pass(&self, worker: u32, _node: u8, _var: u8) {
         self.passed.fetch_add(1, Ordering::SeqCst);
+        if worker < 1 || 8 < worker {
+            self.is_unknown.store(true, Ordering::SeqCst);
+        }
         for _ in 0..STAY {
             thread::yield_now();
         }
@@ -52,6 +56,7 @@ fn one_worker_at_a_time_is_at_a_variable(rt: HostRuntime) -> Result<(), Fail> {
         inside: AtomicU32::new(0),
         passed: AtomicU32::new(0),
         is_crowded: AtomicBool::new(false),
+        is_unknown: AtomicBool::new(false),
     };
     let (status, printed) = ended(&rt, rt.alloc(), ADDS, &gate)?;
     assert_eq!(rt; status, 0);
@@ -59,5 +64,6 @@ fn one_worker_at_a_time_is_at_a_variable(rt: HostRuntime) -> Result<(), Fail> {
     assert!(rt; gate.passed.load(Ordering::SeqCst) > 0);
     assert_eq!(rt; gate.inside.load(Ordering::SeqCst), 0);
     assert_eq!(rt; gate.is_crowded.load(Ordering::SeqCst), false);
+    assert_eq!(rt; gate.is_unknown.load(Ordering::SeqCst), false);
     Ok(())
 }
