@@ -10,20 +10,19 @@ use Rattle.model_values.specs.Row.{Key, Row, key_cmp, key_exact}
 use Rattle.model_sets.specs.Rows.{level, mark}
 use Rattle.model_sets.proofs.RowLaws.{own_mark, is-Equal}
 use Rattle.model_sets.proofs.RiseLaws.{level-some}
-use Rattle.lasp_logset.specs.Kept.{AreKept, IsSet}
 use Rattle.lasp_logset.specs.Live.{IsLiveRow}
 use Rattle.lasp_logset.proofs.LiveLaws.{some-inj, got-within}
 use Rattle.lasp_logset.specs.Chains.{value_hash, newest_of, hash_at, IsLiveAt, IsBehind, AreChained, StayRows}
 
 -- ---- places
 
-got-push : {X : Type 0} (xs : List X) (y : X) (i : ℕ) (x : X) (Q : Type 0) → slice_get (xs ++ y ∷ []) i ≡ Some x → (slice_get xs i ≡ Some x → Q) → (i ≡ length xs → y ≡ x → Q) → Q
+pub got-push : {X : Type 0} (xs : List X) (y : X) (i : ℕ) (x : X) (Q : Type 0) → slice_get (xs ++ y ∷ []) i ≡ Some x → (slice_get xs i ≡ Some x → Q) → (i ≡ length xs → y ≡ x → Q) → Q
 got-push [] y zero x Q e before last = last refl (some-inj y x e)
 got-push [] y (suc i) x Q e before last = cc
 got-push (z ∷ xs) y zero x Q e before last = before e
 got-push (z ∷ xs) y (suc i) x Q e before last = got-push xs y i x Q e before (λ at is. last (ap suc at) is)
 
-below-or-last : (i n : ℕ) (Q : Type 0) → i < suc n → (i < n → Q) → (i ≡ n → Q) → Q
+pub below-or-last : (i n : ℕ) (Q : Type 0) → i < suc n → (i < n → Q) → (i ≡ n → Q) → Q
 below-or-last i n Q h less same = by (nat_lt i n) refl where
   by : (b : Bool) → nat_lt i n ≡ b → Q
   by true e = less (grind (arith, nat_tests, e))
@@ -128,13 +127,13 @@ chained-none rows = record {
 
 -- ---- a row is linked
 
-same-hash : (h q : ℕ) → nat_eq h q ≡ true → h ≡ q
+pub same-hash : (h q : ℕ) → nat_eq h q ≡ true → h ≡ q
 same-hash h q e = grind (arith, nat_tests, e)
 
-hash-test : (h q : ℕ) → h ≡ q → nat_eq h q ≡ true
+pub hash-test : (h q : ℕ) → h ≡ q → nat_eq h q ≡ true
 hash-test h q e = grind (arith, nat_tests, e)
 
-newest-linked : (newest newest' : List (ℕ × ℕ)) (h n q : ℕ) → lookup (nat_eq q) newest' ≡ cond (nat_eq h q) (Some (n + 1)) (lookup (nat_eq q) newest) → newest_of newest' q ≡ (if nat_eq h q then n + 1 else newest_of newest q)
+pub newest-linked : (newest newest' : List (ℕ × ℕ)) (h n q : ℕ) → lookup (nat_eq q) newest' ≡ cond (nat_eq h q) (Some (n + 1)) (lookup (nat_eq q) newest) → newest_of newest' q ≡ (if nat_eq h q then n + 1 else newest_of newest q)
 newest-linked newest newest' h n q e = ap (λ (o : Option ℕ). unwrap_or o 0) e ∙ turn (nat_eq h q) where
   turn : (b : Bool) → unwrap_or (cond b (Some (n + 1)) (lookup (nat_eq q) newest)) 0 ≡ (if b then n + 1 else newest_of newest q)
   turn true = refl
@@ -202,7 +201,7 @@ chained-pruned rows newest newest' older h b chained behind live pruned = record
 
 -- ---- one step of a walk
 
-got-index : {X : Type 0} (xs : List X) (i : ℕ) (x : X) → i < length xs → x ≡ get_or xs i x → slice_get xs i ≡ Some x
+pub got-index : {X : Type 0} (xs : List X) (i : ℕ) (x : X) → i < length xs → x ≡ get_or xs i x → slice_get xs i ≡ Some x
 got-index [] i x h e = absurd (omega (arith, h))
 got-index (y ∷ xs) zero x h e = ap Some (sym e)
 got-index (y ∷ xs) (suc i) x h e = got-index xs i x (omega (arith, h)) e
@@ -242,7 +241,3 @@ chained-linked rows newest newest' older older' h n b k dead chained many at is 
     subst (λ (o : List ℕ). AreChained rows newest' o) (sym made)
     (chained-link rows newest newest' older h n b chained many (got-within rows n (k, dead) (sym at)) (hash-here rows n k dead h at is) (subst (λ (m : ℕ). IsBehind rows h m b) (sym many) behind)
     (λ i lt there. live i (omega (arith, lt, many)) there) linked)
-
--- a set whose rows stay keeps its chains
-pub set-after : (rows rows' log : List Row) (newest : List (ℕ × ℕ)) (older : List ℕ) → AreKept rows' log → AreChained rows newest older → StayRows rows rows' → IsSet rows' log newest older
-set-after rows rows' log newest older kept chained stay = record { kept = kept; chained = chained-stay rows rows' newest older chained stay }

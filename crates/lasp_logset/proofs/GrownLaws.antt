@@ -1,5 +1,5 @@
 -- Rows behind the log of a table, and rows that are put behind a log one by one.
-use Rattle.std.proofs.Common.{◌≡◌, ◌≢◌, ℕ, ◌+◌, ◌<◌, ◌≤◌, ◌==◌, ◌^◌, max, Bool, true, false, cond, if◌then◌else◌, nat_lt, IsTrue, List, [], ◌∷◌, ◌++◌, length, take, drop, get_or, ◌↔◌, refl, sym, ap, subst, ◌∙◌, append-nil, append_assoc, length-append, arith, Result, Ok, Err, OnOk}
+use Rattle.std.proofs.Common.{◌≡◌, ◌≢◌, ℕ, ◌+◌, ◌<◌, ◌≤◌, ◌==◌, ◌^◌, max, Bool, true, false, cond, if◌then◌else◌, nat_lt, IsTrue, List, [], ◌∷◌, ◌++◌, length, take, drop, get_or, ◌↔◌, refl, sym, ap, subst, ◌∙◌, append-nil, append_assoc, length-append, arith, Result, Ok, Err, OnOk, OnErr}
 use Rattle.std.proofs.lemmas.Bool.Decides.{nat_tests}
 use Rattle.std.proofs.lemmas.List.{take_more, drop_at}
 use Rattle.model_values.specs.Value.{Val}
@@ -175,6 +175,10 @@ buried-rows v here set delta past result same kept is told =
     ap (λ (s : List Row). join (of_rows set) s) (is ∙ ap of_rows kept) ∙ join-of_rows (of_rows set) delta ∙ subst (λ (s : List Row). join (of_rows s) delta ≡ join (of_rows s) (remove_delta v (of_rows s))) same told
 
 -- ---- what succeeds, and what it is
+
+pub any-on_err : {T E : Type 0} (r : Result T E) (P : Type 0) → P → OnErr r P
+any-on_err (Ok x) P p = tt
+any-on_err (Err e) P p = p
 
 pub made-on_ok : {T E : Type 0} (r : Result T E) (P Q : Type 0) → OnOk r P → (P → Q) → OnOk r Q
 made-on_ok (Ok x) P Q p f = f p

@@ -6,3 +6,7 @@ pub mod WholeLaws
 pub mod PassLaws
 pub mod ShownLaws
 pub mod GrownLaws
+pub mod PlaceLaws
+pub mod NearLaws
+pub mod AnyLaws
+pub mod WeightLaws

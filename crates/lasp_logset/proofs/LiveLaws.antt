@@ -1,5 +1,5 @@
 -- Live rows by their places and by their marks, and what buries them.
-use Rattle.std.proofs.Common.{◌≡◌, ◌≢◌, ℕ, zero, suc, ◌+◌, ◌<◌, ◌≤◌, ◌==◌, max, Bool, true, false, not, if◌then◌else◌, nat_lt, IsTrue, List, [], ◌∷◌, ◌++◌, length, slice_get, refl, sym, ap, subst, ◌∙◌, arith, Some}
+use Rattle.std.proofs.Common.{◌≡◌, ◌≢◌, ℕ, zero, suc, ◌+◌, ◌<◌, ◌≤◌, ◌==◌, max, Bool, true, false, not, if◌then◌else◌, nat_lt, IsTrue, List, [], ◌∷◌, ◌++◌, length, slice_get, ◌↔◌, refl, sym, ap, subst, ◌∙◌, arith, Some}
 use Rattle.std.proofs.lemmas.Bool.Decides.{nat_tests}
 use Rattle.std.specs.Ordering.{is_eq, eq_by_cmp}
 use Rattle.std.specs.Option.{unwrap_or}
@@ -14,7 +14,7 @@ use Rattle.model_sets.specs.Rises.{AreApart}
 use Rattle.model_sets.specs.Reads.{is_row_of, HasRowOf}
 use Rattle.model_sets.proofs.ReadLaws.{row-words}
 use Rattle.model_sets.specs.Values.{IsHeld, visible}
-use Rattle.model_sets.proofs.RowLaws.{own_mark, is-Equal, mark-small, mark-of_rows, mark-join, same_from_mark, ascending-of_rows, ascending-join}
+use Rattle.model_sets.proofs.RowLaws.{own_mark, is-Equal, mark-small, mark-of_rows, mark-join, same_from_mark, ascending-of_rows, ascending-join, of_rows-ascending}
 use Rattle.model_sets.proofs.RiseLaws.{at-own, none-or, row-apart, log-joined}
 use Rattle.model_sets.proofs.UpdateLaws.{remove-mark}
 use Rattle.model_sets.proofs.WordLaws.{visible-live}
@@ -114,6 +114,12 @@ pub has_row-words : (near log : List Row) (v : Val) (dead b : Bool) → of_rows 
 has_row-words near log v dead b same is =
     let words = row-words v dead near b is in
     (λ h. same-words near log v dead same (words.0 h), λ h. words.1 (same-words log near v dead (sym same) h))
+
+-- the state of a log has the rows that the log has
+pub has_row-log : (log there : List Row) (v : Val) (dead b : Bool) → there ≡ log → (IsTrue b ↔ HasRowOf there v dead) → (IsTrue b → HasRowOf (of_rows log) v dead) × (HasRowOf (of_rows log) v dead → IsTrue b)
+has_row-log log there v dead b is told =
+    let same : of_rows there ≡ of_rows (of_rows log) = ap of_rows is ∙ sym (of_rows-ascending (of_rows log) (ascending-of_rows log)) in
+    (λ h. same-words there (of_rows log) v dead same (told.0 h), λ h. told.1 (same-words (of_rows log) there v dead (sym same) h))
 
 -- ---- rows that are buried
 

@@ -11,7 +11,7 @@ use Rattle.model_values.specs.Size.{HasSmallInts}
 use Rattle.model_values.specs.Row.{Key, key_cmp}
 use Rattle.model_sets.specs.Reads.{HaveSmallInts}
 use Rattle.model_sets.specs.Rises.{AreRises, AreApart}
-use Rattle.model_sets.proofs.RowLaws.{own_mark, mark-append, same_from_mark, ascending-join, join-of_rows, join-commutative, join-at_most-right, mark-of_rows, mark-join, ascending-of_rows, of_rows-ascending, join-row, join-at_most}
+use Rattle.model_sets.proofs.RowLaws.{own_mark, mark-append, mark-put, same_from_mark, ascending-join, join-nothing, join-of_rows, join-commutative, join-at_most-right, mark-of_rows, mark-join, ascending-of_rows, of_rows-ascending, join-row, join-at_most}
 use Rattle.model_sets.proofs.LoopLaws.{length-join, length-put_row}
 use Rattle.model_sets.proofs.ReadLaws.{small-push}
 use Rattle.model_sets.proofs.EquationLaws.{changed-mark, ascending-changed}
@@ -61,6 +61,9 @@ order-known s t log set b here there told =
 pub order-passed : (s t log other : List Row) (b : Bool) → of_rows log ≡ s → of_rows other ≡ t → (IsTrue b ↔ (changed other log ≡ [])) → (IsTrue b → IsAtMost s t) × (IsAtMost s t → IsTrue b)
 order-passed s t log other b here there told =
     order-known s t log other b here there (λ h. (nothing-changed other log).0 (told.0 h), λ low. told.1 ((nothing-changed other log).1 low))
+
+pub known-covers : (other log : List Row) (b : Bool) → (IsTrue b ↔ (changed other log ≡ [])) → (IsTrue b → IsAtMost log other) × (IsAtMost log other → IsTrue b)
+known-covers other log b told = (λ h. (nothing-changed other log).0 (told.0 h), λ low. told.1 ((nothing-changed other log).1 low))
 
 -- ---- the least set
 
@@ -244,3 +247,25 @@ changed-done known pass left log sealed whole none same = same ∙ sym (append-n
 
 pub removed-done : (v : Val) (pass left log sealed : List Row) → log ++ remove_delta v left ≡ remove_delta v pass → left ≡ [] → sealed ≡ log → sealed ≡ remove_delta v pass
 removed-done v pass left log sealed whole none same = same ∙ sym (append-nil log) ∙ ap (λ (s : List Row). log ++ remove_delta v s) (sym none) ∙ whole
+
+-- ---- rows that tell more than a set, put in one by one
+
+news-put : (known news left : List Row) (r : Row) → join (put r news) (changed known left) ≡ join news (r ∷ changed known left)
+news-put known news left r =
+    same_from_mark (join (put r news) (changed known left)) (join news (r ∷ changed known left)) (ascending-join (put r news) (changed known left)) (ascending-join news (r ∷ changed known left))
+    (λ v w. omega (arith, mark-join (put r news) (changed known left) v w, mark-join news (r ∷ changed known left) v w, mark-put r news v w))
+
+pub news-more : (known news news' pass left left' : List Row) (r : Row) (more : Bool) → left ≡ r ∷ left' → more ≡ nat_lt (mark known r.0.0 r.0.1) (level r.1) → more ≡ true → news' ≡ put r news → join news (changed known left) ≡ of_rows (changed known pass)
+    → join news' (changed known left') ≡ of_rows (changed known pass)
+news-more known news news' pass left left' r more is test yes_it made h =
+    ap (λ (s : List Row). join s (changed known left')) made ∙ news-put known news left' r
+    ∙ ap (λ (b : Bool). join news (cond b (r ∷ changed known left') (changed known left'))) (sym yes_it ∙ test)
+    ∙ ap (λ (s : List Row). join news (changed known s)) (sym is) ∙ h
+
+pub news-skip : (known news pass left left' : List Row) (r : Row) (more : Bool) → left ≡ r ∷ left' → more ≡ nat_lt (mark known r.0.0 r.0.1) (level r.1) → more ≡ false → join news (changed known left) ≡ of_rows (changed known pass)
+    → join news (changed known left') ≡ of_rows (changed known pass)
+news-skip known news pass left left' r more is test no_it h =
+    ap (λ (b : Bool). join news (cond b (r ∷ changed known left') (changed known left'))) (sym no_it ∙ test) ∙ ap (λ (s : List Row). join news (changed known s)) (sym is) ∙ h
+
+pub news-end : (known news pass left : List Row) → IsAscending news → left ≡ [] → join news (changed known left) ≡ of_rows (changed known pass) → news ≡ of_rows (changed known pass)
+news-end known news pass left up none h = sym (join-nothing news up) ∙ ap (λ (s : List Row). join news (changed known s)) (sym none) ∙ h

@@ -1,9 +1,12 @@
 pub mod Fed
 pub mod Chains
+pub mod Places
 pub mod Kept
 pub mod Grown
 pub mod Live
 pub mod Orders
 pub mod Whole
+pub mod Asked
 pub mod Passes
 pub mod Shown
+pub mod Weights

@@ -139,7 +139,7 @@ impl Chains {
 }
 
 /// The same for equal values.
-fn hash_of(value: &Value) -> u64
+pub(crate) fn hash_of(value: &Value) -> u64
     ensures { result ≡ value_hash (val_of value.now) }
 {
     let mut state = FoldHasher::default();

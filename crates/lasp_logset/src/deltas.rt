@@ -1,15 +1,17 @@
 //! What an update joins in, and what became more from one set to another.
 
 ghost use Rattle.std.specs.Prelude.{◌≡◌, IfOk};
-ghost use Rattle.model_sets.specs.Rows.{join, add_delta, remove_delta};
+ghost use Rattle.model_sets.specs.Rows.{of_rows, join, add_delta, remove_delta};
 ghost use Rattle.model_sets.specs.Equations.{changed};
 ghost use Rattle.lasp_value.specs.Value.{val_of};
 
+use super::asked::Asked;
+use super::changes::Changes;
 use super::entry::Entry;
 use super::near::Hint;
 use super::orset::{Kept, OrSet};
+use super::pass::Pass;
 use super::past::Past;
-use lasp_log::Log;
 use lasp_value::{Token, Value};
 use std::alloc::{AllocError, Global};
 
@@ -31,7 +33,7 @@ impl OrSet {
     pub fn remove_delta(&self, value: &Value) -> Result<OrSet, AllocError>
         ensures { IfOk result (λ d. d ≡ remove_delta (val_of value.now) self.now) }
     {
-        let mut log = Log::new(self.allocator());
+        let mut log = Changes::new(self.allocator());
         self.recall_ints();
         self.ascends();
         let mut rows = self.entries()?;
@@ -61,12 +63,16 @@ impl OrSet {
 }
 
 /// The rows of the second set that the first one lacks, or that are dead in the second alone. Where the first one is at most the second, these joined into the first give the second.
-/// Each row of the second set costs a look-up; the keys are shared.
+/// Each change of the second set costs a look-up; the keys are shared.
 pub fn changed(alloc: Global, before: &OrSet, after: &OrSet) -> Result<OrSet, AllocError>
     ensures { IfOk result (λ s. s ≡ changed before.now after.now) }
 {
-    let mut log = Log::new(alloc);
-    let known = before.table()?;
+    let known = before.asked(after.log().len() as u64)?;
+    if !after.has_each_once() {
+        let news = news_of(alloc, &known, after.iter())?;
+        return Ok(news);
+    }
+    let mut log = Changes::new(alloc);
     after.recall_ints();
     let mut hint = Hint::new();
     let mut rows = after.entries()?;
@@ -77,4 +83,20 @@ pub fn changed(alloc: Global, before: &OrSet, after: &OrSet) -> Result<OrSet, Al
     }
     log.seal();
     Ok(OrSet::of_past(Past::of_apart(log)))
+}
+
+/// The set of those rows of a pass that tell more than what is asked, of which two may have one key. Each costs a look-up, and each of these rows two more.
+fn news_of(alloc: Global, known: &Asked<'_>, rows: Pass<'_>) -> Result<OrSet, AllocError>
+    ensures { IfOk result (λ s. s ≡ of_rows (changed known.now rows.entry)) }
+{
+    let mut news = OrSet::new(alloc);
+    let mut along = Hint::new();
+    let mut left = rows;
+    while let Some(row) = left.next() {
+        if known.lacks_near(&mut along, row.name(), row.is_dead()) {
+            news.add(row.entry()?)?;
+        }
+    }
+    news.ascends();
+    Ok(news)
 }

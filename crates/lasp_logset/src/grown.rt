@@ -8,6 +8,7 @@ ghost use Rattle.model_sets.specs.Equations.{changed};
 ghost use Rattle.model_sets.specs.Rises.{AreApart};
 ghost use Rattle.lasp_logset.specs.Grown.{IsBegun};
 
+use super::changes::Changes;
 use super::entry::Entry;
 use super::name::Name;
 use super::near::{Hint, is_less};
@@ -15,13 +16,12 @@ use super::pass::Pass;
 use super::passes::is_raised;
 use super::past::Past;
 use super::set::LogSet;
-use lasp_log::Log;
 use std::alloc::{AllocError, Global};
 use std::marker::Model;
 use std::sync::Arc;
 
 /// How many changes are better found by a pass than by a table.
-const SHORT: u64 = 12;
+pub(crate) const SHORT: u64 = 12;
 
 /// A log that may begin as that of a table does which others share, seen as the log.
 #[derive(Drop)]
@@ -107,13 +107,26 @@ impl Grown {
     }
 
     /// Whether a row of this key tells more than the log. It costs a look-up and a pass over what stands behind the table.
-    fn raises(&self, name: &Name, dead: bool) -> bool
+    pub(crate) fn raises(&self, name: &Name, dead: bool) -> bool
         ensures { result ≡ nat_lt (mark self.now name.now.0 name.now.1) (level dead) }
     {
         match &self.begin {
             Some(set) => raises_behind(set, &self.past, name, dead),
             None => is_raised(self.past.iter(), name, dead),
         }
+    }
+
+    /// Whether each row of a log is known, and dead where it is dead there. It costs what `raises` does for each, up to the first that is lacking.
+    pub(crate) fn covers(&self, log: &Changes) -> bool
+        ensures { IsTrue result ↔ (changed self.now log.now.items ≡ []) }
+    {
+        let mut left = log.iter();
+        while let Some(entry) = left.next() {
+            if self.raises(entry.name(), entry.is_dead()) {
+                return false;
+            }
+        }
+        true
     }
 
     /// Puts a row behind the log, where it tells more. It costs two look-ups, and two passes over what stands behind the table.
@@ -137,7 +150,7 @@ impl Grown {
     }
 
     /// What it becomes by the rows of another log, put in one by one, and whether that tells more.
-    pub(crate) fn joined(&self, log: &Log<Entry>) -> Result<(Grown, bool), AllocError>
+    pub(crate) fn joined(&self, log: &Changes) -> Result<(Grown, bool), AllocError>
         ensures rows { IfOk result (λ p. of_rows p.0 ≡ join (of_rows self.now) (of_rows log.now.items)) }
         ensures grew { IfOk result (λ p. IsTrue p.1 ↔ (of_rows p.0 ≢ of_rows self.now)) }
     {
@@ -151,7 +164,7 @@ impl Grown {
         Ok((all, before < after))
     }
 
-    /// The table with what stands behind it put in, where no one else has it by now.
+    /// The table with what stands behind it put in, where no one else has it by now; a long log without a table gets one.
     pub(crate) fn gathered(&mut self) -> Option<Arc<LogSet>>
         ensures same { self.new ≡ self.old }
         ensures some { IfSome result (λ set. arc_value set ≡ self.old) }
@@ -211,7 +224,7 @@ fn begun(begin: &Option<Arc<LogSet>>) -> u64
     }
 }
 
-/// Takes the table out with what stands behind it put in, where no one else has it.
+/// Takes the table out with what stands behind it put in, where no one else has it; where there is none, a long log gets one.
 fn gather_begin(begin: &mut Option<Arc<LogSet>>, past: &Past) -> Option<Arc<LogSet>>
     requires { IsBegun (option_map_or arc_value begin.old []) past.now }
     ensures begun { IsBegun (option_map_or arc_value begin.new []) past.now }
@@ -225,8 +238,29 @@ fn gather_begin(begin: &mut Option<Arc<LogSet>>, past: &Past) -> Option<Arc<LogS
             *begin = Some(set);
             None
         }
-        None => None,
+        None => table_of_long(past),
     }
+}
+
+/// A table of a log, unless that is short or memory is refused.
+fn table_of_long(past: &Past) -> Option<Arc<LogSet>>
+    ensures { IfSome result (λ set. arc_value set ≡ past.now) }
+{
+    if past.version() < SHORT {
+        return None;
+    }
+    match shared_table(past) {
+        Ok(set) => Some(set),
+        Err(_) => None,
+    }
+}
+
+/// A table of a log, to be shared. It costs an insertion for each change.
+fn shared_table(past: &Past) -> Result<Arc<LogSet>, AllocError>
+    ensures { IfOk result (λ set. arc_value set ≡ past.now) }
+{
+    let set = past.whole()?;
+    Ok(Arc::new(past.allocator(), set)?)
 }
 
 /// Puts what stands behind a table into it, where no one else has it; whether it did.

@@ -96,7 +96,7 @@ fn hash_of_key(value: &Value, token: &Token) -> u64
 }
 
 /// The order of values. Numbers are compared here, since the order of all values is a recursion, which is called at a cost.
-fn compare_values(value: &Value, other: &Value) -> Ordering
+pub(crate) fn compare_values(value: &Value, other: &Value) -> Ordering
     ensures { result ≡ val_cmp (val_of value.now) (val_of other.now) }
 {
     match (value, other) {

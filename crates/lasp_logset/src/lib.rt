@@ -3,8 +3,11 @@
 //! A row is put behind the others where it tells more than they do, so that what a join brought is the end of the log, and a state of the past is a share of its beginning. A table finds a row by its key. Nothing is in order until a pass asks for it.
 #![tactic(auto)]
 
+mod any_row;
+mod asked;
 mod buried;
 mod chains;
+mod changes;
 mod coming;
 mod deltas;
 mod entry;
@@ -16,18 +19,23 @@ mod lattice;
 mod live;
 mod name;
 mod near;
+mod of_value;
+mod ordered;
 mod orset;
 mod pass;
 mod passes;
 mod past;
+mod places;
 mod reads;
 mod rows;
 mod set;
+mod shown;
 mod shows;
 mod standing;
 mod table;
 mod updates;
 mod upkeep;
+mod weigh;
 mod writes;
 
 pub use deltas::{add_delta, changed};

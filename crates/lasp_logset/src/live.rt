@@ -18,7 +18,8 @@ pub(crate) fn is_live_row(rows: &IndexMap<Name, bool>, place: usize, value: &Val
     }
 }
 
-fn is_of(name: &Name, value: &Value) -> bool
+/// Whether a key has the value.
+pub(crate) fn is_of(name: &Name, value: &Value) -> bool
     ensures { IsTrue result ↔ (name.now.0 ≡ val_of value.now) }
 {
     *name.value() == *value

@@ -6,11 +6,11 @@ ghost use Rattle.model_sets.specs.Rows.{IsAscending, of_rows};
 ghost use Rattle.model_sets.specs.Rises.{AreRises};
 ghost use Rattle.model_sets.specs.Reads.{HaveSmallInts};
 
+use super::changes::Changes;
 use super::entry::Entry;
-use super::grown::Grown;
+use super::grown::{Grown, SHORT};
 use super::past::Past;
 use super::set::LogSet;
-use lasp_log::Log;
 use std::alloc::{AllocError, Global};
 use std::marker::Model;
 use std::sync::Arc;
@@ -82,13 +82,23 @@ impl OrSet {
         ensures { IfOk result (λ s. s ≡ rows.items) }
     {
         recall_all(rows.as_slice());
-        let mut log = Log::of(rows)?;
+        let mut log = Changes::of(rows)?;
         log.close();
         Ok(OrSet::of_past(Past::of_apart(log)))
     }
 
     /// The set of rows in any order: a row for each key, dead where one of them is. It costs an insertion for each, but where they are few.
     pub fn of_rows(alloc: Global, rows: &[Entry]) -> Result<OrSet, AllocError>
+        ensures { IfOk result (λ s. s ≡ of_rows rows.now) }
+    {
+        if (rows.len() as u64) < SHORT {
+            return OrSet::of_few(alloc, rows);
+        }
+        OrSet::of_whole(alloc, LogSet::of_rows(alloc, rows)?)
+    }
+
+    /// The same, by a pass for each row.
+    fn of_few(alloc: Global, rows: &[Entry]) -> Result<OrSet, AllocError>
         ensures { IfOk result (λ s. s ≡ of_rows rows.now) }
     {
         let mut set = OrSet::new(alloc);
@@ -104,7 +114,7 @@ impl OrSet {
     }
 
     /// What tells of the set without a table.
-    pub(crate) fn log(&self) -> &Log<Entry>
+    pub(crate) fn log(&self) -> &Changes
         ensures rows { of_rows result.now.items ≡ self.now }
         ensures rises { AreRises [] result.now.items }
         ensures ints { HaveSmallInts result.now.items }
@@ -148,6 +158,16 @@ impl OrSet {
             Kept::Whole(set) => Ok(OrSet::of_past(set.past()?)),
             Kept::Past(grown) => Ok(OrSet::of_past(grown.past().try_clone()?)),
         }
+    }
+
+    /// An equal set with a table of its own whose values are indexed, for what is asked for many of them. It costs two insertions for each change.
+    pub fn indexed(&self) -> Result<OrSet, AllocError>
+        ensures { IfOk result (λ s. s ≡ self.now) }
+    {
+        let log = self.log();
+        let mut set = LogSet::of_log(log)?;
+        set.index_values()?;
+        OrSet::of_whole(log.allocator(), set)
     }
 
     /// The number of rows, dead ones counted.

@@ -5,6 +5,7 @@ ghost use Rattle.std.specs.Arc.{arc_value};
 ghost use Rattle.lasp_logset.specs.Whole.{standing};
 
 use super::entry::Entry;
+use super::of_value::Near;
 use super::rows::{Rows, TableRow};
 use super::set::LogSet;
 use super::standing::Standing;
@@ -24,6 +25,7 @@ enum Left<'a> {
     Table(Rows<'a>),
     Log(Items<'a, Entry>),
     Standing(Standing<'a>),
+    Near(Near<'a>),
 }
 
 impl<'a> Model for Pass<'a> {
@@ -63,6 +65,14 @@ impl<'a> Pass<'a> {
         }
     }
 
+    pub(crate) fn of_near(left: Near<'a>) -> Pass<'a>
+        ensures { result ≡ left.entry }
+    {
+        Pass {
+            left: Left::Near(left),
+        }
+    }
+
     /// The next row. It costs a step, and in a log that was given a table a look-up for each live row.
     pub fn next(&mut self) -> Option<TableRow<'a>>
         ensures some { IfSome result (λ r. self.old ≡ r ∷ self.new) }
@@ -78,6 +88,7 @@ impl<'a> Pass<'a> {
                 let entry = left.next()?;
                 Some(TableRow::of(entry.name(), entry.is_dead()))
             }
+            Left::Near(left) => left.next(),
         }
     }
 }

@@ -8,9 +8,10 @@ ghost use Rattle.model_sets.specs.Equations.{changed};
 ghost use Rattle.model_sets.specs.Values.{IsHeld, visible};
 ghost use Rattle.lasp_value.specs.Value.{val_of};
 
+use super::changes::Changes;
 use super::entry::Entry;
 use super::name::Name;
-use lasp_log::{Items, Log};
+use lasp_log::Items;
 use lasp_value::Value;
 
 /// Whether a row of this key tells more than those that are left of a pass.
@@ -34,7 +35,7 @@ fn tells(entry: &Entry, name: &Name, dead: bool) -> bool
 }
 
 /// Whether no row of another log tells more than a log.
-pub(crate) fn brings_nothing_to(log: &Log<Entry>, other: &Log<Entry>) -> bool
+pub(crate) fn brings_nothing_to(log: &Changes, other: &Changes) -> bool
     ensures { IsTrue result ↔ (changed log.now.items other.now.items ≡ []) }
 {
     let mut left = other.iter();
@@ -47,7 +48,7 @@ pub(crate) fn brings_nothing_to(log: &Log<Entry>, other: &Log<Entry>) -> bool
 }
 
 /// Whether a value has a row in a log that didn't die.
-pub(crate) fn has_live_in(log: &Log<Entry>, value: &Value) -> bool
+pub(crate) fn has_live_in(log: &Changes, value: &Value) -> bool
     ensures { IsTrue result ↔ IsHeld (visible (of_rows log.now.items)) (val_of value.now) }
 {
     let mut left = log.iter();
@@ -60,21 +61,21 @@ pub(crate) fn has_live_in(log: &Log<Entry>, value: &Value) -> bool
 }
 
 /// Whether a row of a log is of the value, and none of its key is dead.
-fn is_live_of(log: &Log<Entry>, entry: &Entry, value: &Value) -> bool
+fn is_live_of(log: &Changes, entry: &Entry, value: &Value) -> bool
     ensures { result ≡ (is_of (val_of value.now) entry.now && nat_lt (mark log.now.items entry.now.0.0 entry.now.0.1) 2) }
 {
     entry.is_of(value) && is_raised(log.iter(), entry.name(), true)
 }
 
 /// Whether neither the rows that are left of a pass nor those of a log have the key of a row.
-fn is_alone(rest: Items<'_, Entry>, log: &Log<Entry>, entry: &Entry) -> bool
+fn is_alone(rest: Items<'_, Entry>, log: &Changes, entry: &Entry) -> bool
     ensures { result ≡ (nat_lt (mark rest.entry entry.now.0.0 entry.now.0.1) 1 && nat_lt (mark log.now.items entry.now.0.0 entry.now.0.1) 1) }
 {
     is_raised(rest, entry.name(), false) && is_raised(log.iter(), entry.name(), false)
 }
 
 /// How many rows a log has more behind another one than that one alone.
-pub(crate) fn count_more(log: &Log<Entry>, other: &Log<Entry>) -> u64
+pub(crate) fn count_more(log: &Changes, other: &Changes) -> u64
     requires { length other.now.items ≤ 2 ^ 32 }
     ensures exact { result + length (of_rows log.now.items) ≡ length (of_rows (other.now.items ++ log.now.items)) }
     ensures few { result ≤ length other.now.items }

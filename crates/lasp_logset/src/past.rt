@@ -5,17 +5,19 @@ ghost use Rattle.model_sets.specs.Rows.{level, mark, of_rows, IsAtMost};
 ghost use Rattle.model_sets.specs.Rises.{AreRises, AreApart};
 ghost use Rattle.model_sets.specs.Reads.{HaveSmallInts};
 ghost use Rattle.lasp_logset.specs.Kept.{IsPast};
+ghost use Rattle.lasp_logset.specs.Weights.{IsBounded, rows_weight};
 
+use super::changes::Changes;
 use super::entry::Entry;
 use super::set::LogSet;
-use lasp_log::{Items, Log};
+use lasp_log::Items;
 use std::alloc::{AllocError, Global};
 use std::marker::Model;
 
 /// A state that a set had, seen as the log by then.
 #[derive(Drop)]
 pub struct Past {
-    log: Log<Entry>,
+    log: Changes,
     rows: u64,
 }
 
@@ -39,7 +41,7 @@ impl Past {
         ensures { result ≡ [] }
     {
         Past {
-            log: Log::new(alloc),
+            log: Changes::new(alloc),
             rows: 0,
         }
     }
@@ -49,13 +51,13 @@ impl Past {
         ensures { IfOk result (λ p. p ≡ entry ∷ []) }
     {
         entry.recall_ints();
-        let mut log = Log::new(alloc);
+        let mut log = Changes::new(alloc);
         log.push(entry)?;
         Ok(Past { log, rows: 1 })
     }
 
     /// The state of rows of which no two have one key.
-    pub(crate) fn of_apart(log: Log<Entry>) -> Past
+    pub(crate) fn of_apart(log: Changes) -> Past
         requires apart { AreApart log.items }
         requires ints { HaveSmallInts log.items }
         ensures { result ≡ log.items }
@@ -64,7 +66,7 @@ impl Past {
         Past { log, rows }
     }
 
-    pub(crate) fn of(log: Log<Entry>, rows: u64) -> Past
+    pub(crate) fn of(log: Changes, rows: u64) -> Past
         requires { IsPast log.items rows }
         ensures { result ≡ log.items }
     {
@@ -109,6 +111,13 @@ impl Past {
         self.log.len() as u64
     }
 
+    /// A number that is at least what the changes weigh, in constant time.
+    pub fn weight(&self) -> u64
+        ensures { IsBounded (rows_weight self.now) result }
+    {
+        self.log.weight()
+    }
+
     /// Recalls, at no cost, that each row of the log tells more than those before it.
     pub fn rises(&self)
         ensures { AreRises [] self.now }
@@ -123,7 +132,7 @@ impl Past {
         let _log = &self.log;
     }
 
-    pub(crate) fn log(&self) -> &Log<Entry>
+    pub(crate) fn log(&self) -> &Changes
         ensures items { result.now.items ≡ self.now }
         ensures rises { AreRises [] self.now }
         ensures ints { HaveSmallInts self.now }

@@ -1,17 +1,17 @@
 //! What a set shows, and its rows in either order.
 
 ghost use Rattle.std.specs.Prelude.{◌≡◌, ◌↔◌, IfOk, IsTrue, length};
-ghost use Rattle.std.specs.Option.{option_map};
 ghost use Rattle.model_sets.specs.Rows.{of_rows, join};
 ghost use Rattle.model_sets.specs.Rises.{AreApart};
 ghost use Rattle.model_sets.specs.Reads.{is_row_of, HasRowOf};
 ghost use Rattle.model_sets.specs.Values.{IsHeld, visible};
-ghost use Rattle.model_sets.specs.Loops.{is_last};
 ghost use Rattle.lasp_value.specs.Value.{val_of};
 
+use super::any_row::has_row_of;
 use super::buried::has_live;
 use super::rows::{Rows, TableRow};
 use super::set::LogSet;
+use super::shown::copies;
 use super::table::count_new;
 use lasp_value::{Value, Values};
 use std::alloc::AllocError;
@@ -46,35 +46,20 @@ impl LogSet {
         has_live(rows, chains, value)
     }
 
-    /// Whether the value has a row, and a dead one where `dead` is true. It costs a pass over the rows.
+    /// Whether the value has a row, and a dead one where `dead` is true. It costs two look-ups, the value's rows, and a pass over the rows that came since `index_rows`.
     pub fn has_row(&self, value: &Value, dead: bool) -> bool
         ensures { IsTrue result ↔ HasRowOf self.now (val_of value.now) dead }
     {
-        let mut rows = self.iter();
-        while let Some(row) = rows.next() {
-            if is_row_of(&row, value, dead) {
-                return true;
-            }
-        }
-        false
+        let (rows, places) = self.first_places();
+        has_row_of(rows, places, value, dead)
     }
 
-    /// The values with a live row, ascending, each once. It costs what `sorted` does.
+    /// The values with a live row, ascending, each once. It costs a comparison for each live row, a sort where they don't ascend in the order in which they came, and a copy of each.
     pub fn visible(&self) -> Result<Values, AllocError>
         ensures { IfOk result (λ values. values ≡ visible (of_rows self.now)) }
     {
-        let alloc = self.allocator();
-        let mut values = Values::new(alloc);
-        let mut last: Option<&Value> = None;
-        let sorted = self.sorted()?;
-        for row in &sorted {
-            if row.is_dead() || is_shown(last, row.value()) {
-                continue;
-            }
-            values.push(row.value().try_clone(alloc)?)?;
-            last = Some(row.value());
-        }
-        Ok(values)
+        let shown = self.shown()?;
+        copies(self.allocator(), shown.as_slice())
     }
 
     /// The number of rows that the join with another set has, dead ones counted. Each row of the other set costs a look-up. It takes no memory.
@@ -90,14 +75,4 @@ pub(crate) fn is_row_of(row: &TableRow, value: &Value, dead: bool) -> bool
     ensures { result ≡ is_row_of (val_of value.now) dead row.now }
 {
     row.is_of(value) && (row.is_dead() || !dead)
-}
-
-/// Whether the value is the last one that was shown.
-pub(crate) fn is_shown(last: Option<&Value>, value: &Value) -> bool
-    ensures { result ≡ is_last (option_map (λ v. val_of v.now) last.entry) (val_of value.now) }
-{
-    match last {
-        Some(shown) => *shown == *value,
-        None => false,
-    }
 }

@@ -42,13 +42,6 @@ impl<'a> TableRow<'a> {
         TableRow { name, dead }
     }
 
-    /// A row as it stands in a log.
-    pub fn at(entry: &'a Entry) -> TableRow<'a>
-        ensures { result ≡ entry.now }
-    {
-        TableRow::of(entry.name(), entry.is_dead())
-    }
-
     /// The value that was added.
     pub fn value(&self) -> &'a Value
         ensures { val_of result.now ≡ self.now.0.0 }

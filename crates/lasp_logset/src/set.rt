@@ -1,22 +1,26 @@
 //! The set: the least one, the order, the join, and how rows come in.
 
-ghost use Rattle.std.specs.Prelude.{◌≡◌, ◌≢◌, ◌≤◌, ◌^◌, ◌↔◌, ◌++◌, ◌∷◌, [], IfOk, OnOk, OnErr, IsTrue, length, nat_lt};
+ghost use Rattle.std.specs.Prelude.{◌≡◌, ◌≢◌, ◌≤◌, ◌^◌, ◌↔◌, ◌++◌, ◌∷◌, [], IfOk, OnOk, OnErr, IfSome, IsTrue, length, nat_lt};
 ghost use Rattle.model_sets.specs.Rows.{level, mark, of_rows, IsAtMost};
 ghost use Rattle.model_sets.specs.Equations.{changed};
 ghost use Rattle.model_sets.specs.Rises.{AreRises, AreApart};
 ghost use Rattle.model_sets.specs.Reads.{HaveSmallInts};
 ghost use Rattle.lasp_logset.specs.Chains.{AreChained};
 ghost use Rattle.lasp_logset.specs.Kept.{AreKept};
+ghost use Rattle.lasp_logset.specs.Places.{AreFound};
+ghost use Rattle.lasp_logset.specs.Weights.{IsBounded, rows_weight};
 
 use super::chains::Chains;
+use super::changes::Changes;
 use super::coming::Coming;
 use super::entry::Entry;
 use super::name::Name;
 use super::near::{Hint, level_near, raises_near};
 use super::past::Past;
+use super::places::Places;
 use super::table::{arriving, brings_nothing, news, put_in, put_news, raises, table_of};
 use indexmap::IndexMap;
-use lasp_log::{Items, Log};
+use lasp_log::Items;
 use lasp_value::Value;
 use std::alloc::{AllocError, Global};
 use std::marker::Model;
@@ -25,8 +29,9 @@ use std::marker::Model;
 #[derive(Drop)]
 pub struct LogSet {
     rows: IndexMap<Name, bool>,
-    log: Log<Entry>,
+    log: Changes,
     chains: Chains,
+    places: Places,
 }
 
 impl Model for LogSet {
@@ -40,7 +45,7 @@ impl Model for LogSet {
 
     ghost view = { λ a. a.log.items };
 
-    ghost invariant = { λ a. IsSet a.rows.entries a.log.items a.chains.newest.entries a.chains.older.items };
+    ghost invariant = { λ a. IsSet a.rows.entries a.log.items a.chains.newest.entries a.chains.older.items a.places.newest.entries a.places.older.items };
 }
 
 impl LogSet {
@@ -50,8 +55,9 @@ impl LogSet {
     {
         LogSet {
             rows: IndexMap::new(alloc),
-            log: Log::new(alloc),
+            log: Changes::new(alloc),
             chains: Chains::new(alloc),
+            places: Places::new(alloc),
         }
     }
 
@@ -63,7 +69,7 @@ impl LogSet {
     }
 
     /// The set of a log, with a table made of it. It costs an insertion for each row of the log.
-    pub(crate) fn of_log(log: &Log<Entry>) -> Result<LogSet, AllocError>
+    pub(crate) fn of_log(log: &Changes) -> Result<LogSet, AllocError>
         requires rises { AreRises [] log.now.items }
         requires ints { HaveSmallInts log.now.items }
         ensures { IfOk result (λ s. s ≡ log.now.items) }
@@ -72,7 +78,29 @@ impl LogSet {
             rows: table_of(log)?,
             log: log.share()?,
             chains: Chains::new(log.allocator()),
+            places: Places::new(log.allocator()),
         })
+    }
+
+    /// The set of rows in any order: a row for each key, dead where one of them is. It costs an insertion for each, and takes the memory for all of them at once.
+    pub(crate) fn of_rows(alloc: Global, rows: &[Entry]) -> Result<LogSet, AllocError>
+        ensures { IfOk result (λ s. of_rows s ≡ of_rows rows.now) }
+    {
+        let mut set = LogSet::with_room(alloc, rows.len())?;
+        for row in rows {
+            set.add(row.try_clone()?)?;
+        }
+        Ok(set)
+    }
+
+    /// The least set, with memory for so many rows.
+    fn with_room(alloc: Global, rows: usize) -> Result<LogSet, AllocError>
+        ensures { IfOk result (λ s. s ≡ []) }
+    {
+        let mut set = LogSet::new(alloc);
+        set.rows.reserve(rows)?;
+        set.log.reserve(rows)?;
+        Ok(set)
     }
 
     /// An equal set with a table of its own, which costs an insertion for each row of the log.
@@ -82,7 +110,7 @@ impl LogSet {
         LogSet::of_log(&self.log)
     }
 
-    pub(crate) fn log(&self) -> &Log<Entry>
+    pub(crate) fn log(&self) -> &Changes
         ensures items { result.now.items ≡ self.now }
         ensures rises { AreRises [] self.now }
         ensures ints { HaveSmallInts self.now }
@@ -109,11 +137,40 @@ impl LogSet {
         (&self.rows, &self.chains)
     }
 
-    /// Brings up to date what finds the rows of a value, so that `has` and `remove_delta` don't pass over the rows that came since. It costs a look-up for each of these.
+    /// The places of all rows of a value, where they lead to each, and the rows.
+    pub(crate) fn places(&self) -> Option<(&IndexMap<Name, bool>, &Places)>
+        ensures state { IfSome result (λ p. of_rows p.0.now.entries ≡ of_rows self.now) }
+        ensures apart { IfSome result (λ p. AreApart p.0.now.entries) }
+        ensures found { IfSome result (λ p. AreFound p.0.now.entries p.1.now.newest.entries p.1.now.older.items) }
+        ensures whole { IfSome result (λ p. length p.1.now.older.items ≡ length p.0.now.entries) }
+    {
+        let _count = self.rows.len();
+        if self.places.are_whole(&self.rows) {
+            return Some((&self.rows, &self.places));
+        }
+        None
+    }
+
+    /// The rows, and the places of those of a value, which may lead to the first ones alone.
+    pub(crate) fn first_places(&self) -> (&IndexMap<Name, bool>, &Places)
+        ensures state { of_rows result.0.now.entries ≡ of_rows self.now }
+        ensures found { AreFound result.0.now.entries result.1.now.newest.entries result.1.now.older.items }
+    {
+        (&self.rows, &self.places)
+    }
+
+    /// Brings up to date what finds the live rows of a value, so that `has` and `remove_delta` don't pass over the rows that came since. It costs a look-up for each of these.
     pub fn index_values(&mut self) -> Result<(), AllocError>
         ensures { self.new ≡ self.old }
     {
         self.chains.follow(&self.rows)
+    }
+
+    /// The same for all rows of a value, dead ones too, so that `entries_near` and `has_row` don't pass over all rows.
+    pub fn index_rows(&mut self) -> Result<(), AllocError>
+        ensures { self.new ≡ self.old }
+    {
+        self.places.follow(&self.rows)
     }
 
     /// `index_values`, and leaves rows out that are dead by now where they are the newest of a value. After want of memory it has left out none.
@@ -146,6 +203,13 @@ impl LogSet {
         ensures small { result ≤ 2 ^ 32 }
     {
         self.log.len() as u64
+    }
+
+    /// A number that is at least what the changes weigh, in constant time.
+    pub fn weight(&self) -> u64
+        ensures { IsBounded (rows_weight self.now) result }
+    {
+        self.log.weight()
     }
 
     /// Recalls, at no cost, that each row of the log tells more than those before it.
@@ -205,7 +269,7 @@ impl LogSet {
     }
 
     /// Whether each row of a log is in the set, and is dead here if it is dead there.
-    pub(crate) fn covers(&self, log: &Log<Entry>) -> bool
+    pub(crate) fn covers(&self, log: &Changes) -> bool
         ensures { IsTrue result ↔ IsAtMost log.now.items self.now }
     {
         brings_nothing(&self.rows, log)
@@ -247,7 +311,7 @@ impl LogSet {
         self.join_log(past.log())
     }
 
-    pub(crate) fn join_log(&mut self, log: &Log<Entry>) -> Result<bool, AllocError>
+    pub(crate) fn join_log(&mut self, log: &Changes) -> Result<bool, AllocError>
         requires { AreRises [] log.now.items }
         ensures ok { OnOk result (self.new ≡ self.old ++ changed self.old log.now.items) }
         ensures grew { IfOk result (λ grew. IsTrue grew ↔ (of_rows self.new ≢ of_rows self.old)) }

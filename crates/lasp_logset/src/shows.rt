@@ -8,18 +8,19 @@ ghost use Rattle.model_sets.specs.Reads.{HasRowOf};
 ghost use Rattle.model_sets.specs.Values.{IsHeld, visible};
 ghost use Rattle.model_sets.specs.Loops.{collapse, new_rows};
 ghost use Rattle.lasp_value.specs.Value.{val_of};
-ghost use Rattle.lasp_logset.specs.Shown.{shown_next};
 
+use super::asked::Asked;
+use super::changes::Changes;
 use super::entry::Entry;
 use super::near::Hint;
 use super::orset::{Kept, OrSet};
 use super::pass::Pass;
 use super::passes::{count_more, has_live_in};
-use super::reads::{is_row_of, is_shown};
+use super::reads::is_row_of;
 use super::rows::TableRow;
 use super::set::LogSet;
-use lasp_log::Log;
-use lasp_value::{Value, Values, print_into};
+use super::shown::{copies, print_all};
+use lasp_value::{Value, Values};
 use std::alloc::{AllocError, Global};
 use std::sync::Arc;
 
@@ -41,12 +42,24 @@ impl OrSet {
         }
     }
 
-    /// A pass as `entries` over rows among which are all those of a value.
-    pub fn entries_near(&self, value: &Value) -> Result<Pass<'_>, AllocError>
+    /// Whether its log is kept with a table, or has no key twice: then `entries` makes no table.
+    pub(crate) fn has_each_once(&self) -> bool {
+        match &self.kept {
+            Kept::Whole(_) => true,
+            Kept::Past(grown) => grown.past().rows() == grown.past().version(),
+        }
+    }
+
+    /// A pass as `entries` over rows among which are all those of a value. Where the table's rows are indexed it is these alone.
+    pub fn entries_near<'a>(&'a self, value: &'a Value) -> Result<Pass<'a>, AllocError>
         ensures rows { IfOk result (λ rows. filter (is_of (val_of value.now)) (of_rows rows) ≡ filter (is_of (val_of value.now)) self.now) }
         ensures apart { IfOk result (λ rows. AreApart rows) }
     {
-        let _ = value;
+        if let Kept::Whole(set) = &self.kept {
+            if let Some(near) = set.near(value) {
+                return Ok(Pass::of_near(near));
+            }
+        }
         self.entries()
     }
 
@@ -94,8 +107,18 @@ impl OrSet {
         }
     }
 
-    /// Whether the value has a row, and a dead one where `dead` is true. It costs a pass over the changes.
+    /// Whether the value has a row, and a dead one where `dead` is true. With a table it costs two look-ups, the value's rows, and a pass over the rows that came since `index_rows`; without one, a pass over the changes.
     pub fn has_row(&self, value: &Value, dead: bool) -> bool
+        ensures { IsTrue result ↔ HasRowOf self.now (val_of value.now) dead }
+    {
+        match &self.kept {
+            Kept::Whole(set) => set.has_row(value, dead),
+            Kept::Past(_) => self.passes_row(value, dead),
+        }
+    }
+
+    /// Whether a pass over the changes finds such a row.
+    fn passes_row(&self, value: &Value, dead: bool) -> bool
         ensures { IsTrue result ↔ HasRowOf self.now (val_of value.now) dead }
     {
         let mut rows = self.iter();
@@ -107,41 +130,20 @@ impl OrSet {
         false
     }
 
-    /// The values with a live row, ascending, each once. It costs what `sorted` does.
+    /// The values with a live row, ascending, each once. It costs what `print_into` does, and a copy of each.
     pub fn visible(&self) -> Result<Values, AllocError>
         ensures { IfOk result (λ values. values ≡ visible self.now) }
     {
-        self.ascends();
-        let alloc = self.allocator();
-        let mut values = Values::new(alloc);
-        let mut last: Option<&Value> = None;
-        let sorted = self.sorted()?;
-        for row in &sorted {
-            if row.is_dead() || is_shown(last, row.value()) {
-                continue;
-            }
-            values.push(row.value().try_clone(alloc)?)?;
-            last = Some(row.value());
-        }
-        Ok(values)
+        let shown = self.shown()?;
+        copies(self.allocator(), shown.as_slice())
     }
 
-    /// Appends the visible values as a JSON array. It copies no value, and costs what `sorted` does. After want of memory a part may have been appended.
+    /// Appends the visible values as a JSON array. It copies no value. With a table it costs a comparison for each live row, and where their values don't ascend in the order in which they came, a sort of those that differ from the one before; without one, what `sorted` does. After want of memory a part may have been appended.
     pub fn print_into(&self, out: &mut String) -> Result<(), AllocError>
         ensures { OnOk result (string_bytes out.new ≡ string_bytes out.old ++ shown_values (visible self.now)) }
     {
-        self.ascends();
-        let sorted = self.sorted()?;
-        out.push('[')?;
-        let mut last: Option<&Value> = None;
-        for row in &sorted {
-            if row.is_dead() || is_shown(last, row.value()) {
-                continue;
-            }
-            print_next(out, last.is_some(), row.value())?;
-            last = Some(row.value());
-        }
-        out.push(']')
+        let shown = self.shown()?;
+        print_all(shown.as_slice(), out)
     }
 
     /// The number of rows that the join with another set has, dead ones counted. Each row of one of them costs a look-up in the other one: of two with tables, each of the smaller one. It takes no memory where that other one has a table.
@@ -171,14 +173,15 @@ fn joined_count(set: &OrSet, other: &OrSet) -> u64
 {
     set.ascends();
     let _rows = other.rows();
-    match (set.table(), other.entries()) {
-        (Ok(table), Ok(rows)) => set.rows() + count_lacking(&table, rows),
-        (_, _) => set.rows() + count_more(set.log(), other.log()),
+    let log = other.log();
+    match (set.asked(log.len() as u64), other.entries()) {
+        (Ok(asked), Ok(rows)) => set.rows() + count_lacking(&asked, rows),
+        (_, _) => set.rows() + count_more(set.log(), log),
     }
 }
 
-/// The number of rows of a pass whose key no row of a set has.
-fn count_lacking(set: &LogSet, rows: Pass<'_>) -> u64
+/// The number of rows of a pass whose key no row of what is asked has.
+fn count_lacking(set: &Asked<'_>, rows: Pass<'_>) -> u64
     requires { length rows ≤ 2 ^ 32 }
     ensures exact { result ≡ new_rows set.now rows.entry }
     ensures few { result ≤ length rows.entry }
@@ -195,7 +198,7 @@ fn count_lacking(set: &LogSet, rows: Pass<'_>) -> u64
 }
 
 /// The changes of a log in the order of their keys.
-fn sorted_changes(log: &Log<Entry>) -> Result<Vec<TableRow<'_>>, AllocError>
+fn sorted_changes(log: &Changes) -> Result<Vec<TableRow<'_>>, AllocError>
     ensures { IfOk result (λ rows. collapse rows.items ≡ of_rows log.now.items) }
 {
     let mut sorted = Vec::with_capacity(log.allocator(), log.len())?;
@@ -227,14 +230,4 @@ fn collapsed<'a>(alloc: Global, sorted: Vec<TableRow<'a>>) -> Result<Vec<TableRo
     }
     rows.push(last)?;
     Ok(rows)
-}
-
-/// Appends a value, behind a comma where it isn't the first.
-fn print_next(out: &mut String, is_behind: bool, value: &Value) -> Result<(), AllocError>
-    ensures { OnOk result (string_bytes out.new ≡ string_bytes out.old ++ shown_next is_behind (val_of value.now)) }
-{
-    if is_behind {
-        out.push(',')?;
-    }
-    print_into(out, value)
 }

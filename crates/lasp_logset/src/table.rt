@@ -10,12 +10,13 @@ ghost use Rattle.model_sets.specs.Rises.{AreRises};
 ghost use Rattle.lasp_logset.specs.Chains.{StayRows};
 ghost use Rattle.lasp_logset.specs.Kept.{AreKept};
 
+use super::changes::Changes;
 use super::coming::Coming;
 use super::entry::Entry;
 use super::name::Name;
 use super::near::{Hint, raises_near};
 use indexmap::IndexMap;
-use lasp_log::{Items, Log};
+use lasp_log::Items;
 use std::alloc::{AllocError, Global};
 
 /// Whether a row of this key tells more than the table: where no row has the key, or where it is dead in this row alone. It costs a look-up.
@@ -41,7 +42,7 @@ fn is_more(known: bool, dead: bool) -> bool
 pub(crate) fn news(
     alloc: Global,
     rows: &IndexMap<Name, bool>,
-    log: &Log<Entry>,
+    log: &Changes,
 ) -> Result<Vec<Coming>, AllocError>
     ensures { IfOk result (λ v. v.items ≡ changed rows.now.entries log.now.items) }
 {
@@ -69,7 +70,7 @@ pub(crate) fn arriving(alloc: Global, rows: Items<'_, Entry>) -> Result<Vec<Comi
 }
 
 /// Whether no row of a log tells more than the table.
-pub(crate) fn brings_nothing(rows: &IndexMap<Name, bool>, log: &Log<Entry>) -> bool
+pub(crate) fn brings_nothing(rows: &IndexMap<Name, bool>, log: &Changes) -> bool
     ensures { IsTrue result ↔ (changed rows.now.entries log.now.items ≡ []) }
 {
     let mut hint = Hint::new();
@@ -83,7 +84,7 @@ pub(crate) fn brings_nothing(rows: &IndexMap<Name, bool>, log: &Log<Entry>) -> b
 }
 
 /// The table of a log. It costs an insertion for each of its rows.
-pub(crate) fn table_of(log: &Log<Entry>) -> Result<IndexMap<Name, bool>, AllocError>
+pub(crate) fn table_of(log: &Changes) -> Result<IndexMap<Name, bool>, AllocError>
     requires rises { AreRises [] log.now.items }
     requires ints { HaveSmallInts log.now.items }
     ensures { IfOk result (λ rows. AreKept rows.entries log.now.items) }
@@ -115,7 +116,7 @@ pub(crate) fn count_new(rows: &IndexMap<Name, bool>, other: &IndexMap<Name, bool
 /// Puts a row that tells more into the table and behind the log. It costs a look-up.
 pub(crate) fn put_in(
     rows: &mut IndexMap<Name, bool>,
-    log: &mut Log<Entry>,
+    log: &mut Changes,
     coming: Coming,
 ) -> Result<(), AllocError>
     requires kept { AreKept rows.old.entries log.old.items }
@@ -137,7 +138,7 @@ pub(crate) fn put_in(
 }
 
 /// Puts rows that tell more, each than those before it, into the table and behind the log. Room was made for all, so it doesn't fail.
-pub(crate) fn put_news(rows: &mut IndexMap<Name, bool>, log: &mut Log<Entry>, news: Vec<Coming>)
+pub(crate) fn put_news(rows: &mut IndexMap<Name, bool>, log: &mut Changes, news: Vec<Coming>)
     requires kept { AreKept rows.old.entries log.old.items }
     requires rises { AreRises log.old.items news.items }
     requires spare { length news.items ≤ spare rows.old }

@@ -10,7 +10,7 @@ use lasp_value::Value;
 use std::sync::Arc;
 
 impl OrSet {
-    /// Puts what came behind a table that others shared into it, where no one else has it by now. It costs a look-up for each of these rows.
+    /// Puts what came behind a table that others shared into it, where no one else has it by now, at a look-up for each of these rows. A long log without a table gets one, at an insertion for each change.
     pub fn gather(&mut self)
         ensures { self.new ≡ self.old }
     {
@@ -31,6 +31,13 @@ impl OrSet {
         tend_kept(&mut self.kept, &Upkeep::Index)
     }
 
+    /// The same for all rows of a value, dead ones too, so that `entries_near` and `has_row` pass over no others.
+    pub fn index_rows(&mut self)
+        ensures { self.new ≡ self.old }
+    {
+        tend_kept(&mut self.kept, &Upkeep::IndexAll)
+    }
+
     /// `index_values`, and leaves out which rows of a value are dead by now, so that removing it again costs nothing.
     pub fn prune_value(&mut self, value: &Value)
         ensures { self.new ≡ self.old }
@@ -44,6 +51,7 @@ impl OrSet {
 enum Upkeep<'a> {
     Close,
     Index,
+    IndexAll,
     Prune(&'a Value),
 }
 
@@ -82,6 +90,7 @@ fn tend(set: &mut LogSet, upkeep: &Upkeep<'_>)
             Ok(())
         }
         Upkeep::Index => set.index_values(),
+        Upkeep::IndexAll => set.index_rows(),
         Upkeep::Prune(value) => set.prune_value(value),
     };
 }

@@ -23,13 +23,14 @@ impl OrSet {
         if self.rows() > other.rows() {
             return false;
         }
-        match other.table() {
-            Ok(set) => set.covers(self.log()),
-            Err(_) => brings_nothing_to(other.log(), self.log()),
+        let log = self.log();
+        match other.asked(log.len() as u64) {
+            Ok(asked) => asked.covers(log),
+            Err(_) => brings_nothing_to(other.log(), log),
         }
     }
 
-    /// Joins another set in, and tells whether this made a difference. Each of the other set's changes costs a look-up, and each new row another one; where they bring nothing new it takes no memory. A set without rows shares the other one's.
+    /// Joins another set in, and tells whether this made a difference. Each of the other set's changes costs a look-up, and each new row another one; where there is a table and they bring nothing new it takes no memory. A set without rows shares the other one's.
     /// Where others share the table, what is new goes behind it; where there is none, and either log is long, one is made.
     pub fn join_in(&mut self, other: &OrSet) -> Result<bool, AllocError>
         ensures ok { OnOk result (self.new ≡ join self.old other.now) }

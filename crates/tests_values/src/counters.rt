@@ -165,19 +165,16 @@ fn a_union_has_the_values_of_either_once(rt: HostRuntime) -> Result<(), Fail> {
     Ok(())
 }
 
-/// Whether the values of a set are the numbers from 0 on, by a pass over them and by their places.
-fn counts_up(set: &GSet) -> bool {
-    let mut values = set.iter();
+/// Whether the values of a set are the numbers from 0 on, and each is found.
+fn counts_up(set: &GSet) -> Result<bool, AllocError> {
+    let mut values = set.sorted()?;
     for place in 0..set.len() {
         let value = Value::Int(place as i64);
-        if !values.next().is_some_and(|next| *next == value)
-            || *set.at(place) != value
-            || !set.has(&value)
-        {
-            return false;
+        if !values.next().is_some_and(|next| *next == value) || !set.has(&value) {
+            return Ok(false);
         }
     }
-    values.next().is_none()
+    Ok(values.next().is_none())
 }
 
 /// The numbers below 300, which come in another order.
@@ -192,7 +189,29 @@ fn scattered(alloc: Global) -> Result<GSet, AllocError> {
 #[test]
 fn values_stand_in_order_however_they_came(rt: HostRuntime) -> Result<(), Fail> {
     let set = scattered(rt.alloc())?;
-    assert!(rt; set.len() == 300 && counts_up(&set) && !set.has(&Value::Int(300)));
+    assert!(rt; set.len() == 300 && counts_up(&set)? && !set.has(&Value::Int(300)));
     assert!(rt; set.bottom_like()?.len() == 0);
+    Ok(())
+}
+
+#[test]
+fn a_past_stays_while_its_set_grows(rt: HostRuntime) -> Result<(), Fail> {
+    let mut set = scattered(rt.alloc())?;
+    set.close();
+    set.index_values();
+    let past = set.past()?;
+    let shared = set.try_clone()?;
+    for number in 300..340 {
+        assert!(rt; set.unite(&GSet::insert_delta(rt.alloc(), &Value::Int(number))?)?);
+    }
+    assert!(rt;
+        past.len() == 300 && counts_up(&past)? && shared.len() == 300 && counts_up(&shared)?
+    );
+    drop(shared);
+    set.gather();
+    set.index_values();
+    assert!(rt;
+        set.len() == 340 && counts_up(&set)? && past.is_within(&set) && !set.is_within(&past)
+    );
     Ok(())
 }

@@ -70,10 +70,12 @@ impl Both {
 
     /// Brings up to date what finds rows; nothing that is seen changes.
     fn tend(&mut self, value: &Value, number: u64) -> Result<bool, AllocError> {
-        match number % 4 {
+        match number % 6 {
             0 => self.set.gather(),
             1 => self.set.close(),
             2 => self.set.index_values(),
+            3 => self.set.index_rows(),
+            4 => self.set.order_rows(),
             _ => self.set.prune_value(value),
         }
         Ok(true)
@@ -164,6 +166,24 @@ fn tell_alike(set: &OrSet, pieces: &Pieces, value: &Value) -> bool {
         && set.has_row(value, true) == pieces.has_row(value, true)
 }
 
+/// Whether a pass near a value has its rows, once each, and the bound of what all rows weigh is one: each is a number with a base token.
+fn pass_near(set: &OrSet, pieces: &Pieces, value: &Value) -> Result<bool, AllocError> {
+    let mut near = set.entries_near(value)?;
+    let mut missing = 0u64;
+    let mut others = pieces.iter();
+    while let Some(row) = others.next() {
+        if row.is_of(value) {
+            missing = missing.saturating_add(1);
+        }
+    }
+    while let Some(row) = near.next() {
+        if row.is_of(value) {
+            missing = missing.wrapping_sub(1);
+        }
+    }
+    Ok(missing == 0 && set.weight() >= pieces.rows().saturating_mul(23))
+}
+
 /// One call that a number tells.
 fn call(
     alloc: Global,
@@ -183,6 +203,8 @@ fn call(
         _ => here.join(alloc, &there.set, &there.pieces)?,
     };
     let is_shown = is_made_again(alloc, &here.set)?
+        && pass_near(&here.set, &here.pieces, &value)?
+        && pass_near(&here.kept, &here.kept_pieces, &value)?
         && have_same_rows(&here.set, &here.pieces)?
         && have_same_rows(&here.kept, &here.kept_pieces)?
         && print_alike(alloc, &here.set, &here.pieces)?
@@ -200,7 +222,7 @@ fn sets_with_shared_tables_are_sets(rt: HostRuntime) -> Result<(), Fail> {
     let alloc = rt.alloc();
     let (mut here, mut there) = (Both::new(alloc), Both::new(alloc));
     let mut seed = 1u64;
-    for k in 1..400u64 {
+    for k in 1..160u64 {
         seed = seed
             .wrapping_mul(6_364_136_223_846_793_005)
             .wrapping_add(1_442_695_040_888_963_407);
@@ -209,6 +231,26 @@ fn sets_with_shared_tables_are_sets(rt: HostRuntime) -> Result<(), Fail> {
             mem::swap(&mut here, &mut there);
         }
     }
-    assert!(rt; here.set.rows() > 60 && here.set.bottom_like()?.rows() == 0);
+    assert!(rt; here.set.rows() > 20 && here.set.bottom_like()?.rows() == 0);
+    Ok(())
+}
+
+#[test]
+fn a_set_put_in_order_is_the_same(rt: HostRuntime) -> Result<(), Fail> {
+    let alloc = rt.alloc();
+    let mut both = Both::new(alloc);
+    for k in 1..180u64 {
+        let value = Value::Int((k.wrapping_mul(37) % 131) as i64);
+        assert!(rt; both.add(alloc, &value, k)? && (k % 7 > 0 || both.remove(&value)?));
+        if k % 20 > 0 {
+            continue;
+        }
+        both.set.gather();
+        both.set.index_rows();
+        both.set.order_rows();
+        assert!(rt; have_same_rows(&both.set, &both.pieces)?);
+        assert!(rt; print_alike(alloc, &both.set, &both.pieces)?);
+        assert!(rt; tell_alike(&both.set, &both.pieces, &value));
+    }
     Ok(())
 }

@@ -1,5 +1,4 @@
 use Rattle.std.proofs.Common.{List, ap, subst, sym, ◌∙◌}
-use Rattle.std.specs.Arc.{arc_value}
 use Rattle.model_values.specs.Row.{Row}
 use Rattle.model_sets.specs.Rows.{of_rows}
 use Rattle.model_sets.specs.Reads.{HaveSmallInts}
@@ -9,15 +8,19 @@ use Rattle.lasp_logset.proofs.deltas.changed.Goals as goal
 
 pub of_apart-requires-clause-apart : goal.of_apart-requires-clause-apart
 of_apart-requires-clause-apart c =
-    let all = changed-done (arc_value c.in_ok-known.known) c.in_ok-rows.rows c.loop-row.rows c.loop-row.log.items c.seal.new.self.items c.loop-row.invariant c.in_default.ensures.none c.seal.ensures in
-    subst AreApart (sym all) (apart-changed (arc_value c.in_ok-known.known) c.in_ok-rows.rows c.in_ok-rows.ensures.apart)
+    let all = changed-done c.in_ok-known.known c.in_ok-rows.rows c.loop-row.rows c.loop-row.log.items c.seal.new.self.items c.loop-row.invariant c.in_default.ensures.none c.seal.ensures in
+    subst AreApart (sym all) (apart-changed c.in_ok-known.known c.in_ok-rows.rows c.in_ok-rows.ensures.apart)
 
 pub of_apart-requires-clause-ints : goal.of_apart-requires-clause-ints
 of_apart-requires-clause-ints c =
-    let all = changed-done (arc_value c.in_ok-known.known) c.in_ok-rows.rows c.loop-row.rows c.loop-row.log.items c.seal.new.self.items c.loop-row.invariant c.in_default.ensures.none c.seal.ensures in
-    subst HaveSmallInts (sym all) (small-changed (arc_value c.in_ok-known.known) c.in_ok-rows.rows c.args.after.now c.in_ok-rows.ensures.rows c.recall_ints.ensures)
+    let all = changed-done c.in_ok-known.known c.in_ok-rows.rows c.loop-row.rows c.loop-row.log.items c.seal.new.self.items c.loop-row.invariant c.in_default.ensures.none c.seal.ensures in
+    subst HaveSmallInts (sym all) (small-changed c.in_ok-known.known c.in_ok-rows.rows c.args.after.now c.in_ok-rows.ensures.rows c.recall_ints.ensures)
 
 pub returns : goal.returns
 returns c =
-    let all = changed-done (arc_value c.in_ok-known.known) c.in_ok-rows.rows c.loop-row.rows c.loop-row.log.items c.seal.new.self.items c.loop-row.invariant c.in_default.ensures.none c.seal.ensures in
-    c.of_past.ensures ∙ ap (λ (s : List Row). of_rows s) (c.of_apart.ensures ∙ all) ∙ changed-state (arc_value c.in_ok-known.known) c.in_ok-rows.rows c.args.before.now c.args.after.now c.in_ok-known.ensures c.in_ok-rows.ensures.rows
+    let all = changed-done c.in_ok-known.known c.in_ok-rows.rows c.loop-row.rows c.loop-row.log.items c.seal.new.self.items c.loop-row.invariant c.in_default.ensures.none c.seal.ensures in
+    c.of_past.ensures ∙ ap (λ (s : List Row). of_rows s) (c.of_apart.ensures ∙ all) ∙ changed-state c.in_ok-known.known c.in_ok-rows.rows c.args.before.now c.args.after.now c.in_ok-known.ensures c.in_ok-rows.ensures.rows
+
+pub returns-then-not-has_each_once : goal.returns-then-not-has_each_once
+returns-then-not-has_each_once c =
+    c.in_ok-news.ensures ∙ changed-state c.in_ok-known.known c.iter.result c.args.before.now c.args.after.now c.in_ok-known.ensures c.iter.ensures.rows

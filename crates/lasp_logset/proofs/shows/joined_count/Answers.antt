@@ -14,10 +14,10 @@ overflow_add-result c =
 
 pub returns-in-Ok-Ok : goal.returns-in-Ok-Ok
 returns-in-Ok-Ok c =
-    counted-join c.args.set.now c.args.other.now c.deref.result.now c.in-Ok-Ok.rows c.rows.result c.count_lacking.result c.ascends.ensures (ap (λ (s : List Row). of_rows s) c.deref.ensures ∙ c.in-Ok-Ok.ensures) c.in-Ok-Ok.ensures'.rows
+    counted-join c.args.set.now c.args.other.now c.in-Ok-Ok.asked c.in-Ok-Ok.rows c.rows.result c.count_lacking.result c.ascends.ensures c.in-Ok-Ok.ensures c.in-Ok-Ok.ensures'.rows
     c.in-Ok-Ok.ensures'.apart c.rows.ensures.exact c.count_lacking.ensures.exact
 
 pub returns-in_default : goal.returns-in_default
 returns-in_default c =
-    passed-join c.args.set.now c.args.other.now c.log.result.now.items c.log-in_default.result.now.items c.rows-in_default.result c.count_more.result c.log.ensures.rows c.log-in_default.ensures.rows c.rows-in_default.ensures.exact
+    passed-join c.args.set.now c.args.other.now c.log.result.now.items c.log-log.result.now.items c.rows-in_default.result c.count_more.result c.log.ensures.rows c.log-log.ensures.rows c.rows-in_default.ensures.exact
     c.count_more.ensures.exact

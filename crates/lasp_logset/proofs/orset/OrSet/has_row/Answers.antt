@@ -1,16 +1,7 @@
-use Rattle.std.proofs.Common.{true, false}
+use Rattle.std.specs.Arc.{arc_value}
 use Rattle.lasp_value.specs.Value.{val_of}
-use Rattle.model_sets.proofs.ReadLaws.{row-found, row-none}
-use Rattle.lasp_logset.proofs.LiveLaws.{has_row-words}
-use Rattle.lasp_logset.proofs.WholeLaws.{pass-state}
+use Rattle.lasp_logset.proofs.LiveLaws.{has_row-log}
 use Rattle.lasp_logset.proofs.orset.OrSet.has_row.Goals as goal
 
-pub returns-then-is_row_of : goal.returns-then-is_row_of
-returns-then-is_row_of c =
-    has_row-words c.iter-rows.result c.args.self.now (val_of c.args.value.now) c.args.dead true (pass-state c.iter-rows.result c.args.self.now c.iter-rows.ensures.rows)
-    (row-found (val_of c.args.value.now) c.args.dead c.loop-row.rows c.next.new.self c.iter-rows.result c.in-Some.row c.is_row_of.result c.in-Some.ensures.some c.is_row_of.ensures c.if-is_row_of.true c.loop-row.invariant)
-
-pub returns : goal.returns
-returns c =
-    has_row-words c.iter-rows.result c.args.self.now (val_of c.args.value.now) c.args.dead false (pass-state c.iter-rows.result c.args.self.now c.iter-rows.ensures.rows)
-    (row-none (val_of c.args.value.now) c.args.dead c.loop-row.rows c.iter-rows.result c.in_default.ensures.none c.loop-row.invariant)
+pub returns-in-Whole : goal.returns-in-Whole
+returns-in-Whole c = rw (← c.self.view_is, c.in-Whole.is) (has_row-log (arc_value c.in-Whole.set) c.deref.result.now (val_of c.args.value.now) c.args.dead c.has_row.result c.deref.ensures c.has_row.ensures)
