@@ -60,6 +60,10 @@ either-way P Q C (Ok a) p q f g = f p
 either-way P Q C (Err e) p q f g = g q
 
 -- the journal has so many entries
+-- a replica of which only what makes calls cheap was changed
+pub ready-sound : (old ready : Replica) (reads : List ReadNo) (opened : ℕ) → ready ≡ old → IsSound old reads opened → IsSound ready reads opened
+ready-sound old ready reads opened is sound = subst (λ (r : Replica). IsSound r reads opened) (sym is) sound
+
 pub entries-many : (r : Replica) → vec_len r.journal ≡ length (entries_of r)
 entries-many r = r.journal.ok.0 ∙ sym (map-length entry_of r.journal.items)
 

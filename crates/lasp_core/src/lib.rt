@@ -27,6 +27,7 @@ mod laws;
 mod parked;
 mod read;
 mod replica_core;
+mod upkeep;
 mod watched;
 
 pub use jobs::Jobs;

@@ -11,6 +11,7 @@ ghost use Rattle.lasp_state.specs.State as state;
 
 use crate::parked::{remove_read, split_met};
 use crate::read::{ReadNo, Released};
+use crate::upkeep::{ready_read, ready_reads};
 use lasp_graph::{Decl, Graph, States};
 use lasp_job::Job;
 use lasp_replica::{DeliverRefused, Entry, NotYet, Replica, UpdateRefused};
@@ -79,6 +80,7 @@ impl Core {
         ensures err { OnErr result (self.new ≡ self.old) }
         ensures answer { IsAnswered (update_refusal self.old.frame.nodes self.old.frame.replica (journal.graph self.old.frame self.old.entries) (journal.vals self.old.frame self.old.entries) (journal.counts self.old.frame self.old.entries) var op.now) result }
     {
+        ready_reads(&mut self.replica, self.parked.as_slice());
         let mut released = self.room()?;
         let n = self.replica.journal.len() as u64;
         self.replica.update(by, var, op)?;
@@ -99,6 +101,7 @@ impl Core {
         ensures err { OnErr result (self.new ≡ self.old) }
         ensures answer { IsDelivered self.old.frame.nodes (journal.graph self.old.frame self.old.entries) (journal.vals self.old.frame self.old.entries) (arc_value message.now) result }
     {
+        ready_reads(&mut self.replica, self.parked.as_slice());
         let mut released = self.room()?;
         let n = self.replica.journal.len() as u64;
         self.replica.deliver(by, number, message)?;
@@ -153,6 +156,7 @@ impl Core {
         ensures err { OnErr result (self.new ≡ self.old) }
         ensures back { IfErr result (λ e. e.0 ≡ job) }
     {
+        ready_reads(&mut self.replica, self.parked.as_slice());
         match self.room() {
             Err(error) => Err((job, error)),
             Ok(mut released) => {
@@ -209,6 +213,7 @@ impl Core {
             var,
             threshold: Arc::new(alloc, threshold)?,
         };
+        ready_read(&mut self.replica, var, &read.threshold);
         if !read.threshold.meets(self.state(var)) {
             self.parked.push(read.twin()?)?;
         }
@@ -234,6 +239,13 @@ impl Core {
         ensures { self.new ≡ closed (read_of read.now).number self.old }
     {
         remove_read(&mut self.parked, read.number);
+    }
+
+    /// Sees that a pass over a variable's rows in their order costs little more than a comparison for each, where nobody shares its state. It costs a look at 64 places, and where many rows stand out of order an insertion for each.
+    pub fn order_rows(&mut self, var: u8)
+        ensures { self.new ≡ self.old }
+    {
+        self.replica.order_rows(var)
     }
 
     /// The state of a variable.

@@ -11,6 +11,7 @@ use Rattle.model_values.specs.Row.{Row, key_cmp}
 use Rattle.model_sets.specs.Rows.{IsAscending, mark, put, of_rows, join, IsAtMost}
 use Rattle.model_sets.specs.Values.{held, IsHeld, entries_of, AreAscending, add, of_values, unite, IsWithin, live_values, visible}
 use Rattle.model_sets.proofs.ValueLaws.{held-of_values, of_values-ascending}
+use Rattle.lasp_logset.specs.Weights.{IsBounded, rows_weight, values_weight}
 use Rattle.lasp_counters.specs.Members.{no_update, member, values_of, AreMembers}
 
 -- ---- one row
@@ -73,9 +74,12 @@ below-member : (v : Val) (s : List Val) → below_all key_cmp (member v).0 (map 
 below-member v [] = refl
 below-member v (w ∷ s) = ap (λ o. is_lt o && below_all key_cmp (member v).0 (map member s)) (member-cmp v w) ∙ ap (λ b. is_lt (val_cmp v w) && b) (below-member v s)
 
-pub sorted-member : (s : List Val) → is_sorted key_cmp (map member s) ≡ is_sorted val_cmp (entries_of s)
+sorted-member : (s : List Val) → is_sorted key_cmp (map member s) ≡ is_sorted val_cmp (entries_of s)
 sorted-member [] = refl
 sorted-member (v ∷ s) = ap (λ b. b && is_sorted key_cmp (map member s)) (below-member v s) ∙ ap (λ b. below_all val_cmp v (entries_of s) && b) (sorted-member s)
+
+pub ascending-members : (s : List Val) → AreAscending s → IsAscending (map member s)
+ascending-members s h = sorted-member s ∙ h
 
 pub ascending-values : (s : List Row) → AreMembers s → IsAscending s → AreAscending (values_of s)
 ascending-values s m up = sym (sorted-member (values_of s)) ∙ ap (is_sorted key_cmp) (sym m) ∙ up
@@ -129,7 +133,11 @@ held-test s v b m told =
     let same : held (visible s) v ≡ held (values_of s) v = ap (λ l. held l v) (visible-members s m) ∙ held-of_values (values_of s) v in
     (λ h. sym same ∙ told.0 h, λ h. told.1 (same ∙ h))
 
--- ---- a call that joins, which answers Ok or Err
+-- ---- a call which answers Ok or Err
+
+pub on_ok : {A E P Q : Type 0} → (r : Result A E) → (P → Q) → OnOk r P → OnOk r Q
+on_ok (Ok a) f h = f h
+on_ok (Err e) f h = h
 
 pub members-either : {A E : Type 0} (o : Result A E) (s t u : List Row) → AreMembers s → AreMembers t → OnOk o (u ≡ join s t) → OnErr o (u ≡ s) → AreMembers u
 members-either (Ok a) s t u m n ok err = members-join s t u m n ok
@@ -139,3 +147,13 @@ pub grew-either : {E : Type 0} (o : Result Bool E) (s t u : List Row) → AreMem
     → IfOk o (λ grew. IsTrue grew ↔ (values_of u ≢ values_of s))
 grew-either (Ok b) s t u m n ok grew = grew-test s u b m (members-join s t u m n ok) grew
 grew-either (Err e) s t u m n ok grew = grew
+
+-- ---- what they weigh
+
+weight-values : (s : List Row) → values_weight (values_of s) ≤ rows_weight s
+weight-values [] = omega arith
+weight-values (r ∷ s) = omega (arith, weight-values s)
+
+-- a bound of the rows is one of their values
+pub values_bounded : (s : List Row) (bound : ℕ) → IsBounded (rows_weight s) bound → IsBounded (values_weight (values_of s)) bound
+values_bounded s bound h = omega (arith, weight-values s, h)

@@ -3,14 +3,14 @@
 ghost use Rattle.std.specs.Prelude.{◌≡◌, ◌∷◌, [], IfSome, IfNone};
 ghost use Rattle.lasp_counters.specs.Prelude.{val_of};
 
-use lasp_orset::Rows;
+use lasp_logset::InOrder;
 use lasp_value::Value;
 use std::marker::Model;
 
 /// The values that are left of a pass, seen as their list.
 #[derive(Drop)]
 pub struct Elements<'a> {
-    pub(crate) rows: Rows<'a>,
+    pub(crate) rows: InOrder<'a>,
 }
 
 impl<'a> Model for Elements<'a> {

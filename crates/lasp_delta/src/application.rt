@@ -20,7 +20,7 @@ use std::alloc::{AllocError, Global};
 const MOST_ROWS: u64 = 65_536;
 
 /// A message with what a delta carries. `Delta::suits` tells whether both are of one graph and of as many nodes. It is refused for a gap before all else, and then for the least source that would be too large.
-/// It costs a share of the message's pieces, and a search for each row of the delta.
+/// It costs a share of the message's rows, and a table of each of its sets, also of one to which the delta brings nothing, unless that is short.
 pub fn apply(alloc: Global, base: &Message, delta: &Delta) -> Result<Message, DeltaRefused>
     requires { AreAlike base.now (carried delta.now) }
     ensures { Answers result (applied base.now delta.now) }

@@ -6,19 +6,20 @@ ghost use Rattle.model_deltas.specs.Delta.{new_values, changed_counts, changed_t
 ghost use Rattle.lasp_state.specs.State.{content_of, shape_of};
 
 use lasp_counters::{GCount, GSet, MaxReg};
-use lasp_orset::changed;
+use lasp_logset::changed;
 use lasp_state::State;
 use std::alloc::{AllocError, Global};
 
-/// The elements of the second set that the first one lacks. It costs a search for each element of the second, and a copy of each that is new.
+/// The elements of the second set that the first one lacks. It makes a table of the first, and costs a look-up for each element of the second and a copy of each that is new.
 fn new_elements(alloc: Global, before: &GSet, after: &GSet) -> Result<GSet, AllocError>
     ensures { IfOk result (λ s. s ≡ new_values before.now after.now) }
 {
     after.ascends();
+    let known = before.indexed()?;
     let mut values = Vec::new(alloc);
-    let mut all = after.iter();
+    let mut all = after.sorted()?;
     while let Some(value) = all.next() {
-        if !before.has(value) {
+        if !known.has(value) {
             values.push(value.try_clone(alloc)?)?;
         }
     }
@@ -50,7 +51,7 @@ fn other_number(before: Option<i64>, after: Option<i64>) -> Option<i64>
     }
 }
 
-/// What a source has that it had not before. Of an observed-remove set each row costs a comparison where the earlier set has it right behind the row before, else a search; what is new shares its values with the later set.
+/// What a source has that it had not before. Of an observed-remove set each row costs a look-up in a table, which is made of the earlier set where it has none; what is new shares its values with the later set.
 pub fn changed_state(alloc: Global, before: &State, after: &State) -> Result<State, AllocError>
     requires shape { shape_of before.now ≡ shape_of after.now }
     requires source { shape_of after.now ≢ fold }

@@ -17,7 +17,7 @@ use lasp_wire::{Counts, Message};
 use std::alloc::{AllocError, Global};
 
 /// The delta from a message to a later one of the same sender. The earlier one has no count and no source above the later one's, and its sources are the first of the later one's: this holds of any two messages of one node in the order in which it made them.
-/// It costs a comparison or a search for each row and element of the later message, and memory for what is new.
+/// It costs a table of each set of the earlier message, a look-up for each row and element of the later one, where elements are sorted too, and memory for what is new.
 pub fn delta_of(alloc: Global, before: &Message, after: &Message) -> Result<Delta, AllocError>
     requires { IsBefore before.now after.now }
     ensures { IfOk result (λ delta. delta ≡ delta_of before.now after.now) }

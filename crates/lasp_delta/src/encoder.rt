@@ -8,7 +8,7 @@ use super::delta::Delta;
 use lasp_wire::{put_counts, put_sources};
 use std::alloc::{AllocError, Global};
 
-/// The one spelling of a delta. It costs one pass, and for each set a list of its rows' addresses beside the bytes.
+/// The one spelling of a delta. It costs one pass, and for each set a list of its rows' addresses beside the bytes, which is sorted.
 #[tactic(auto, unfolding(model_deltas::specs::Spelling::spelled_delta))]
 pub fn encode_delta(alloc: Global, delta: &Delta) -> Result<Vec<u8>, AllocError>
     ensures { IfOk result (λ bytes. bytes.items ≡ spelled_delta delta.now) }
@@ -17,7 +17,7 @@ pub fn encode_delta(alloc: Global, delta: &Delta) -> Result<Vec<u8>, AllocError>
     let mut out = Vec::new(alloc);
     put_head(&mut out, delta.from().len() as u8)?;
     put_span(&mut out, delta)?;
-    put_sources(alloc, &mut out, delta.carried())?;
+    put_sources(&mut out, delta.carried())?;
     Ok(out)
 }
 

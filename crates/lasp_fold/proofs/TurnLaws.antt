@@ -15,7 +15,7 @@ use Rattle.model_sets.proofs.ValueLaws.{held-small, held-of_values, same_from_he
 use Rattle.model_sets.proofs.AlgebraLaws.{held-filter, ascending-filter}
 use Rattle.model_sets.proofs.UpdateLaws.{same-held, row-value}
 use Rattle.model_sets.specs.Loops.{is_last, values_after}
-use Rattle.lasp_orset.proofs.ShownLaws.{shown-all}
+use Rattle.model_sets.proofs.LoopLaws.{values_after-visible}
 use Rattle.lasp_fold.specs.Turns.{values_left, turns, turned}
 
 -- ---- the values of rows
@@ -46,7 +46,7 @@ left-revived last (r ∷ s) =
 
 -- before the first of ascending rows all their values are left
 pub left-all : (s : List Row) → IsAscending s → values_left None s ≡ row_values s
-left-all s up = left-revived None s ∙ shown-all (map revived s) (sorted-revived s ∙ up) ∙ ap of_values (live-revived s)
+left-all s up = left-revived None s ∙ values_after-visible (map revived s) (sorted-revived s ∙ up) ∙ ap of_values (live-revived s)
 
 -- where the marks of one state are those of another and of some rows together, a value that only one of the two shows has a row among those
 pub listed : (s c t : List Row) → IsAscending s → IsAscending t → ((v : Val) (w : Tok) → mark t v w ≡ max (mark s v w) (mark c v w)) → (v : Val) → held (visible s) v ≢ held (visible t) v → IsHeld (row_values c) v

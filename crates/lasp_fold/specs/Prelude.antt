@@ -5,7 +5,7 @@ pub use Rattle.model_sets.specs.Equations.{changed}
 pub use Rattle.model_sets.specs.Folds.{fold_set}
 pub use Rattle.model_sets.specs.Loops.{is_last}
 pub use Rattle.model_sets.specs.Rows.{IsAtMost}
-pub use Rattle.model_sets.specs.Values.{row_values, visible}
+pub use Rattle.model_sets.specs.Values.{IsHeld, row_values, visible}
 pub use Rattle.model_graph.specs.Fold.{combined, inverse, is_member, taken}
 pub use Rattle.model_graph.specs.Increment.{IsChange}
 pub use Rattle.lasp_value.specs.Value.{val_of}

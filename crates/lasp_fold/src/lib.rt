@@ -2,6 +2,7 @@
 //! So the number of a set that changed follows from the number before it, at the cost of the values that came or went.
 #![tactic(auto)]
 
+mod asked;
 mod change;
 mod counted;
 mod group;

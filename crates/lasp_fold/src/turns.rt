@@ -1,10 +1,12 @@
-//! The values that came to be visible, or ceased to be, from one set to a greater one: a pass over the rows of a set that has them all, with two searches for each value.
+//! The values that came to be visible, or ceased to be, from one set to a greater one: a pass over the rows of a set that has them all, with two look-ups for each value.
 
-ghost use Rattle.std.specs.Prelude.{◌≡◌, ◌∷◌, [], None, IfSome, IfNone};
+ghost use Rattle.std.specs.Prelude.{◌≡◌, ◌∷◌, [], None, IfOk, IfSome, IfNone};
 ghost use Rattle.lasp_fold.specs.Prelude.{option_map, IsSized, visible, val_of, is_last, AreSized, values_left, turns};
 
-use lasp_orset::{OrSet, Rows};
+use super::asked::Asked;
+use lasp_logset::{InOrder, OrSet};
 use lasp_value::Value;
+use std::alloc::AllocError;
 
 /// A value that came to be visible, or ceased to be.
 #[derive(Drop)]
@@ -16,24 +18,24 @@ pub(crate) struct Turn<'a> {
 /// The rows that are left of the pass, and the value that was looked at last.
 #[derive(Drop)]
 pub(crate) struct Turns<'a> {
-    rows: Rows<'a>,
+    rows: InOrder<'a>,
     last: Option<&'a Value>,
 }
 
 impl<'a> Turns<'a> {
-    /// A pass over the rows of a set.
-    pub(crate) fn among(set: &'a OrSet) -> Turns<'a>
-        ensures rows { result.rows ≡ set.now }
-        ensures first { result.last ≡ None }
+    /// A pass over the rows of a set. It takes memory for a pointer to each, and sorts these.
+    pub(crate) fn among(set: &'a OrSet) -> Result<Turns<'a>, AllocError>
+        ensures rows { IfOk result (λ turns. turns.rows ≡ set.now) }
+        ensures first { IfOk result (λ turns. turns.last ≡ None) }
     {
-        Turns {
-            rows: set.iter(),
+        Ok(Turns {
+            rows: set.in_order()?,
             last: None,
-        }
+        })
     }
 
     /// The next value that only one of the sets shows.
-    pub(crate) fn next(&mut self, before: &OrSet, after: &OrSet) -> Option<Turn<'a>>
+    pub(crate) fn next(&mut self, before: &Asked, after: &Asked) -> Option<Turn<'a>>
         requires sized { AreSized self.old.rows }
         ensures some { IfSome result (λ t. turns (visible before.now) (visible after.now) (values_left (option_map (λ v. val_of v.now) self.old.last) self.old.rows) ≡ (val_of t.value.now, t.came) ∷ turns (visible before.now) (visible after.now) (values_left (option_map (λ v. val_of v.now) self.new.last) self.new.rows)) }
         ensures this { IfSome result (λ t. IsSized (val_of t.value.now)) }

@@ -1,3 +1,4 @@
 pub mod Network
+pub mod Tally
 pub mod Exchange
 pub mod Prelude

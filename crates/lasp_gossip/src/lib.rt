@@ -10,6 +10,7 @@
 mod compose;
 mod network;
 mod refused;
+mod tally;
 
 pub use compose::message_of;
 pub use network::Network;

@@ -5,24 +5,26 @@ ghost use Rattle.lasp_gossip.specs.Prelude.{arc_value, spelled, size_of, network
 ghost use Rattle.lasp_gossip.specs.declared.refused.SendRefused.TheVariants as refused;
 
 use super::refused::SendRefused;
-use lasp_wire::{Message, encoded_len};
+use super::tally::Tally;
+use lasp_wire::Message;
 use std::alloc::{AllocError, Global};
 use std::marker::Model;
 use std::sync::Arc;
 
 /// All that was sent, under numbers from 0 on, and the most bytes that it may have together. It is seen as this limit and the list of the messages.
-/// The messages are kept as values beside the number of their bytes, which nobody writes.
+/// The messages are kept as values beside a bound of their bytes, which nobody writes, and counts only where the bound passes the limit.
 #[derive(Drop)]
 pub struct Network {
     messages: Vec<Arc<Message>>,
-    size: u64,
+    tally: Tally,
     limit: u64,
 }
 
 impl Model for Network {
-    ghost use Rattle.std.specs.Prelude.{◌≡◌, ◌≤◌, map};
+    ghost use Rattle.std.specs.Prelude.{map};
     ghost use Rattle.std.specs.Arc.{arc_value};
-    ghost use Rattle.lasp_gossip.specs.Network.{Network, network, size_of, coded_network};
+    ghost use Rattle.lasp_gossip.specs.Network.{Network, network, coded_network};
+    ghost use Rattle.lasp_gossip.specs.Tally.{IsTally};
 
     ghost Value = { Network };
 
@@ -30,7 +32,7 @@ impl Model for Network {
 
     ghost view = { λ a. network a.limit (map arc_value a.messages.items) };
 
-    ghost invariant = { λ a. (a.size ≡ size_of (map arc_value a.messages.items)) × (a.size ≤ a.limit) };
+    ghost invariant = { λ a. IsTally (map arc_value a.messages.items) a.limit a.tally.counted a.tally.size a.tally.most };
 }
 
 impl Network {
@@ -40,12 +42,12 @@ impl Network {
     {
         Network {
             messages: Vec::new(alloc),
-            size: 0,
+            tally: Tally::new(),
             limit,
         }
     }
 
-    /// Sends a message, and answers its number. It costs a pass over the message, whose bytes count, and shares its rows. After a refusal nothing was sent.
+    /// Sends a message, and answers its number. Its bytes count. It costs a step for each source, and shares the rows; near the limit it costs what `encoded_len` does of each message that wasn't counted yet. After a refusal nothing was sent.
     pub fn send(&mut self, m: Message) -> Result<u32, SendRefused>
         requires few { length self.old.sent < 2 ^ 32 }
         ensures ok { OnOk result (self.new ≡ with_sent self.old m) }
@@ -54,14 +56,11 @@ impl Network {
         ensures full { result ≡ Err refused.NetworkFull → self.old.limit < size_of self.old.sent + length (spelled m) }
         ensures err { OnErr result (self.new ≡ self.old) }
     {
-        let size = encoded_len(&m);
-        if size > self.limit - self.size {
-            return Err(SendRefused::NetworkFull);
-        }
-        let number = self.messages.len() as u32;
+        self.messages.reserve(1)?;
         let message = Arc::new(*self.messages.allocator(), m)?;
-        self.messages.push(message)?;
-        self.size += size;
+        self.tally.take(&self.messages, &message, self.limit)?;
+        let number = self.messages.len() as u32;
+        self.messages.push_reserved(message);
         Ok(number)
     }
 
@@ -81,11 +80,11 @@ impl Network {
         self.messages.len() as u64
     }
 
-    /// The bytes of all messages together.
-    pub fn size(&self) -> u64
-        ensures exact { result ≡ size_of self.now.sent }
-        ensures within { result ≤ self.now.limit }
+    /// The bytes of all messages together. It costs what `encoded_len` does of each message that wasn't counted yet.
+    pub fn size(&self) -> Result<u64, AllocError>
+        ensures exact { IfOk result (λ size. size ≡ size_of self.now.sent) }
+        ensures within { IfOk result (λ size. size ≤ self.now.limit) }
     {
-        self.size
+        self.tally.exact(&self.messages)
     }
 }

@@ -9,10 +9,13 @@ use Rattle.model_sets.proofs.RowLaws.{ascending-join, ascending-of_rows, join-le
 use Rattle.model_sets.proofs.EquationLaws.{ascending-changed, join-changed, map-grown, filter-grown, union-grown, product-grown, intersect-grown, filter-ascending}
 use Rattle.model_states.specs.Content.{Content, of_set, at_row, IsContentAtMost, size_of}
 use Rattle.model_graph.specs.Graph.{Kind, OrSet, GSet, Counter, MaxReg, Union, Product, Intersection, Map, Filter, Fold}
-use Rattle.lasp_state.specs.declared.state.State.TheVariants.{Fold}
-use Rattle.lasp_orset.proofs.CountLaws.{at_most-length}
+use Rattle.model_states.specs.Threshold.{set}
+use Rattle.lasp_state.specs.declared.state.State.{State}
+use Rattle.lasp_state.specs.declared.state.State.TheVariants as state
+use Rattle.lasp_state.specs.State.{content_of, shape_of}
+use Rattle.model_states.proofs.SizeLaws.{length-at_most}
 use Rattle.lasp_graph.specs.Evaluated.{process}
-use Rattle.lasp_graph.specs.Delta.{IsSetBefore, gained}
+use Rattle.lasp_graph.specs.Delta.{IsSetBefore, IsStateBefore, IsStateOf, gained}
 use Rattle.model_graph.specs.Increment.{IsChange}
 use Rattle.lasp_setops.specs.Grown.{IsGrown}
 use Rattle.lasp_setops.specs.Width.{IsSetOfWidth}
@@ -72,7 +75,7 @@ ascending-gained (Fold i op place lift) x_change x y_change y up = up
 pub long-gained : (n : ℕ) (k : Kind) (x_change x y_change y rows : List Row) → IsSetBefore k x_change x y_change y rows → n < length (gained k x_change x y_change y) → n < size_of (process k (of_set x) (of_set y))
 long-gained n k x_change x y_change y rows h long =
     let more = gained k x_change x y_change y in
-    let most = at_most-length more (join rows more) (ascending-gained k x_change x y_change y h.first_grown.ascends) (ascending-join rows more) (join-right rows more) in
+    let most = length-at_most more (join rows more) (ascending-gained k x_change x y_change y h.first_grown.ascends) (ascending-join rows more) (join-right rows more) in
     let same = ap size_of (set-gained k x_change x y_change y rows h) in
     omega (arith, long, most, same)
 
@@ -110,7 +113,31 @@ intersect-none nothing x none = none ∙ sym (ap of_rows (intersect-nothing x))
 
 -- what is too long is so with more joined in
 pub longer-left : (n : ℕ) (s t : List Row) → IsAscending s → n < length s → n < length (join s t)
-longer-left n s t up long = let most = at_most-length s (join s t) up (ascending-join s t) (join-left s t) in omega (arith, long, most)
+longer-left n s t up long = let most = length-at_most s (join s t) up (ascending-join s t) (join-left s t) in omega (arith, long, most)
 
 pub longer-right : (n : ℕ) (s t : List Row) → IsAscending t → n < length t → n < length (join s t)
-longer-right n s t up long = let most = at_most-length t (join s t) up (ascending-join s t) (join-right s t) in omega (arith, long, most)
+longer-right n s t up long = let most = length-at_most t (join s t) up (ascending-join s t) (join-right s t) in omega (arith, long, most)
+
+-- ---- the states that a process had before
+
+-- a set's content is that of its rows
+set-flat : (s : State) → shape_of s ≡ set → content_of s ≡ of_set (content_of s).rows
+set-flat (state.Set rows) e = refl
+set-flat (state.Grow values) e = absurd cc
+set-flat (state.Count counts) e = absurd cc
+set-flat (state.Max m) e = absurd cc
+set-flat (state.Fold rows n) e = absurd cc
+
+pub change-of : (s s' t t' : State) (c : List Row) → s ≡ s' → t ≡ t' → (IsContentAtMost (content_of s) (content_of t) → IsChange (content_of s).rows c (content_of t).rows)
+    → IsContentAtMost (content_of s') (content_of t') → IsChange (content_of s').rows c (content_of t').rows
+change-of s s' t t' c e f h = subst (λ (p : State × State). IsContentAtMost (content_of p.0) (content_of p.1) → IsChange (content_of p.0).rows c (content_of p.1).rows) (λ i. (e i, f i)) h
+
+pub before-of : (k : Kind) (x y x' y' : State) (x_change y_change : List Row) (old : State) → shape_of x ≡ set → shape_of y ≡ set → IsChange (content_of x).rows x_change (content_of x').rows → IsChange (content_of y).rows y_change (content_of y').rows
+    → IsStateOf k (content_of x) (content_of y) old → IsStateBefore k x_change (content_of x').rows y_change (content_of y').rows old
+before-of k x y x' y' x_change y_change old first second grown more was = record {
+  first = (content_of x).rows;
+  second = (content_of y).rows;
+  first_grown = grown;
+  second_grown = more;
+  state = subst (λ (p : Content × Content). IsStateOf k p.0 p.1 old) (λ i. (set-flat x first i, set-flat y second i)) was;
+}

@@ -27,7 +27,10 @@ join-at-ok {Z = Z} (Ok done) states i old new delta within found h =
     ∙ ap (λ (c : Held). slice_set (all_shown states) i c) (h ∙ ap (λ (c : Held). grown c delta) (held-found states i old within found))
 join-at-ok (Err e) states i old new delta within found h = tt
 
--- and one in which none was
+-- and one in which none was, or one that stayed what it is
+pub same-at : {Z : Type 0} (states : List (Arc State Z)) (i : ℕ) (old new : Arc State Z) → old ≡ get_or states i old → arc_value new ≡ arc_value old → all_shown (slice_set states i new) ≡ all_shown states
+same-at {Z = Z} states i old new found h = map-set_same (λ (s : Arc State Z). shown s) states i new old (ap held_of h ∙ ap (λ (s : Arc State Z). shown s) found)
+
 pub join-at-err : {E Z : Type 0} (r : Result (Unit {0}) E) (states : List (Arc State Z)) (i : ℕ) (old new : Arc State Z) → old ≡ get_or states i old
     → OnErr r (shown new ≡ shown old) → OnErr r (all_shown (slice_set states i new) ≡ all_shown states)
 join-at-err (Ok done) states i old new found h = tt

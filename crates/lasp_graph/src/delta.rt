@@ -9,12 +9,12 @@ use super::graph::Graph;
 use super::increment::{Gain, eval_gain};
 use super::inputs::{EvalRefused, Inputs};
 use lasp_fns::StepLib;
-use lasp_orset::{OrSet, changed};
+use lasp_logset::{OrSet, changed};
 use lasp_state::State;
 use std::alloc::Global;
 
 /// The state of a process on its inputs, from its state on inputs that were at most these. It answers and refuses as `eval_node`.
-/// It finds the changed rows by a search for each row of the inputs, and then costs what `node_increment` costs.
+/// It finds the changed rows by a look-up for each row of the inputs, and then costs what `node_increment` costs.
 pub fn node_delta(
     alloc: Global,
     g: &Graph,
@@ -81,7 +81,7 @@ pub fn node_increment(
 }
 
 /// The state of a process on its inputs, from its state before and the rows that changed in each of them since, any rows that make the difference; and the rows that it gains.
-/// It costs the changed rows and the rows that they give, and a share for each 64 to 128 rows of the result. It calls a stored function at most once for each changed row of the first input.
+/// It costs the changed rows and the rows that they give, and a share of the log of the result. It calls a stored function at most once for each changed row of the first input.
 pub fn node_gain(
     alloc: Global,
     g: &Graph,

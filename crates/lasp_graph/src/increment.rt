@@ -11,7 +11,7 @@ use super::inputs::EvalRefused;
 use super::kind::{FoldOp, Kind, LiftRef, MapRef, PredRef};
 use lasp_fns::StepLib;
 use lasp_fold::{Modulo, Sum, Xor, fold_increment};
-use lasp_orset::OrSet;
+use lasp_logset::OrSet;
 use lasp_setops::{
     SetRefused, filter_counted, intersect_increment, intersect_sets, map_counted,
     product_increment, product_sets, union_sets,
@@ -209,7 +209,7 @@ fn filter_gain(lib: &mut StepLib, p: &PredRef, change: &OrSet) -> Result<OrSet, 
     filter_counted(lib, p.place, change)
 }
 
-/// The fold of a set that changed, from the set and the number before. It covers the changed rows.
+/// The fold of a set that changed, from the set and the number before. It covers the changed rows, in a table of its own and not in that of its input.
 fn fold_gain(
     lib: &mut StepLib,
     op: &FoldOp,
@@ -233,9 +233,11 @@ fn fold_gain(
     ensures library { counted.library_of lib.new ≡ counted.library_of lib.old }
     ensures ticks { counted.ticks_of lib.new ≤ counted.ticks_of lib.old + length change.now }
 {
-    let number = number_after(lib, op, l.place, old, before, change, x);
+    let number = number_after(lib, op, l.place, old, before, change, x)?;
+    let mut covered = before.try_clone()?;
+    covered.join_in(change)?;
     Ok(Gain {
-        state: State::Fold(x.try_clone()?, number),
+        state: State::Fold(covered, number),
         rows: change.try_clone()?,
     })
 }
@@ -249,13 +251,13 @@ fn number_after(
     before: &OrSet,
     change: &OrSet,
     x: &OrSet,
-) -> i128
+) -> Result<i128, AllocError>
     requires place { lift < length (lifts_of (counted.library_of lib.old)) }
     requires sound { IsFoldOp (fold_op_of op.now) }
     requires old { old ≡ fold_rows (fold_op_of op.now) (lift_op_at (counted.library_of lib.old) lift) before.now }
     requires change { IsChange before.now change.now x.now }
     requires limits { IsWithinLimits x.now }
-    ensures number { result ≡ fold_rows (fold_op_of op.now) (lift_op_at (counted.library_of lib.old) lift) x.now }
+    ensures number { IfOk result (λ n. n ≡ fold_rows (fold_op_of op.now) (lift_op_at (counted.library_of lib.old) lift) x.now) }
     ensures library { counted.library_of lib.new ≡ counted.library_of lib.old }
     ensures ticks { counted.ticks_of lib.new ≤ counted.ticks_of lib.old + length change.now }
 {

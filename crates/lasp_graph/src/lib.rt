@@ -17,6 +17,7 @@ mod refused;
 mod sources;
 mod states;
 mod tree;
+mod upkeep;
 mod written;
 
 pub use decl::Decl;

@@ -9,7 +9,7 @@ use super::inputs::EvalRefused;
 use super::kind::{FoldOp, Kind, LiftRef, MapRef, PredRef};
 use lasp_fns::{Library, StoredLift};
 use lasp_fold::{Modulo, Sum, Xor, fold_all};
-use lasp_orset::OrSet;
+use lasp_logset::OrSet;
 use lasp_setops::{SetRefused, filter_set, intersect_sets, map_set, product_sets, union_sets};
 use lasp_state::State;
 use std::alloc::{AllocError, Global};
@@ -121,7 +121,7 @@ fn filtered_set(lib: &Library, p: &PredRef, x: &OrSet) -> Result<OrSet, AllocErr
     filter_set(lib.pred_at(p.place), x)
 }
 
-/// The fold of a set by a lift of the library.
+/// The fold of a set by a lift of the library. It covers the rows without a table, so that the input has its table alone.
 fn folded_set(lib: &Library, op: &FoldOp, l: &LiftRef, x: &OrSet) -> Result<State, AllocError>
     requires fits { operations_at (lifts_of lib.now) l.now.place ≡ Some (lift_op_of l.now.op) }
     requires sound { IsFoldOp (fold_op_of op.now) }
@@ -131,15 +131,15 @@ fn folded_set(lib: &Library, op: &FoldOp, l: &LiftRef, x: &OrSet) -> Result<Stat
     ensures shape { IfOk result (λ s. shape_of s ≡ fold) }
     ensures number { IfOk result (λ s. number_of s ≡ fold_rows (fold_op_of op.now) (lift_op_of l.now.op) x.now) }
 {
-    let number = fold_number(op, lib.lift_at(l.place), x);
-    Ok(State::Fold(x.try_clone()?, number))
+    let number = fold_number(op, lib.lift_at(l.place), x)?;
+    Ok(State::Fold(x.past()?, number))
 }
 
 /// The number of a fold.
-fn fold_number(op: &FoldOp, lift: &StoredLift, x: &OrSet) -> i128
+fn fold_number(op: &FoldOp, lift: &StoredLift, x: &OrSet) -> Result<i128, AllocError>
     requires sound { IsFoldOp (fold_op_of op.now) }
     requires limits { IsWithinLimits x.now }
-    ensures { result ≡ fold_rows (fold_op_of op.now) (lift_of lift.now) x.now }
+    ensures { IfOk result (λ n. n ≡ fold_rows (fold_op_of op.now) (lift_of lift.now) x.now) }
 {
     match op {
         FoldOp::Sum => fold_all(&Sum, lift, x),

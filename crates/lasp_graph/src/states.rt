@@ -11,7 +11,7 @@ use std::sync::Arc;
 /// The states of variables, in their order. Contracts see of each its shape, its content and, of a fold, its number.
 #[derive(Drop)]
 pub struct States {
-    states: Vec<Arc<State>>,
+    pub(crate) states: Vec<Arc<State>>,
 }
 
 impl Model for States {

@@ -4,8 +4,8 @@ ghost use Rattle.std.specs.Prelude.{◌≡◌, ◌≤◌, ◌↔◌, [], Bool, t
 ghost use Rattle.lasp_history.specs.Prelude.{of_rows, no_history, grown, version_before, rows_before, AreBelow};
 
 use super::growth::Growth;
-use super::news::{rows_of, set_of};
-use lasp_orset::{Entry, OrSet};
+use super::news::rows_of;
+use lasp_logset::{Entry, OrSet};
 use std::alloc::{AllocError, Global};
 use std::marker::Model;
 
@@ -87,15 +87,15 @@ impl History {
         }
     }
 
-    /// The rows by which the variable changed since the first `n` entries, as a set. It costs a search for each of these rows, which are shared, and a look at each growth since.
+    /// The rows by which the variable changed since the first `n` entries, as a set. It costs an insertion for each of these rows, which are shared, and a look at each growth since.
     pub fn since(&self, alloc: Global, n: u64) -> Result<OrSet, AllocError>
         ensures { IfOk result (λ s. s ≡ of_rows (drop (rows_before self.now.history.growths n) self.now.history.log)) }
     {
         let first = self.rows_before(n) as usize;
-        set_of(alloc, &self.log[first..])
+        OrSet::of_rows(alloc, &self.log[first..])
     }
 
-    /// Takes all memory that a growth by these rows needs, which are shared; for a variable that is no set, or that grew without rows, they are none. A growth that was prepared before is forgotten, except on an error.
+    /// Takes all memory that a growth by these rows needs, which are shared, and sorts them; for a variable that is no set, or that grew without rows, they are none. A growth that was prepared before is forgotten, except on an error.
     pub fn prepare(&mut self, news: &OrSet) -> Result<(), AllocError>
         ensures history { self.new.history ≡ self.old.history }
         ensures pending { OnOk result (self.new.pending ≡ news.now) }

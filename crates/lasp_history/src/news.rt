@@ -1,30 +1,18 @@
-//! Rows from lists to sets and back, shared.
+//! The rows of a set as a list.
 
 ghost use Rattle.std.specs.Prelude.{◌≡◌, IfOk};
-ghost use Rattle.lasp_history.specs.Prelude.{of_rows};
 
-use lasp_orset::{Entry, OrSet};
+use lasp_logset::{Entry, OrSet};
 use std::alloc::{AllocError, Global};
 
-/// The rows of a set as a list.
+/// The rows of a set as a list, in the order in which the set is seen; they are shared.
 pub(crate) fn rows_of(alloc: Global, set: &OrSet) -> Result<Vec<Entry>, AllocError>
     ensures { IfOk result (λ rows. rows.items ≡ set.now) }
 {
     let mut list = Vec::with_capacity(alloc, set.rows() as usize)?;
-    let mut rows = set.iter();
+    let mut rows = set.in_order()?;
     while let Some(row) = rows.next() {
-        list.push(row.try_clone()?)?;
+        list.push(row.entry()?)?;
     }
     Ok(list)
-}
-
-/// The set of rows that may stand in any order, a row for each key, dead where one of them is.
-pub(crate) fn set_of(alloc: Global, rows: &[Entry]) -> Result<OrSet, AllocError>
-    ensures { IfOk result (λ set. set ≡ of_rows rows.now) }
-{
-    let mut set = OrSet::new(alloc);
-    for row in rows {
-        set.add(row.try_clone()?)?;
-    }
-    Ok(set)
 }

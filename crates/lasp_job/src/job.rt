@@ -15,7 +15,7 @@ ghost use Rattle.lasp_job.specs.Asked.{IsAsked, IsAsked-prop, IsGained, IsGained
 use super::parts::JobParts;
 use lasp_fns::StepLib;
 use lasp_graph::{EvalRefused, Graph, Inputs, node_gain};
-use lasp_orset::OrSet;
+use lasp_logset::OrSet;
 use lasp_state::State;
 use std::alloc::Global;
 use std::sync::Arc;

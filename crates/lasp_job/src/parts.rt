@@ -1,7 +1,7 @@
 //! What a job is made of, once it is given back.
 
 use lasp_graph::{Graph, Inputs};
-use lasp_orset::OrSet;
+use lasp_logset::OrSet;
 use lasp_state::State;
 use std::sync::Arc;
 

@@ -93,6 +93,7 @@ impl Node for CoreNode {
 
     fn state(&mut self, x: u8) -> Result<Arc<State>, AllocError> {
         self.core.recall();
+        self.core.order_rows(x);
         Arc::try_clone(self.core.state(x))
     }
 

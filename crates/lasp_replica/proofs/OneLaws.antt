@@ -102,7 +102,7 @@ kept-covered X h legal e p is x low c joined covered = history-covered X h legal
 -- ---- updates
 
 updated : (X : Frame) (h : List Entry) → IsLegal X h → (e : Entry) (y : ℕ) (op : Op) → e.act ≡ Update y op → (p : Parts) → IsKept X h p → y < length p.graph → IsTrue (is_source (kind_at p.graph y))
-    → (d : Held) → d.content ≡ delta op (val X h y) X.replica (count_at (counts X h) X.replica + 1) → (histories : List History)
+    → (d : Held) → join_contents (val X h y) d.content ≡ join_contents (val X h y) (delta op (val X h y) X.replica (count_at (counts X h) X.replica + 1)) → (histories : List History)
     → length histories ≡ length p.histories → IsHistory X (h ++ e ∷ []) y (history_at histories y)
     → ((x : ℕ) → x < length p.graph → (x ≡ y → ⊥) → history_at histories x ≡ history_at p.histories x)
     → IsKept X (h ++ e ∷ []) (record { graph = p.graph; counts = slice_set p.counts X.replica (count_at p.counts X.replica + 1); states = slice_set p.states y (states.grown (held_at p.states y) d); histories = histories; bases = p.bases })
@@ -110,28 +110,28 @@ updated X h legal e y op act p is low source d joins histories many own others =
     kept-one X h legal e p is y low (states.grown (held_at p.states y) d) (slice_set p.counts X.replica (count_at p.counts X.replica + 1)) histories p.bases
     (graph-updated X h e y op act)
     (ap (λ (cs : List ℕ). slice_set cs X.replica (count_at cs X.replica + 1)) is.counts ∙ sym (update-counts X h e y op act))
-    (update-vals X h legal e y op act (declared-there X h p is y low) ∙ (λ i. slice_set (vals X h) y (join_contents (sym (held-val X h p is y) i) (sym joins i))))
+    (update-vals X h legal e y op act (declared-there X h p is y low) ∙ ap (slice_set (vals X h) y) (sym joins) ∙ ap (λ (c : Content). slice_set (vals X h) y (join_contents c d.content)) (sym (held-val X h p is y)))
     refl
     (λ derived. absurd (let both : true ≡ false = sym source ∙ derived.process in cc))
     many own others refl
     (λ z there. base-stays X h legal e (kind_at p.graph z) z (base_at p.bases z) (base-updated X h e y op z act) (is.bases z there))
 
 updated-own : (X : Frame) (h : List Entry) → IsLegal X h → (e : Entry) (y : ℕ) (op : Op) → e.act ≡ Update y op → (p : Parts) → IsKept X h p → y < length p.graph
-    → (d : Held) → d.content ≡ delta op (val X h y) X.replica (count_at (counts X h) X.replica + 1) → val X (h ++ e ∷ []) y ≡ join_contents (val X h y) d.content
+    → (d : Held) → join_contents (val X h y) d.content ≡ join_contents (val X h y) (delta op (val X h y) X.replica (count_at (counts X h) X.replica + 1)) → val X (h ++ e ∷ []) y ≡ join_contents (val X h y) d.content
 updated-own X h legal e y op act p is low d joins =
     let there : y < length (graph X h) = declared-there X h p is y low in
-    set-own X h legal e y there (join_contents (val X h y) d.content) (update-vals X h legal e y op act there ∙ ap (λ (c : Content). slice_set (vals X h) y (join_contents (val X h y) c)) (sym joins))
+    set-own X h legal e y there (join_contents (val X h y) d.content) (update-vals X h legal e y op act there ∙ ap (slice_set (vals X h) y) (sym joins))
 
 -- an update by which its source doesn't grow
 pub kept-updated-still : (X : Frame) (h : List Entry) → IsLegal X h → (e : Entry) (y : ℕ) (op : Op) → e.act ≡ Update y op → (p : Parts) → IsKept X h p → y < length p.graph → IsTrue (is_source (kind_at p.graph y))
-    → (d : Held) → d.content ≡ delta op (val X h y) X.replica (count_at (counts X h) X.replica + 1) → IsContentAtMost d.content (held_at p.states y).content
+    → (d : Held) → join_contents (val X h y) d.content ≡ join_contents (val X h y) (delta op (val X h y) X.replica (count_at (counts X h) X.replica + 1)) → IsContentAtMost d.content (held_at p.states y).content
     → IsKept X (h ++ e ∷ []) (record { graph = p.graph; counts = slice_set p.counts X.replica (count_at p.counts X.replica + 1); states = slice_set p.states y (states.grown (held_at p.states y) d); histories = p.histories; bases = p.bases })
 kept-updated-still X h legal e y op act p is low source d joins covered =
     updated X h legal e y op act p is low source d joins p.histories refl (kept-covered X h legal e p is y low d.content (updated-own X h legal e y op act p is low d joins) covered) (λ x there apart. refl)
 
 -- an update by which its source grows
 pub kept-updated-grown : (X : Frame) (h : List Entry) → IsLegal X h → (e : Entry) (y : ℕ) (op : Op) → e.act ≡ Update y op → (p : Parts) → IsKept X h p → y < length p.graph → IsTrue (is_source (kind_at p.graph y))
-    → (d : Held) → d.content ≡ delta op (val X h y) X.replica (count_at (counts X h) X.replica + 1) → IsOrdered d.content → (IsContentAtMost d.content (held_at p.states y).content → ⊥)
+    → (d : Held) → join_contents (val X h y) d.content ≡ join_contents (val X h y) (delta op (val X h y) X.replica (count_at (counts X h) X.replica + 1)) → IsOrdered d.content → (IsContentAtMost d.content (held_at p.states y).content → ⊥)
     → IsKept X (h ++ e ∷ []) (record {
       graph = p.graph;
       counts = slice_set p.counts X.replica (count_at p.counts X.replica + 1);

@@ -28,7 +28,6 @@ use Rattle.model_journal.specs.Legal.{IsLegal}
 use Rattle.lasp_replica.specs.Parts.{Parts, IsKept, history_at, news_of}
 use Rattle.lasp_replica.proofs.PartLaws.{held-val}
 use Rattle.lasp_replica.proofs.OneLaws.{kept-updated-still, kept-updated-grown}
-use Rattle.lasp_replica.proofs.OrderLaws.{delta-ordered}
 use Rattle.lasp_state.specs.declared.state.State.{State}
 use Rattle.lasp_state.specs.declared.state.State.TheVariants as variant
 use Rattle.lasp_state.specs.declared.op.Op.{Op}
@@ -205,24 +204,25 @@ suited r x (op.Join t) s is c found = (own-shape r x (op.Join t) s is c found, a
 pub count-found : (r : Replica) (k : ℕ) → slice_get r.counts r.me ≡ Some k → count_at r.counts r.me ≡ k
 count-found r k e = get_or_from_slice_get r.counts r.me k 0 e
 
-pub gained : (r : Replica) (x : ℕ) (o : Op) (s d : State) → IsReplica r → IsChecked r x o → held_at r.states x ≡ held_of s → content_of d ≡ plain.delta (op_of o) (content_of s) r.me (count_at r.counts r.me + 1)
-    → state.shape_of d ≡ state.shape_of s → size_of (join_contents (content_of s) (content_of d)) ≤ row_limit → IsGain r x o d
-gained r x o s d is c found content shape small = record {
+pub gained : (r : Replica) (x : ℕ) (o : Op) (s d : State) → IsReplica r → IsChecked r x o → held_at r.states x ≡ held_of s → join_contents (content_of s) (content_of d) ≡ join_contents (content_of s) (plain.delta (op_of o) (content_of s) r.me (count_at r.counts r.me + 1))
+    → IsOrdered (content_of d) → state.shape_of d ≡ state.shape_of s → size_of (join_contents (content_of s) (content_of d)) ≤ row_limit → IsGain r x o d
+gained r x o s d is c found joined ordered shape small = record {
   declared = c.declared;
   source = c.source;
   suits = c.suits;
   few = c.few;
-  content = content ∙ ap (λ (h : Held). plain.delta (op_of o) h.content r.me (count_at r.counts r.me + 1)) (sym found);
+  joined = subst (λ (h : Held). join_contents h.content (content_of d) ≡ join_contents h.content (plain.delta (op_of o) h.content r.me (count_at r.counts r.me + 1))) (sym found) joined;
+  ordered = ordered;
   small = subst (λ (h : Held). size_of (join_contents h.content (content_of d)) ≤ row_limit) (sym found) small;
   joinable = record { shape = ap (λ (h : Held). h.shape) found ∙ sym shape; nested = λ e. absurd (apart r x o s is c found (sym (ap (λ (h : Held). h.shape) found) ∙ e)) };
 }
 
 pub refusal : (r : Replica) (x : ℕ) (o : Op) (s d : State) → None ≡ update_check (length r.counts) r.me (arc_value r.graph) r.counts x o → held_at r.states x ≡ held_of s
-    → content_of d ≡ plain.delta (op_of o) (content_of s) r.me (count_at r.counts r.me + 1) → (large : Bool) → nat_lt row_limit (size_of (join_contents (content_of s) (content_of d))) ≡ large
+    → join_contents (content_of s) (content_of d) ≡ join_contents (content_of s) (plain.delta (op_of o) (content_of s) r.me (count_at r.counts r.me + 1)) → (large : Bool) → nat_lt row_limit (size_of (join_contents (content_of s) (content_of d))) ≡ large
     → update_refusal (length r.counts) r.me (arc_value r.graph) (contents_of r.states) r.counts x o ≡ (if large then Some update.TooManyRows else None)
-refusal r x o s d fits found content large size =
+refusal r x o s d fits found joined large size =
     ap (λ (c : Content). or_too_many (update_check (length r.counts) r.me (arc_value r.graph) r.counts x o) (nat_lt row_limit (size_of (join_contents c (plain.delta (op_of o) c r.me (count_at r.counts r.me + 1)))))) own
-    ∙ ap (λ (c : Content). or_too_many (update_check (length r.counts) r.me (arc_value r.graph) r.counts x o) (nat_lt row_limit (size_of (join_contents (content_of s) c)))) (sym content)
+    ∙ ap (λ (c : Content). or_too_many (update_check (length r.counts) r.me (arc_value r.graph) r.counts x o) (nat_lt row_limit (size_of c))) (sym joined)
     ∙ ap (λ (b : Bool). or_too_many (update_check (length r.counts) r.me (arc_value r.graph) r.counts x o) b) size
     ∙ ap (λ (w : Option UpdateRefused). or_too_many w large) (sym fits) where
       own : content_at (contents_of r.states) x ≡ content_of s
@@ -375,11 +375,12 @@ updated old mid new by x entry o d grows is within format gain ready graph openi
   value : (held_at old.states x).content ≡ val X h x
   value = held-val X h (parts_of old) is.kept x
 
-  brought : content_of d ≡ plain.delta (op_of o) (val X h x) old.me (count_at (journal.counts X h) old.me + 1)
-  brought = gain.content ∙ (λ i. plain.delta (op_of o) (value i) old.me (count_at (is.kept.counts i) old.me + 1))
+  brought : join_contents (val X h x) (content_of d) ≡ join_contents (val X h x) (plain.delta (op_of o) (val X h x) old.me (count_at (journal.counts X h) old.me + 1))
+  brought = subst (λ (c : Content). join_contents c (content_of d) ≡ join_contents c (plain.delta (op_of o) c old.me (count_at (journal.counts X h) old.me + 1))) value
+      (gain.joined ∙ ap (λ (cs : List ℕ). join_contents (held_at old.states x).content (plain.delta (op_of o) (held_at old.states x).content old.me (count_at cs old.me + 1))) is.kept.counts)
 
   small : size_of (join_contents (val X h x) (plain.delta (op_of o) (val X h x) old.me (count_at (journal.counts X h) old.me + 1))) ≤ row_limit
-  small = subst (λ (c : Content). size_of (join_contents (val X h x) c) ≤ row_limit) brought (subst (λ (c : Content). size_of (join_contents c (content_of d)) ≤ row_limit) value gain.small)
+  small = subst (λ (c : Content). size_of c ≤ row_limit) brought (subst (λ (c : Content). size_of (join_contents c (content_of d)) ≤ row_limit) value gain.small)
 
   legal' : IsLegal X h'
   legal' = legal-update X h is.legal e x (op_of o) refl low update-is few small
@@ -414,8 +415,7 @@ updated old mid new by x entry o d grows is within format gain ready graph openi
       subst (λ (p : Parts). IsKept X h' p)
       (parts (slice_set (map told old.histories.items) x (history.grown (history_at (map told old.histories.items) x) (news_of (held_at old.states x).shape (held_at old.states x).content (content_of d)) (length h)))
       (told_is ∙ (λ i. slice_set (ready.histories i) x (history.grown (own i) (ready.pending i) (here i)))))
-      (kept-updated-grown X h is.legal e x (op_of o) refl (parts_of old) is.kept gain.declared gain.source (held_of d) brought
-      (subst (λ (c : Content). IsOrdered c) (sym brought) (delta-ordered X h e x (op_of o) refl legal'))
+      (kept-updated-grown X h is.legal e x (op_of o) refl (parts_of old) is.kept gain.declared gain.source (held_of d) brought gain.ordered
       (λ covered. let p : true ≡ false = f.1 covered in cc))
 
   kept' : IsKept X h' (parts_of new)

@@ -3,7 +3,7 @@ use Rattle.std.specs.Prelude.{◌≡◌, ℕ, ◌+◌, ◌<◌, ◌≤◌, ◌�
 use Rattle.std.specs.Arc.{arc_value}
 use mir.Syntax.{w64}
 use Rattle.model_states.specs.Counts.{count_at}
-use Rattle.model_states.specs.Content.{join_contents, size_of, row_limit, IsContentAtMost}
+use Rattle.model_states.specs.Content.{join_contents, size_of, row_limit, IsContentAtMost, IsOrdered}
 use Rattle.model_states.specs.Update.{delta}
 use Rattle.model_graph.specs.Graph.{is_source, kind_at}
 use Rattle.model_wire.specs.Lawful.{IsSpellable}
@@ -29,13 +29,14 @@ IsInFormat (op.Inc by) = Unit {0}
 IsInFormat (op.Max n) = FitsSigned w64 n
 IsInFormat (op.Join s) = Unit {0}
 
--- nothing refuses an update of variable x, and this is what it joins in
+-- nothing refuses an update of variable x, and this joined in is what its delta joined in is
 pub record IsGain (r : Replica) (x : ℕ) (o : Op) (d : State) : Type 0 where
   pub declared : x < length (arc_value r.graph)
   pub source : IsTrue (is_source (kind_at (arc_value r.graph) x))
   pub suits : IsTrue (is_for (length r.counts) o (kind_at (arc_value r.graph) x))
   pub few : count_at r.counts r.me < 100000
-  pub content : content_of d ≡ delta (op_of o) (held_at r.states x).content r.me (count_at r.counts r.me + 1)
+  pub joined : join_contents (held_at r.states x).content (content_of d) ≡ join_contents (held_at r.states x).content (delta (op_of o) (held_at r.states x).content r.me (count_at r.counts r.me + 1))
+  pub ordered : IsOrdered (content_of d)
   pub small : size_of (join_contents (held_at r.states x).content (content_of d)) ≤ row_limit
   pub joinable : AreJoinable (held_at r.states x) (held_of d)
 

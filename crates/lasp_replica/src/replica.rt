@@ -11,6 +11,7 @@ mod settled;
 mod sizes;
 mod take;
 mod update;
+mod upkeep;
 
 use crate::entry::Entry;
 use crate::process::Process;

@@ -42,8 +42,12 @@ intersect-grown = grown-by intersect_set intersect-join_left intersect-join_righ
 
 -- ---- along the steps of an increment
 
-pub union-steps : (x c x' y d y' old : List Row) → IsGrown x c x' → IsGrown y d y' → old ≡ union_set x y → join (join old c) d ≡ union_set x' y'
+union-steps : (x c x' y d y' old : List Row) → IsGrown x c x' → IsGrown y d y' → old ≡ union_set x y → join (join old c) d ≡ union_set x' y'
 union-steps x c x' y d y' old h k is = (λ i. join (join (is i) c) d) ∙ union-grown x c x' y d y' h k
+
+-- both changes joined in at once
+pub union-gain : (x c x' y d y' old gain : List Row) → gain ≡ join c d → IsGrown x c x' → IsGrown y d y' → old ≡ union_set x y → join old gain ≡ union_set x' y'
+union-gain x c x' y d y' old gain made h k is = ap (join old) made ∙ sym (join-associative old c d) ∙ union-steps x c x' y d y' old h k is
 
 pub product-steps : (x c x' y d y' old : List Row) → IsGrown x c x' → IsGrown y d y' → old ≡ product_set x y → join (join old (product_set c y')) (product_set x' d) ≡ product_set x' y'
 product-steps x c x' y d y' old h k is = (λ i. join (join (is i) (product_set c y')) (product_set x' d)) ∙ product-grown x c x' y d y' h k

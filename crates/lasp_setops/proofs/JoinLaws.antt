@@ -4,10 +4,10 @@ use Rattle.model_values.specs.Value.{Val}
 use Rattle.model_values.specs.Row.{Row}
 use Rattle.model_sets.specs.Rows.{IsAscending, put, join, of_rows, is_of}
 use Rattle.model_sets.specs.Equations.{met, moved, filter_set}
-use Rattle.model_sets.proofs.RowLaws.{ascending-put, ascending-join, ascending-of_rows, join-append, join-row, join-nothing, join-of_rows, of_rows-ascending, mark-of_rows, same_from_mark}
+use Rattle.model_sets.proofs.RowLaws.{ascending-put, ascending-join, ascending-of_rows, join-append, join-row, join-nothing, join-of_rows, join-associative, join-commutative, of_rows-ascending, mark-of_rows, same_from_mark}
 use Rattle.model_sets.proofs.EquationLaws.{filter-mark, filter-ascending}
 use Rattle.model_sets.proofs.LoopLaws.{length-join}
-use Rattle.lasp_orset.proofs.EntryLaws.{entries-mark}
+use Rattle.lasp_setops.proofs.EntryLaws.{entries-mark}
 use Rattle.lasp_setops.specs.declared.refused.SetRefused.{SetRefused}
 use Rattle.lasp_setops.specs.Joined.{IsJoinedUpTo, meetings}
 
@@ -114,7 +114,7 @@ next-left p s rows rest w r v at is failed h =
 pub last-kept : (p : Val → Bool) (s rows w : List Row) → rows ≡ [] → IsJoinedUpTo s (filter_set p rows) w → s ≡ w
 last-kept p s rows w none h = joined-done s w (subst (λ (u : List Row). IsJoinedUpTo s (filter_set p u) w) none h)
 
--- ---- what is joined into a fresh set, and the length along two steps
+-- ---- what is joined into a fresh set
 
 pub join-fresh : (s t : List Row) → s ≡ [] → IsAscending t → join s t ≡ t
 join-fresh s t none up = (λ i. join (none i) t) ∙ of_rows-ascending t up
@@ -122,19 +122,21 @@ join-fresh s t none up = (λ i. join (none i) t) ∙ of_rows-ascending t up
 pub long-fresh : (n : ℕ) (s t : List Row) → s ≡ [] → IsAscending t → n < length (join s t) → n < length t
 long-fresh n s t none up h = subst (λ (u : List Row). n < length u) (join-fresh s t none up) h
 
-pub long-old : (n : ℕ) (old a b whole : List Row) → IsAscending old → join (join old a) b ≡ whole → n < length old → n < length whole
-long-old n old a b whole up is h =
+-- ---- a gain that is made of two parts and joined in at once
+
+long-right : (n : ℕ) (s t : List Row) → IsAscending t → n < length t → n < length (join s t)
+long-right n s t up h = let turned : length (join t s) ≡ length (join s t) = ap length (join-commutative t s) in omega (arith, h, turned, length-grows t s up)
+
+pub gain-first : (n : ℕ) (none old a b whole : List Row) → none ≡ [] → IsAscending a → join (join old a) b ≡ whole → n < length (join none a) → n < length whole
+gain-first n none old a b whole empty up is h =
     let same : length (join (join old a) b) ≡ length whole = ap length is in
-    omega (arith, h, same, length-grows old a up, length-grows (join old a) b (ascending-join old a))
+    omega (arith, same, long-right n old a up (long-fresh n none a empty up h), length-grows (join old a) b (ascending-join old a))
 
-pub long-first : (n : ℕ) (all old a b whole : List Row) → all ≡ old → join (join old a) b ≡ whole → n < length (join all a) → n < length whole
-long-first n all old a b whole copy is h =
-    let same : length (join (join old a) b) ≡ length whole = ap length is in
-    let first : length (join all a) ≡ length (join old a) = ap (λ (s : List Row). length (join s a)) copy in
-    omega (arith, h, same, first, length-grows (join old a) b (ascending-join old a))
+pub gain-second : (n : ℕ) (none first old a b whole : List Row) → none ≡ [] → IsAscending a → first ≡ join none a → join (join old a) b ≡ whole → n < length (join first b) → n < length whole
+gain-second n none first old a b whole empty up one is h =
+    let more : n < length (join a b) = subst (λ (s : List Row). n < length (join s b)) (one ∙ join-fresh none a empty up) h in
+    subst (λ (s : List Row). n < length s) (sym (join-associative old a b) ∙ is) (long-right n old (join a b) (ascending-join a b) more)
 
-pub long-second : (n : ℕ) (s all old a b whole : List Row) → s ≡ join all a → all ≡ old → join (join old a) b ≡ whole → n < length (join s b) → n < length whole
-long-second n s all old a b whole first copy is h = subst (λ (u : List Row). n < length u) ((λ i. join ((first ∙ ap (λ (u : List Row). join u a) copy) i) b) ∙ is) h
-
-pub two-steps : (all s t old a b whole : List Row) → all ≡ old → s ≡ join all a → t ≡ join s b → join (join old a) b ≡ whole → t ≡ whole
-two-steps all s t old a b whole copy first second is = second ∙ (λ i. join ((first ∙ ap (λ (u : List Row). join u a) copy) i) b) ∙ is
+pub gain-joined : (none first gain old a b whole : List Row) → none ≡ [] → IsAscending a → first ≡ join none a → gain ≡ join first b → join (join old a) b ≡ whole → join old gain ≡ whole
+gain-joined none first gain old a b whole empty up one two is =
+    ap (join old) (two ∙ ap (λ (s : List Row). join s b) (one ∙ join-fresh none a empty up)) ∙ sym (join-associative old a b) ∙ is

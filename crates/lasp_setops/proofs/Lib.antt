@@ -1,3 +1,4 @@
+pub mod EntryLaws
 pub mod JoinLaws
 pub mod TickLaws
 pub mod SwapLaws

@@ -10,7 +10,7 @@ use Rattle.model_sets.specs.Rows.{mark, of_rows, join, is_of, IsAscending}
 use Rattle.model_sets.specs.Rises.{AreApart}
 use Rattle.model_sets.specs.Equations.{paired, met, product_set, intersect_set}
 use Rattle.model_sets.proofs.RowLaws.{mark-append, mark-join, mark-of_rows, ascending-join, same_from_mark, join-of_rows}
-use Rattle.lasp_orset.proofs.EntryLaws.{map-flat, join-entries}
+use Rattle.lasp_setops.proofs.EntryLaws.{map-flat, join-entries}
 use Rattle.lasp_setops.specs.Joined.{meetings}
 
 module _ (g : Row → Row → List Row) where

@@ -11,7 +11,7 @@ use Rattle.model_sets.proofs.RowLaws.{is-Equal, mark-put}
 use Rattle.model_sets.specs.Equations.{map_set, filter_set, union_set, product_set, intersect_set}
 use Rattle.model_sets.proofs.WordLaws.{map-has, filter-has, union-has, product-has, product-only, intersect-has, intersect-only}
 use Rattle.model_sets.proofs.EquationLaws.{tied_key}
-use Rattle.lasp_orset.proofs.EntryLaws.{entries-mark}
+use Rattle.lasp_setops.proofs.EntryLaws.{entries-mark}
 use Rattle.lasp_fns.proofs.SizeLaws.{width-mapped}
 use Rattle.lasp_setops.specs.Width.{IsSetOfWidth}
 

@@ -5,7 +5,7 @@ ghost use Rattle.lasp_setops.specs.Prelude.{mapped, passes, map_set, filter_set,
 
 use crate::row::with_value;
 use lasp_fns::StepLib;
-use lasp_orset::OrSet;
+use lasp_logset::OrSet;
 use std::alloc::{AllocError, Global};
 
 /// The map by the function at a place, with at most one call for each row.
@@ -17,7 +17,7 @@ pub fn map_counted(alloc: Global, lib: &mut StepLib, f: u32, x: &OrSet) -> Resul
     ensures ticks { ticks_of lib.new ≤ ticks_of lib.old + length x.now }
 {
     let mut out = x.empty();
-    let mut rows = x.entries();
+    let mut rows = x.entries()?;
     while let Some(row) = rows.next() {
         let value = row.value();
         value.recall_ints();
@@ -38,7 +38,7 @@ pub fn filter_counted(lib: &mut StepLib, p: u32, x: &OrSet) -> Result<OrSet, All
 {
     x.ascends();
     let mut out = x.empty();
-    let mut rows = x.entries();
+    let mut rows = x.entries()?;
     while let Some(row) = rows.next() {
         let value = row.value();
         value.recall_ints();

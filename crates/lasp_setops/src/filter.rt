@@ -4,7 +4,7 @@ ghost use Rattle.std.specs.Prelude.{◌≡◌, IfOk};
 ghost use Rattle.lasp_setops.specs.Prelude.{passes, filter_set, conditions_of, IsSetOfWidth};
 
 use lasp_fns::StoredPred;
-use lasp_orset::OrSet;
+use lasp_logset::OrSet;
 use std::alloc::AllocError;
 
 /// The rows whose value passes, live and dead ones. It costs a call and an insertion for each row; rows of texts, pairs and their tokens are shared.
@@ -14,7 +14,7 @@ pub fn filter_set(p: &StoredPred, x: &OrSet) -> Result<OrSet, AllocError>
 {
     x.ascends();
     let mut out = x.empty();
-    let mut rows = x.entries();
+    let mut rows = x.entries()?;
     while let Some(row) = rows.next() {
         let value = row.value();
         value.recall_ints();

@@ -1,14 +1,14 @@
-//! Each process after its inputs changed: from the result before, the changed rows, and for two inputs the sets as they are now. The cost is that of the changed rows and of the rows that they give, and a share for each 64 to 128 rows of the result.
+//! Each process after its inputs changed: from the result before, the changed rows, and for two inputs the sets as they are now. The cost is that of the changed rows and of the rows that they give, and a share of the log of the result: what a change gives is made apart and joined in at once.
 
 ghost use Rattle.std.specs.Prelude.{◌≡◌, ◌<◌, ◌≤◌, ◌+◌, Err, IfOk, List, length};
 ghost use Rattle.lasp_setops.specs.Prelude.{Row, mapped, passes, map_set, filter_set, union_set, product_set, intersect_set, row_limit, maps_of, predicates_of, map_ops_at, pred_ops_at, library_of, ticks_of, IsSetOfWidth, IsGrown};
 
 use crate::counted::{filter_counted, map_counted};
 use crate::refused::SetRefused;
-use crate::row::check_rows;
+use crate::union::{joined, union_sets};
 use crate::{intersection, product};
 use lasp_fns::StepLib;
-use lasp_orset::OrSet;
+use lasp_logset::OrSet;
 use std::alloc::{AllocError, Global};
 
 /// The map by the function at a place after a change, from the map before. It calls the function at most once for each changed row.
@@ -57,11 +57,8 @@ pub fn union_increment(old: &OrSet, x_change: &OrSet, y_change: &OrSet) -> Resul
     ensures small { IfOk result (λ s. length s ≤ row_limit) }
     ensures too_many { result ≡ Err SetRefused.TooManyRows → (x x_after y y_after : List Row) → IsGrown x x_change.now x_after → IsGrown y y_change.now y_after → old.now ≡ union_set x y → row_limit < length (union_set x_after y_after) }
 {
-    let mut all = old.try_clone()?;
-    all.join_in(x_change)?;
-    all.join_in(y_change)?;
-    check_rows(&all)?;
-    Ok(all)
+    let gain = joined(x_change, y_change)?;
+    union_sets(old, &gain)
 }
 
 /// The product after changes of its inputs, from the product before. The sets are those after the changes.
@@ -77,12 +74,10 @@ pub fn product_increment(
     ensures small { IfOk result (λ s. length s ≤ row_limit) }
     ensures too_many { result ≡ Err SetRefused.TooManyRows → (x_before y_before : List Row) → IsGrown x_before x_change.now x.now → IsGrown y_before y_change.now y.now → old.now ≡ product_set x_before y_before → row_limit < length (product_set x.now y.now) }
 {
-    old.ascends();
-    check_rows(old)?;
-    let mut all = old.try_clone()?;
-    product::add_first(alloc, &mut all, x_change, y)?;
-    product::add_second(alloc, &mut all, x, y_change)?;
-    Ok(all)
+    let mut gain = old.empty();
+    product::add_first(alloc, &mut gain, x_change, y)?;
+    product::add_second(alloc, &mut gain, x, y_change)?;
+    union_sets(old, &gain)
 }
 
 /// The intersection after changes of its inputs, from the intersection before. The sets are those after the changes.
@@ -98,10 +93,8 @@ pub fn intersect_increment(
     ensures small { IfOk result (λ s. length s ≤ row_limit) }
     ensures too_many { result ≡ Err SetRefused.TooManyRows → (x_before y_before : List Row) → IsGrown x_before x_change.now x.now → IsGrown y_before y_change.now y.now → old.now ≡ intersect_set x_before y_before → row_limit < length (intersect_set x.now y.now) }
 {
-    old.ascends();
-    check_rows(old)?;
-    let mut all = old.try_clone()?;
-    intersection::add_first(alloc, &mut all, x_change, y)?;
-    intersection::add_second(alloc, &mut all, x, y_change)?;
-    Ok(all)
+    let mut gain = old.empty();
+    intersection::add_first(alloc, &mut gain, x_change, y)?;
+    intersection::add_second(alloc, &mut gain, x, y_change)?;
+    union_sets(old, &gain)
 }

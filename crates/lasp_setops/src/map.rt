@@ -5,17 +5,17 @@ ghost use Rattle.lasp_setops.specs.Prelude.{mapped, map_set, ops_of, IsSetOfWidt
 
 use crate::row::with_value;
 use lasp_fns::StoredMap;
-use lasp_orset::OrSet;
+use lasp_logset::OrSet;
 use std::alloc::{AllocError, Global};
 
 /// The function's value of each row's value, under the row's token; dead where any row that gives it is dead.
-/// It costs a call and a search for each row.
+/// It costs a call and a look-up for each row.
 pub fn map_set(alloc: Global, f: &StoredMap, x: &OrSet) -> Result<OrSet, AllocError>
     requires width { IsSetOfWidth 16 x.now }
     ensures { IfOk result (λ s. s ≡ map_set (mapped (ops_of f.now)) x.now) }
 {
     let mut out = x.empty();
-    let mut rows = x.entries();
+    let mut rows = x.entries()?;
     while let Some(row) = rows.next() {
         let value = row.value();
         value.recall_ints();

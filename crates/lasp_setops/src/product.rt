@@ -5,11 +5,11 @@ ghost use Rattle.lasp_setops.specs.Prelude.{join, product_set, paired, row_limit
 
 use crate::refused::SetRefused;
 use crate::row::{add_within, paired};
-use lasp_orset::{EntryRef, OrSet};
+use lasp_logset::{OrSet, TableRow};
 use std::alloc::Global;
 
 /// Each row of the first set with each row of the second: both values as a pair, both tokens, dead where either is.
-/// It costs a search for each row of the result, of which at most one more is made than may be.
+/// It costs a look-up for each row of the result, of which at most one more is made than may be.
 pub fn product_sets(alloc: Global, x: &OrSet, y: &OrSet) -> Result<OrSet, SetRefused>
     ensures ok { IfOk result (λ s. s ≡ product_set x.now y.now) }
     ensures small { IfOk result (λ s. length s ≤ row_limit) }
@@ -33,7 +33,7 @@ pub(crate) fn add_first(
     ensures too_many { result ≡ Err SetRefused.TooManyRows → row_limit < length (join out.old (product_set x.now y.now)) }
 {
     out.ascends();
-    let mut rows = x.entries();
+    let mut rows = x.entries()?;
     while let Some(row) = rows.next() {
         pair_with(alloc, out, &row, y)?;
     }
@@ -53,7 +53,7 @@ pub(crate) fn add_second(
     ensures too_many { result ≡ Err SetRefused.TooManyRows → row_limit < length (join out.old (product_set x.now y.now)) }
 {
     out.ascends();
-    let mut rows = y.entries();
+    let mut rows = y.entries()?;
     while let Some(row) = rows.next() {
         pair_each(alloc, out, x, &row)?;
     }
@@ -61,14 +61,14 @@ pub(crate) fn add_second(
 }
 
 /// Joins in a row with each row of a set.
-fn pair_with(alloc: Global, out: &mut OrSet, row: &EntryRef, y: &OrSet) -> Result<(), SetRefused>
+fn pair_with(alloc: Global, out: &mut OrSet, row: &TableRow, y: &OrSet) -> Result<(), SetRefused>
     requires { length out.old ≤ row_limit }
     ensures ok { OnOk result (out.new ≡ join out.old (map (paired row.now) y.now)) }
     ensures small { OnOk result (length out.new ≤ row_limit) }
     ensures too_many { result ≡ Err SetRefused.TooManyRows → row_limit < length (join out.old (map (paired row.now) y.now)) }
 {
     out.ascends();
-    let mut others = y.entries();
+    let mut others = y.entries()?;
     while let Some(other) = others.next() {
         let pair = paired(alloc, row, &other)?;
         add_within(out, pair)?;
@@ -77,14 +77,14 @@ fn pair_with(alloc: Global, out: &mut OrSet, row: &EntryRef, y: &OrSet) -> Resul
 }
 
 /// Joins in each row of a set with a row.
-fn pair_each(alloc: Global, out: &mut OrSet, x: &OrSet, row: &EntryRef) -> Result<(), SetRefused>
+fn pair_each(alloc: Global, out: &mut OrSet, x: &OrSet, row: &TableRow) -> Result<(), SetRefused>
     requires { length out.old ≤ row_limit }
     ensures ok { OnOk result (out.new ≡ join out.old (map (λ r. paired r row.now) x.now)) }
     ensures small { OnOk result (length out.new ≤ row_limit) }
     ensures too_many { result ≡ Err SetRefused.TooManyRows → row_limit < length (join out.old (map (λ r. paired r row.now) x.now)) }
 {
     out.ascends();
-    let mut others = x.entries();
+    let mut others = x.entries()?;
     while let Some(other) = others.next() {
         let pair = paired(alloc, &other, row)?;
         add_within(out, pair)?;

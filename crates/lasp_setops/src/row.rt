@@ -5,7 +5,7 @@ ghost use Rattle.lasp_setops.specs.Prelude.{put, paired, met, row_limit, val_of,
 ghost use Rattle.model_values.specs.Token as tok;
 
 use crate::refused::SetRefused;
-use lasp_orset::{Entry, EntryRef, OrSet};
+use lasp_logset::{Entry, OrSet, TableRow};
 use lasp_value::{Token, Value};
 use std::alloc::{AllocError, Global};
 
@@ -13,7 +13,7 @@ use std::alloc::{AllocError, Global};
 const MOST_ROWS: u64 = 65_536;
 
 /// The row with another value.
-pub(crate) fn with_value(alloc: Global, row: &EntryRef, value: Value) -> Result<Entry, AllocError>
+pub(crate) fn with_value(alloc: Global, row: &TableRow, value: Value) -> Result<Entry, AllocError>
     ensures { IfOk result (λ r. r ≡ ((val_of value, row.now.0.1), row.now.1)) }
 {
     let token = row.token().try_clone(alloc)?;
@@ -21,7 +21,7 @@ pub(crate) fn with_value(alloc: Global, row: &EntryRef, value: Value) -> Result<
 }
 
 /// Two rows as one: both values and both tokens, dead where either is.
-pub(crate) fn paired(alloc: Global, row: &EntryRef, other: &EntryRef) -> Result<Entry, AllocError>
+pub(crate) fn paired(alloc: Global, row: &TableRow, other: &TableRow) -> Result<Entry, AllocError>
     ensures { IfOk result (λ r. r ≡ paired row.now other.now) }
 {
     let first = row.value().try_clone(alloc)?;
@@ -32,7 +32,7 @@ pub(crate) fn paired(alloc: Global, row: &EntryRef, other: &EntryRef) -> Result<
 }
 
 /// Two rows of one value as one: both tokens, dead where either is.
-pub(crate) fn met(alloc: Global, row: &EntryRef, other: &EntryRef) -> Result<Entry, AllocError>
+pub(crate) fn met(alloc: Global, row: &TableRow, other: &TableRow) -> Result<Entry, AllocError>
     ensures { IfOk result (λ r. r ≡ met row.now other.now) }
 {
     let value = row.value().try_clone(alloc)?;
@@ -40,7 +40,7 @@ pub(crate) fn met(alloc: Global, row: &EntryRef, other: &EntryRef) -> Result<Ent
     Entry::new(alloc, value, tokens, row.is_dead() || other.is_dead())
 }
 
-fn both(alloc: Global, row: &EntryRef, other: &EntryRef) -> Result<Token, AllocError>
+fn both(alloc: Global, row: &TableRow, other: &TableRow) -> Result<Token, AllocError>
     ensures { IfOk result (λ t. tok_of t ≡ tok.both row.now.0.1 other.now.0.1) }
 {
     let first = row.token().try_clone(alloc)?;

@@ -5,10 +5,10 @@ ghost use Rattle.lasp_setops.specs.Prelude.{join, row_limit};
 
 use crate::refused::SetRefused;
 use crate::row::check_rows;
-use lasp_orset::OrSet;
+use lasp_logset::OrSet;
 use std::alloc::AllocError;
 
-/// The rows of either set, dead where dead in either. It costs a share of the larger set and a search for each row of the smaller one.
+/// The rows of either set, dead where dead in either. It costs a share of the larger set and a look-up for each row of the smaller one.
 pub fn union_sets(x: &OrSet, y: &OrSet) -> Result<OrSet, SetRefused>
     ensures ok { IfOk result (λ s. s ≡ join x.now y.now) }
     ensures small { IfOk result (λ s. length s ≤ row_limit) }
@@ -19,7 +19,8 @@ pub fn union_sets(x: &OrSet, y: &OrSet) -> Result<OrSet, SetRefused>
     Ok(all)
 }
 
-fn joined(x: &OrSet, y: &OrSet) -> Result<OrSet, AllocError>
+/// The rows of either set, however many.
+pub(crate) fn joined(x: &OrSet, y: &OrSet) -> Result<OrSet, AllocError>
     ensures { IfOk result (λ s. s ≡ join x.now y.now) }
 {
     if x.rows() < y.rows() {

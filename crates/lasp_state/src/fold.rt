@@ -7,7 +7,7 @@ ghost use Rattle.lasp_state.specs.State.{content_of, shape_of, number_of, joined
 use super::state::State;
 use std::alloc::AllocError;
 
-/// Takes the other state where that is greater, and tells whether it is. It costs a search for each of the other's rows; the rows are shared.
+/// Takes the other state where that is greater, and tells whether it is. It costs a look-up for each of the other's rows; the rows are shared.
 pub(crate) fn take_greater(mine: &mut State, other: &State) -> Result<bool, AllocError>
     requires shape { shape_of mine.old ≡ shape_of other.now }
     requires nested { IsContentAtMost (content_of mine.old) (content_of other.now) ⊎ IsContentAtMost (content_of other.now) (content_of mine.old) }

@@ -12,6 +12,7 @@ mod op;
 mod print;
 mod state;
 mod threshold;
+mod upkeep;
 
 pub use laws::{states_are_a_lattice, thresholds_stay_met};
 pub use op::Op;

@@ -12,7 +12,7 @@ use super::fold::take_greater;
 use super::op::Op;
 use super::print::{print_fold, print_number, print_total};
 use lasp_counters::{GCount, GSet, MaxReg};
-use lasp_orset::{OrSet, add_delta};
+use lasp_logset::{OrSet, add_delta};
 use std::alloc::{AllocError, Global};
 
 /// What a variable holds. It only grows, by joins.
@@ -104,6 +104,19 @@ impl State {
         }
     }
 
+    /// An equal state without tables, for what is kept while this one goes on growing. Reads that need a table make one each time.
+    pub fn past(&self) -> Result<State, AllocError>
+        ensures { IfOk result (λ s. s ≡ self.now) }
+    {
+        match self {
+            State::Set(set) => Ok(State::Set(set.past()?)),
+            State::Grow(values) => Ok(State::Grow(values.past()?)),
+            State::Count(counts) => Ok(State::Count(counts.try_clone()?)),
+            State::Max(register) => Ok(State::Max(*register)),
+            State::Fold(set, number) => Ok(State::Fold(set.past()?, *number)),
+        }
+    }
+
     /// The order: whether the other state knows all that this one knows. Folds are ordered by the sets that they cover.
     pub fn le(&self, other: &State) -> bool
         requires { shape_of self.now ≡ shape_of other.now }
@@ -160,7 +173,7 @@ impl State {
         matches!(self, State::Fold(_, _))
     }
 
-    /// What the update with number k of a replica joins into this state.
+    /// What the update with number k of a replica joins into this state. A removal costs a pass over the rows.
     pub fn delta(&self, alloc: Global, op: &Op, replica: u8, k: u64) -> Result<State, AllocError>
         requires { IsOpOf op.now replica (shape_of self.now) }
         ensures content { IfOk result (λ s. content_of s ≡ delta (op_of op.now) (content_of self.now) replica k) }
@@ -178,8 +191,20 @@ impl State {
             (State::Max(_), Op::Max(number)) => Ok(State::Max(MaxReg {
                 value: Some(*number),
             })),
-            (_, Op::Join(state)) => state.try_clone(),
+            (_, Op::Join(state)) => state.past(),
             (_, _) => unreachable!(),
+        }
+    }
+
+    /// What the update with number k of a replica brings to this state: joined in here it does what `delta` does, but of a removal it has the value's live rows alone, so that it costs these where the values are indexed.
+    pub fn change(&self, alloc: Global, op: &Op, replica: u8, k: u64) -> Result<State, AllocError>
+        requires { IsOpOf op.now replica (shape_of self.now) }
+        ensures content { IfOk result (λ s. join_contents (content_of self.now) (content_of s) ≡ join_contents (content_of self.now) (delta (op_of op.now) (content_of self.now) replica k)) }
+        ensures shape { IfOk result (λ s. shape_of s ≡ shape_of self.now) }
+    {
+        match (self, op) {
+            (State::Set(set), Op::Remove(value)) => Ok(State::Set(set.bury_delta(value)?)),
+            (_, _) => self.delta(alloc, op, replica, k),
         }
     }
 

@@ -42,7 +42,7 @@ impl Threshold {
         }
     }
 
-    /// Whether a state that it suits is at the threshold. It costs the order, or a search for each value, and takes no memory.
+    /// Whether a state that it suits is at the threshold. It costs the order, or for each value two look-ups, its rows, and a pass over the rows that came since `State::index_rows`. The order makes a table where the state that is looked up in has none, and does without where memory for that is refused.
     pub fn meets(&self, s: &State) -> bool
         requires { IsTrue (suits (threshold_of self.now) (shape_of s.now)) }
         ensures { result ≡ meets (threshold_of self.now) (content_of s.now) }

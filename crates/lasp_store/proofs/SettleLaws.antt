@@ -113,6 +113,14 @@ own-same old new own-old own-new t =
     ∙ append-nil old.own
     ∙ own-old.own
 
+-- and behind a turn of an entry of its own
+pub own-one : (old new : Knows) (e : Entry) → KnowsOwn old → KnowsOwn new → HadTurn (e ∷ []) old new → made_by old.number new.seen ≡ made_by old.number old.seen ++ e ∷ []
+own-one old new e own-old own-new t =
+    ap (λ (n : ℕ). made_by n new.seen) (sym (ap (λ (p : Knows). p.number) t.pass))
+    ∙ sym own-new.own
+    ∙ ap (λ (p : Knows). p.own) t.pass
+    ∙ ap (λ (own : List Entry). own ++ e ∷ []) own-old.own
+
 -- ---- what the feed declares
 
 declared-append : (a b : List Entry) → declared (a ++ b) ≡ declared a ++ declared b

@@ -19,6 +19,7 @@ pub use Rattle.model_wire.specs.Reader.{between, bytes_at, kind_at, list_at, mad
 pub use Rattle.model_wire.specs.Stuck.{IsStuck}
 pub use Rattle.model_wire.specs.Value.{is_above, latest, mark_cmp, part, part_at, row_at, signed_at, text_at, token_at, value_at}
 pub use Rattle.model_wire.specs.declared.wire_why.WireWhy.{WireWhy}
+pub use Rattle.lasp_logset.specs.Weights.{IsBounded}
 pub use Rattle.lasp_state.specs.State.{content_of}
 pub use Rattle.lasp_wire.specs.Decoded.{IsStuckAs, Refuses, Tells, parts_of}
 pub use Rattle.lasp_wire.specs.Length.{head_len, row_len}

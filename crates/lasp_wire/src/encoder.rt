@@ -8,7 +8,7 @@ use super::message::Message;
 use super::write;
 use std::alloc::{AllocError, Global};
 
-/// The one spelling of a message in version 2. It costs one pass, and for each set a list of its rows' addresses beside the bytes.
+/// The one spelling of a message in version 2. It costs one pass, and for each set a list of its rows' addresses beside the bytes, which is sorted.
 #[tactic(auto, unfolding(model_messages::specs::Spelling::spelled))]
 pub fn encode(alloc: Global, m: &Message) -> Result<Vec<u8>, AllocError>
     ensures { IfOk result (λ bytes. bytes.items ≡ spelled m.now) }
@@ -18,7 +18,7 @@ pub fn encode(alloc: Global, m: &Message) -> Result<Vec<u8>, AllocError>
     put_beginning(&mut out)?;
     write::put_u8(&mut out, m.counts().len() as u8)?;
     put_counts(&mut out, m.counts())?;
-    put_sources(alloc, &mut out, m)?;
+    put_sources(&mut out, m)?;
     Ok(out)
 }
 
@@ -41,10 +41,10 @@ pub fn put_counts(out: &mut Vec<u8>, counts: &Counts) -> Result<(), AllocError>
 }
 
 /// Appends the sources of a message as version 2 has them, with their number before them. After want of memory a part may have been appended.
-pub fn put_sources(alloc: Global, out: &mut Vec<u8>, m: &Message) -> Result<(), AllocError>
+pub fn put_sources(out: &mut Vec<u8>, m: &Message) -> Result<(), AllocError>
     ensures { OnOk result (out.new.items ≡ out.old.items ++ (number 1 (length m.now.sources) ++ flat_map spelled_source m.now.sources)) }
 {
     m.recall();
     write::put_u8(out, m.len() as u8)?;
-    write::put_sources(alloc, out, m.sources())
+    write::put_sources(out, m.sources())
 }

@@ -21,7 +21,7 @@ mod write;
 pub use counts::Counts;
 pub use decoder::decode;
 pub use encoder::{encode, put_counts, put_sources};
-pub use length::encoded_len;
+pub use length::{encoded_len, most_len};
 pub use message::Message;
 pub use model_wire::WireWhy;
 pub use places::{count_at, magic_at, nodes_at, sources_at};

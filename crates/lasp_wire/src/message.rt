@@ -60,7 +60,7 @@ impl Message {
     {
         let source = Source {
             name: name.try_clone()?,
-            state: state.try_clone()?,
+            state: state.past()?,
         };
         self.sources.push(source)?;
         Ok(())

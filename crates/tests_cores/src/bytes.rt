@@ -211,6 +211,12 @@ fn a_network_takes_what_it_has_room_for_and_shares_it(rt: HostRuntime) -> Result
     assert!(rt; sent_twice(rt.alloc(), NEW, 52)? == (full, full));
     assert!(rt; sent_twice(rt.alloc(), NEW, 53)? == (Ok(0), full));
     assert!(rt; sent_twice(rt.alloc(), NEW, 106)? == (Ok(0), Ok(1)));
+    // a value with two tokens, which stands there once: 63 bytes
+    let tokens = b"\0\0\0\x02\0\0\0\0\0\0\0\0\x01\0\0\0\0\0\0\0\0\0\x02\x01";
+    let two = changed(rt.alloc(), NEW, 39, tokens)?;
+    assert!(rt; sent_twice(rt.alloc(), &two, 62)? == (full, full));
+    assert!(rt; sent_twice(rt.alloc(), &two, 125)? == (Ok(0), full));
+    assert!(rt; sent_twice(rt.alloc(), &two, 126)? == (Ok(0), Ok(1)));
     assert_eq!(rt; holders(rt.alloc(), NEW)?, Some(3));
     Ok(())
 }

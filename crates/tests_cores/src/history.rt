@@ -1,7 +1,7 @@
 //! The calls of a history, once each.
 
 use lasp_history::History;
-use lasp_orset::add_delta;
+use lasp_logset::add_delta;
 use lasp_value::Value;
 use std::alloc::{AllocError, Global};
 use std::test::Fail;

@@ -185,7 +185,7 @@ impl<'a> Table<'a> {
             return Err(Wrong::Refused);
         }
         match self.network.send(message) {
-            Ok(number) => write!(self.told, " {number}, {} bytes", self.network.size())?,
+            Ok(number) => write!(self.told, " {number}, {} bytes", self.network.size()?)?,
             Err(_) => return Err(Wrong::Refused),
         }
         Ok(())

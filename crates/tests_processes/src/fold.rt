@@ -9,7 +9,7 @@ ghost use Rattle.lasp_fold.specs.Fold.{HasWidth, IsWithinLimits};
 use crate::made::{Rows, no_calls, rows};
 use lasp_fns::{Library, MapOp, StepLib};
 use lasp_fold::*;
-use lasp_orset::OrSet;
+use lasp_logset::OrSet;
 use std::alloc::{AllocError, Global};
 use std::sync::atomic::Ordering;
 use std::test::Fail;
@@ -42,7 +42,7 @@ fn number_after<G: FoldGroup>(
     before: &OrSet,
     change: &OrSet,
     after: &OrSet,
-) -> Option<i128>
+) -> Result<Option<i128>, AllocError>
     requires same { library_of lib.old ≡ library.now }
     requires place { 1 < length (lifts_of (library_of lib.old)) }
     requires change { IsChange before.now change.now after.now }
@@ -50,15 +50,15 @@ fn number_after<G: FoldGroup>(
     requires after { IsWithinLimits after.now }
     ensures library { library_of lib.new ≡ library_of lib.old }
 {
-    let old = fold_all(g, library.lift_at(1), before);
-    let whole = fold_all(g, library.lift_at(1), after);
-    let followed = fold_change(g, library.lift_at(1), old, before, after);
-    let counted = fold_counted(g, lib, 1, old, before, after);
-    let grown = fold_increment(g, lib, 1, old, before, change, after);
+    let old = fold_all(g, library.lift_at(1), before)?;
+    let whole = fold_all(g, library.lift_at(1), after)?;
+    let followed = fold_change(g, library.lift_at(1), old, before, after)?;
+    let counted = fold_counted(g, lib, 1, old, before, after)?;
+    let grown = fold_increment(g, lib, 1, old, before, change, after)?;
     if whole == followed && whole == counted && whole == grown && g.member(whole) {
-        return Some(whole);
+        return Ok(Some(whole));
     }
-    None
+    Ok(None)
 }
 
 /// Rows with a change; the sum, the xor and the rest by 4 after it; and how many calls all ways make that count them.
@@ -98,7 +98,7 @@ fn calls_to<G: FoldGroup>(
     library: &Library,
     sets: (&OrSet, &OrSet, &OrSet),
     number: i128,
-) -> Option<u64>
+) -> Result<Option<u64>, AllocError>
     requires place { 1 < length (lifts_of library.now) }
     requires change { IsChange sets.0.now sets.1.now sets.2.now }
     requires before { IsWithinLimits sets.0.now }
@@ -106,11 +106,10 @@ fn calls_to<G: FoldGroup>(
 {
     let mut steps = StepLib::new(library);
     let found = number_after(g, library, &mut steps, sets.0, sets.1, sets.2)?;
-    if found == number {
-        Some(steps.ticks())
-    } else {
-        None
+    if found == Some(number) {
+        return Ok(Some(steps.ticks()));
     }
+    Ok(None)
 }
 
 /// How many calls are counted until a sum, a xor and a rest by 4 come to these numbers after a change.
@@ -118,7 +117,7 @@ fn calls_to_all(
     library: &Library,
     sets: (&OrSet, &OrSet, &OrSet),
     numbers: &(i128, i128, i128),
-) -> Option<u64>
+) -> Result<Option<u64>, AllocError>
     requires place { 1 < length (lifts_of library.now) }
     requires change { IsChange sets.0.now sets.1.now sets.2.now }
     requires before { IsWithinLimits sets.0.now }
@@ -127,7 +126,12 @@ fn calls_to_all(
     let sum = calls_to(&Sum, library, sets, numbers.0)?;
     let xor = calls_to(&Xor, library, sets, numbers.1)?;
     let rest = calls_to(&Modulo::new(4), library, sets, numbers.2)?;
-    Some(sum.saturating_add(xor).saturating_add(rest))
+    match (sum, xor, rest) {
+        (Some(sum), Some(xor), Some(rest)) => {
+            Ok(Some(sum.saturating_add(xor).saturating_add(rest)))
+        }
+        (_, _, _) => Ok(None),
+    }
 }
 
 /// Whether the folds of a library's lift follow a change of rows so.
@@ -137,7 +141,7 @@ fn follow(alloc: Global, library: &Library, row: &Change) -> Result<bool, AllocE
     let before = rows(alloc, row.0)?;
     let change = rows(alloc, row.1)?;
     let after = grown(&before, &change)?;
-    Ok(calls_to_all(library, (&before, &change, &after), &row.2) == Some(row.3))
+    Ok(calls_to_all(library, (&before, &change, &after), &row.2)? == Some(row.3))
 }
 
 /// The first change that they follow otherwise.

@@ -15,7 +15,7 @@ use lasp_fns::{
     Library, LiftOp, MapOp, MapOps, PredOp, PredOps, StoredLift, StoredMap, StoredPred, apply_lift,
     apply_map, apply_pred,
 };
-use lasp_orset::{Entry, OrSet};
+use lasp_logset::{Entry, OrSet};
 use lasp_value::{Token, Value, print_into, value_of_json};
 use serde_json::Value as Json;
 use std::alloc::{AllocError, Global};
@@ -72,7 +72,7 @@ fn spell_token(out: &mut String, token: &Token) -> Result<(), AllocError> {
 /// Whether the rows of a set are spelled so: each as its value, its token after `@`, and `x` where it is dead.
 pub fn spells(alloc: Global, set: &OrSet, expected: &str) -> Result<bool, AllocError> {
     let mut out = String::new(alloc);
-    let mut rows = set.iter();
+    let mut rows = set.in_order()?;
     while let Some(row) = rows.next() {
         print_into(&mut out, row.value())?;
         out.push('@')?;

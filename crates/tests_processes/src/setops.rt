@@ -1,7 +1,7 @@
 //! The processes over small stories, against rows written by hand, and at the limit of rows.
 
 use crate::made::{Rows, rows, spells};
-use lasp_orset::{Entry, OrSet};
+use lasp_logset::{Entry, OrSet};
 use lasp_setops::*;
 use lasp_value::{Token, Value};
 use std::alloc::{AllocError, Global};
@@ -176,6 +176,29 @@ fn a_product_has_as_many_rows_as_the_limit(rt: HostRuntime) -> Result<(), Fail> 
         let x = numbers(rt.alloc(), 256)?;
         is_full(&product_sets(rt.alloc(), &x, &x)?, &x)
     };
+    assert!(rt; told);
+    Ok(())
+}
+
+/// Whether two sets have the same rows, and so many.
+fn are_same(set: &OrSet, other: &OrSet, rows: u64) -> bool {
+    set.le(other) && other.le(set) && set.rows() == rows
+}
+
+/// Whether a product grows to that of its inputs by a change of many rows, and the one before it stays as it was.
+fn grows_apart(alloc: Global) -> Result<bool, SetRefused> {
+    let before = numbers(alloc, 20)?;
+    let after = numbers(alloc, 40)?;
+    let nothing = before.empty();
+    let old = product_sets(alloc, &before, &before)?;
+    let new = product_increment(alloc, &old, &after, &after, &before, &nothing)?;
+    let whole = product_sets(alloc, &after, &before)?;
+    Ok(are_same(&new, &whole, 800) && old.rows() == 400 && old.le(&new))
+}
+
+#[test]
+fn a_product_that_others_hold_grows_by_many_rows(rt: HostRuntime) -> Result<(), Fail> {
+    let told = grows_apart(rt.alloc())?;
     assert!(rt; told);
     Ok(())
 }

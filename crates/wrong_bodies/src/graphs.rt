@@ -18,7 +18,7 @@ ghost use Rattle.lasp_graph.specs.Sources.{by_variable};
 
 use lasp_fns::{Library, StepLib};
 use lasp_graph::{EvalAll, Graph, GraphRefused, States, eval_all, read_graph};
-use lasp_orset::OrSet;
+use lasp_logset::OrSet;
 use std::alloc::{AllocError, Global};
 
 /// `lasp_graph::read_graph`.

@@ -13,12 +13,12 @@ ghost use Rattle.lasp_setops.specs.declared.refused.SetRefused.TheVariants as re
 
 use lasp_counters::GCount;
 use lasp_fns::StoredMap;
-use lasp_orset::OrSet;
+use lasp_logset::OrSet;
 use lasp_setops::{SetRefused, map_set, union_sets};
 use lasp_value::Value;
 use std::alloc::{AllocError, Global};
 
-/// A remove: `lasp_orset::OrSet::remove_delta`, joined in. The allocator is there for wrong bodies.
+/// A remove: `lasp_logset::OrSet::remove_delta`, joined in. The allocator is there for wrong bodies.
 pub fn remove(_alloc: Global, set: &mut OrSet, value: &Value) -> Result<(), AllocError>
     ensures ok { OnOk result (set.new ≡ join set.old (remove_delta (val_of value.now) set.old)) }
 {
@@ -27,7 +27,7 @@ pub fn remove(_alloc: Global, set: &mut OrSet, value: &Value) -> Result<(), Allo
     Ok(())
 }
 
-/// `lasp_orset::OrSet::join_in`.
+/// `lasp_logset::OrSet::join_in`.
 pub fn join(set: &mut OrSet, other: &OrSet) -> Result<bool, AllocError>
     ensures grew { IfOk result (λ grew. IsTrue grew ↔ (set.new ≢ set.old)) }
 {

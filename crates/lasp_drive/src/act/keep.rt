@@ -1,7 +1,7 @@
 //! What is kept of a node: marks of its sources, and reads that wait.
 
-ghost use Rattle.std.specs.Prelude.{◌+◌, ◌∷◌, [], map, OnOk};
-ghost use Rattle.lasp_drive.specs.Prelude.{Keep, Open, until_of, OpensAt, marked_of, Acts, Passes, MayAct, HasOpened};
+ghost use Rattle.std.specs.Prelude.{◌≡◌, ◌+◌, ◌∷◌, [], map, IfOk, OnOk};
+ghost use Rattle.lasp_drive.specs.Prelude.{arc_value, Keep, Open, until_of, OpensAt, marked_of, Acts, Passes, MayAct, HasOpened};
 ghost use Rattle.model_world.specs.World as world;
 
 use super::threshold::threshold_of;
@@ -9,15 +9,26 @@ use crate::driver::{Driver, Mark, OpenRead};
 use crate::halt::Halt;
 use crate::node::Node;
 use lasp_script::Until;
-use std::alloc::Global;
+use lasp_state::State;
+use std::alloc::{AllocError, Global};
+use std::sync::Arc;
+
+/// An equal state without tables, to be kept while its variable goes on growing.
+fn past_of(alloc: Global, state: &State) -> Result<Arc<State>, AllocError>
+    ensures { IfOk result (λ past. arc_value past ≡ state.now) }
+{
+    let past = state.past()?;
+    Ok(Arc::new(alloc, past)?)
+}
 
 impl<N: Node> Driver<N> {
-    /// Marks what source x of node p holds; it is shared.
+    /// Marks what source x of node p holds. It shares the rows, without a table, so that the node writes its own in place.
     pub fn keep(&mut self, c: u32, p: u8, x: u8) -> Result<(), Halt>
         requires { MayAct N.view N.read c self.old (Keep p x) }
         ensures { Passes N.view N.read N.place c self.old (Keep p x ∷ []) result self.new }
     {
-        let state = self.nodes[p as usize].source(x)?;
+        let source = self.nodes[p as usize].source(x)?;
+        let state = past_of(*self.marks.allocator(), &source)?;
         self.marks.push(Mark { var: x, state })?;
         Ok(())
     }

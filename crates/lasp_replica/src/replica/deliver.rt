@@ -8,13 +8,14 @@ ghost use Rattle.lasp_state.specs.State.{shape_of};
 ghost use Rattle.lasp_replica.specs.Delivery.{IsTaken};
 
 use super::sizes::{joined_size, news};
+use super::upkeep::gather_all;
 use super::{MOST_ROWS, Replica};
 use crate::entry::{Act, Entry};
 use crate::refused::DeliverRefused;
 use crate::sources::begins;
 use lasp_graph::{Graph, States};
 use lasp_history::History;
-use lasp_orset::OrSet;
+use lasp_logset::OrSet;
 use lasp_state::State;
 use lasp_wire::{Counts, Message};
 use std::alloc::Global;
@@ -42,7 +43,7 @@ fn joined_rows(state: &State, rows: &OrSet) -> u64
     }
 }
 
-/// Joins the rows that are new in a set into variable x, and makes its history ready where there are any; true exactly there. It costs one search for each row that is sent; the rest costs a few searches for each new row, and a copy of the state's list of shares.
+/// Joins the rows that are new in a set into variable x, and makes its history ready where there are any; true exactly there. It costs one look-up for each row that is sent; the rest costs a few look-ups for each new row, and a share of the state's log.
 fn join_set(
     alloc: Global,
     states: &mut States,
@@ -230,6 +231,7 @@ impl Replica {
         self.journal.reserve(1)?;
         record_all(&mut self.histories, &grow, self.journal.len() as u64);
         self.states = states;
+        gather_all(&mut self.states);
         raise(&mut self.counts, message.counts());
         let _ = self.journal.push(Entry {
             by,

@@ -1,7 +1,7 @@
 //! Results of jobs.
 
 ghost use Rattle.std.specs.Prelude.{◌≡◌, ◌<◌, ◌≤◌, ◌↔◌, IfOk, OnOk, OnErr, IfErr, IsTrue, IsFalse, IsSome, ◌++◌, ◌∷◌, [], length, map, take, slice_set, slice_index_or, Some, None, vec_len, vec_capacity};
-ghost use Rattle.lasp_replica.specs.Prelude.{arc_value, changed, size_of, row_limit, set, kind_at, equation, IsDerived, graph, vals, base, content_of, held_at, frame_of, entries_of, told, seen_process, jobs_of, IsReplica, Stays, IsJobOf, IsResultOf, HasBound, HasRows, AreNewsOf, IsAlike, HasRoom, base_on};
+ghost use Rattle.lasp_replica.specs.Prelude.{arc_value, changed, size_of, row_limit, set, kind_at, equation, IsDerived, graph, vals, base, content_of, held_at, frame_of, entries_of, told, seen_process, jobs_of, IsReplica, Stays, IsJobOf, IsResultOf, HasBound, HasRows, AreNewsOf, IsAlike, HasRoom, AreShared, base_on};
 ghost use Rattle.lasp_state.specs.State.{shape_of};
 
 use super::Replica;
@@ -10,9 +10,9 @@ use crate::entry::{Act, Entry};
 use crate::process::Process;
 use lasp_graph::Inputs;
 use lasp_job::Job;
-use lasp_orset::{OrSet, changed};
+use lasp_logset::{OrSet, changed};
 use lasp_state::State;
-use std::alloc::AllocError;
+use std::alloc::{AllocError, Global};
 use std::sync::Arc;
 
 /// The rows of a set, or of the set that a fold covers.
@@ -40,6 +40,39 @@ fn write_down(journal: &mut Vec<Entry>, entry: Entry)
     ensures { journal.new.items ≡ journal.old.items ++ entry ∷ [] }
 {
     let _ = journal.push(entry);
+}
+
+/// An equal state without tables.
+fn past_of(alloc: Global, state: &State) -> Result<Arc<State>, AllocError>
+    ensures { IfOk result (λ past. arc_value past ≡ state.now) }
+{
+    let past = state.past()?;
+    Ok(Arc::new(alloc, past)?)
+}
+
+/// The same inputs without tables, to be kept while their variables go on growing.
+fn past_inputs(alloc: Global, inputs: &Inputs) -> Result<Inputs, AllocError>
+    ensures { IfOk result (AreShared inputs.now) }
+{
+    let second = match &inputs.second {
+        None => None,
+        Some(state) => Some(past_of(alloc, state)?),
+    };
+    Ok(Inputs {
+        first: past_of(alloc, &inputs.first)?,
+        second,
+    })
+}
+
+/// What is made for the result of a job before it is taken in.
+#[derive(Drop)]
+struct Ready {
+    /// Whether the variable grows by it.
+    grows: bool,
+    /// The result, shared.
+    state: Arc<State>,
+    /// The job's inputs, to be kept.
+    base: Inputs,
 }
 
 /// The process of a derived variable has read these inputs.
@@ -114,51 +147,57 @@ impl Replica {
         }
         match self.ready(&job, state) {
             Err(error) => Err((job, error)),
-            Ok((grows, result)) => {
-                self.bind(by, job, grows, result);
+            Ok(ready) => {
+                self.bind(by, job, ready);
                 Ok(())
             }
         }
     }
 
-    /// The memory that the result of a job needs, whether the variable grows by it, and the result, shared.
-    fn ready(&mut self, job: &Job, state: State) -> Result<(bool, Arc<State>), AllocError>
+    /// The memory that the result of a job needs.
+    fn ready(&mut self, job: &Job, state: State) -> Result<Ready, AllocError>
         requires replica { IsReplica self.old }
         requires job { IsJobOf (frame_of self.old) (entries_of self.old) job.now }
         requires result { IsResultOf (frame_of self.old) (entries_of self.old) job.now state }
         ensures same { IsAlike self.old self.new }
-        ensures room { IfOk result (λ made. HasRoom job.now.var state made.0 self.new) }
-        ensures state { IfOk result (λ made. arc_value made.1 ≡ state) }
+        ensures room { IfOk result (λ made. HasRoom job.now.var state made.grows self.new) }
+        ensures state { IfOk result (λ made. arc_value made.state ≡ state) }
+        ensures base { IfOk result (λ made. AreShared job.now.inputs made.base) }
     {
         let (grows, rows) = self.news(job, &state)?;
         self.histories[job.var as usize].prepare(&rows)?;
         self.journal.reserve(1)?;
-        let result = Arc::new(self.allocator(), state)?;
-        Ok((grows, result))
+        let base = past_inputs(self.allocator(), &job.inputs)?;
+        let state = Arc::new(self.allocator(), state)?;
+        Ok(Ready { grows, state, base })
     }
 
-    /// Takes in the result of a job for which the memory is there.
-    fn bind(&mut self, by: u64, job: Job, grows: bool, state: Arc<State>)
+    /// Takes in the result of a job for which the memory is there. The job ends first, so that what it shared can be written in place.
+    fn bind(&mut self, by: u64, job: Job, ready: Ready)
         requires replica { IsReplica self.old }
         requires job { IsJobOf (frame_of self.old) (entries_of self.old) job }
-        requires result { IsResultOf (frame_of self.old) (entries_of self.old) job (arc_value state) }
+        requires result { IsResultOf (frame_of self.old) (entries_of self.old) job (arc_value ready.state) }
         requires later { base (frame_of self.old) (entries_of self.old) job.var < job.n }
-        requires room { HasRoom job.var (arc_value state) grows self.old }
+        requires room { HasRoom job.var (arc_value ready.state) ready.grows self.old }
+        requires base { AreShared job.inputs ready.base }
         ensures { HasBound by job.var job.n self.old self.new }
     {
         let parts = job.into_parts();
         let var = parts.var;
-        self.states.replace(u64::from(var), state);
+        let n = parts.n;
+        drop(parts);
+        self.states.replace(u64::from(var), ready.state);
+        self.states.gather_at(u64::from(var));
         let entry = self.journal.len() as u64;
-        record_growth(&mut self.histories, var, grows, entry);
+        record_growth(&mut self.histories, var, ready.grows, entry);
         write_down(
             &mut self.journal,
             Entry {
                 by,
-                what: Act::Bind(var, parts.n),
+                what: Act::Bind(var, n),
             },
         );
-        rebase(&mut self.processes, var, parts.n, parts.inputs);
+        rebase(&mut self.processes, var, n, ready.base);
         self.stop(var);
     }
 

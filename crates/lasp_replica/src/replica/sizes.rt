@@ -4,11 +4,11 @@ ghost use Rattle.std.specs.Prelude.{◌≡◌, ◌≢◌, ◌↔◌, IfOk, OnOk,
 ghost use Rattle.lasp_replica.specs.Prelude.{changed, join_contents, size_of, IsContentAtMost, content_of, news_of};
 ghost use Rattle.lasp_state.specs.State.{shape_of};
 
-use lasp_orset::{OrSet, changed};
+use lasp_logset::{OrSet, changed};
 use lasp_state::State;
 use std::alloc::{AllocError, Global};
 
-/// How many rows or elements the join of two states of one shape has. It costs a search for each row of the smaller one, and takes no memory.
+/// How many rows or elements the join of two states of one shape has. It costs a look-up for each row of one of them, of the smaller one where both have tables, and takes no memory where the other one has a table.
 pub(super) fn joined_size(s: &State, t: &State) -> u64
     requires { shape_of s.now ≡ shape_of t.now }
     ensures { result ≡ size_of (join_contents (content_of s.now) (content_of t.now)) }

@@ -9,7 +9,7 @@ use super::least::has_two;
 use crate::process::Process;
 use lasp_graph::{Inputs, Kind};
 use lasp_job::Job;
-use lasp_orset::OrSet;
+use lasp_logset::OrSet;
 use lasp_state::State;
 use std::alloc::AllocError;
 use std::sync::Arc;
@@ -29,7 +29,7 @@ fn shared(inputs: &Inputs) -> Result<Inputs, AllocError>
 }
 
 impl Replica {
-    /// The rows of variable x that changed since the first n entries. Where all of them did, it shares the set.
+    /// The rows of variable x that changed since the first n entries. Where all of them did, it shares the set's log.
     fn changes(&self, x: u8, n: u64) -> Result<OrSet, AllocError>
         requires replica { IsReplica self.now }
         requires var { x < length (arc_value self.now.graph) }
@@ -41,7 +41,7 @@ impl Replica {
             return history.since(self.allocator(), n);
         }
         match &**self.states.at(u64::from(x)) {
-            State::Set(rows) => rows.try_clone(),
+            State::Set(rows) => rows.past(),
             _ => unreachable!(),
         }
     }
@@ -94,8 +94,20 @@ impl Replica {
         }
     }
 
-    /// A job of a derived variable, which is busy once more.
+    /// A job of a derived variable, which is busy once more. Its inputs are first made cheap to share and to look up in.
     pub fn take_var(&mut self, var: u8) -> Result<Job, AllocError>
+        requires replica { IsReplica self.old }
+        requires derived { IsDerived (arc_value self.old.graph) var }
+        ensures job { IfOk result (IsTaken self.old var) }
+        ensures ok { OnOk result (HasStarted var self.old self.new) }
+        ensures err { OnErr result (self.new ≡ self.old) }
+    {
+        self.ready_inputs(var);
+        self.take_ready(var)
+    }
+
+    /// The job, where its inputs are ready.
+    fn take_ready(&mut self, var: u8) -> Result<Job, AllocError>
         requires replica { IsReplica self.old }
         requires derived { IsDerived (arc_value self.old.graph) var }
         ensures job { IfOk result (IsTaken self.old var) }

@@ -114,7 +114,7 @@ impl Replica {
         Ok(())
     }
 
-    /// What an update joins into its source, unless it is refused.
+    /// What an update brings to its source, unless it is refused.
     fn gain(&self, var: u8, op: &Op) -> Result<State, UpdateRefused>
         requires { IsReplica self.now }
         ensures ok { IfOk result (λ d. IsGain self.now var op.now d) }
@@ -123,7 +123,8 @@ impl Replica {
         self.check_update(var, op)?;
         let k = self.counts.at(u64::from(self.me)) + 1;
         let state = self.states.at(u64::from(var));
-        let delta = state.delta(self.allocator(), op, self.me, k)?;
+        let delta = state.change(self.allocator(), op, self.me, k)?;
+        delta.recall();
         if joined_size(state, &delta) > MOST_ROWS {
             return Err(UpdateRefused::TooManyRows);
         }
@@ -148,8 +149,20 @@ impl Replica {
         Ok(grows)
     }
 
-    /// Updates a source. All memory is taken before anything changes.
+    /// Updates a source. All memory is taken before anything changes. A removal costs the value's live rows, and a look-up for each row that came since the last one.
     pub fn update(&mut self, by: u64, var: u8, op: &Op) -> Result<(), UpdateRefused>
+        requires replica { IsReplica self.old }
+        requires small { IsSmall (length self.old.counts) op.now }
+        ensures ok { OnOk result (Goes (entry by (model.Update var (op_of op.now))) self.old self.new) }
+        ensures err { OnErr result (Stays self.old self.new) }
+        ensures answer { IsAnswered (update_refusal (length self.old.counts) self.old.me (arc_value self.old.graph) (contents_of self.old.states) self.old.counts var op.now) result }
+    {
+        self.ready_source(var, op);
+        self.update_ready(by, var, op)
+    }
+
+    /// The update, where its source is ready.
+    fn update_ready(&mut self, by: u64, var: u8, op: &Op) -> Result<(), UpdateRefused>
         requires replica { IsReplica self.old }
         requires small { IsSmall (length self.old.counts) op.now }
         ensures ok { OnOk result (Goes (entry by (model.Update var (op_of op.now))) self.old self.new) }

@@ -7,7 +7,7 @@ use super::elements::value_after;
 use super::numbers::u32_in;
 use super::tokens::{Mark, marks_in};
 use crate::refused::ReadError;
-use lasp_orset::Entry;
+use lasp_logset::Entry;
 use lasp_value::{Token, Value};
 use std::alloc::{AllocError, Global};
 

@@ -7,7 +7,7 @@ use super::numbers::u32_in;
 use super::tokens::mark_in;
 use super::values::value_in;
 use crate::refused::ReadError;
-use lasp_orset::Entry;
+use lasp_logset::Entry;
 use lasp_value::Token;
 use model_wire::WireWhy;
 use std::alloc::Global;

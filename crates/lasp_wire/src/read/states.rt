@@ -10,7 +10,7 @@ use super::rows::single_rows_in;
 use super::sequence::numbers_in;
 use crate::refused::ReadError;
 use lasp_counters::{COUNT_MAX, GCount, GSet, MaxReg};
-use lasp_orset::{Entry, OrSet};
+use lasp_logset::{Entry, OrSet};
 use lasp_state::State;
 use std::alloc::{AllocError, Global};
 
@@ -31,25 +31,13 @@ fn rows_in(
     }
 }
 
-/// The set of rows that ascend.
-fn set_of(alloc: Global, rows: Vec<Entry>) -> Result<OrSet, AllocError>
-    requires { IsAscending rows.items }
-    ensures { IfOk result (λ s. s ≡ rows.items) }
-{
-    let mut set = OrSet::new(alloc);
-    for row in rows {
-        set.append(row)?;
-    }
-    Ok(set)
-}
-
 fn set_in(alloc: Global, version: u8, nodes: u8, bytes: &[u8]) -> Result<(State, &[u8]), ReadError>
     requires some { 1 ≤ nodes }
     requires few { nodes ≤ 8 }
     ensures { Gives (λ x. (held_of x.0, x.1.now)) result (made held_set (rows_at version nodes) bytes.now) }
 {
     let (rows, rest) = rows_in(alloc, version, nodes, bytes)?;
-    let set = set_of(alloc, rows)?;
+    let set = OrSet::of_ascending(rows)?;
     Ok((State::Set(set), rest))
 }
 

@@ -5,26 +5,14 @@ ghost use Rattle.lasp_wire.specs.Prelude.{AllByRecursion, option_map, number, tr
 
 use super::numbers::{put_bool, put_u32};
 use super::values::{put_token, put_value};
-use lasp_orset::{Entry, OrSet};
+use lasp_logset::{OrSet, TableRow};
 use lasp_value::Value;
-use std::alloc::{AllocError, Global};
-
-/// The rows of a set, in order. It copies no row.
-fn rows_of(alloc: Global, set: &OrSet) -> Result<Vec<&Entry>, AllocError>
-    ensures { IfOk result (λ rows. map (λ r. r.now) rows.items ≡ set.now) }
-{
-    let mut all: Vec<&Entry> = Vec::new(alloc);
-    let mut rows = set.iter();
-    while let Some(row) = rows.next() {
-        all.push(row)?;
-    }
-    Ok(all)
-}
+use std::alloc::AllocError;
 
 /// How many rows at the front are of a value.
-fn run(value: &Value, rows: &[&Entry]) -> u32
+fn run(value: &Value, rows: &[TableRow]) -> u32
     requires { length rows.now ≤ 65536 }
-    ensures exact { result ≡ run (val_of value.now) (map (λ r. r.now) rows.now) }
+    ensures exact { result ≡ run (val_of value.now) rows.now }
     ensures few { result ≤ length rows.now }
 {
     let mut count = 0;
@@ -38,7 +26,7 @@ fn run(value: &Value, rows: &[&Entry]) -> u32
 }
 
 /// Whether a row is of another value than the one before it.
-pub fn is_first(before: Option<&Value>, row: &Entry) -> bool
+pub fn is_first(before: Option<&Value>, row: &TableRow) -> bool
     ensures { result ≡ is_first (option_map (λ v. val_of v.now) before.entry) row.now }
 {
     match before {
@@ -48,9 +36,9 @@ pub fn is_first(before: Option<&Value>, row: &Entry) -> bool
 }
 
 /// The number of values.
-fn values_in(rows: &[&Entry]) -> u32
+fn values_in(rows: &[TableRow]) -> u32
     requires { length rows.now ≤ 65536 }
-    ensures { result ≡ values_after None (map (λ r. r.now) rows.now) }
+    ensures { result ≡ values_after None rows.now }
 {
     let mut count = 0;
     let mut before: Option<&Value> = None;
@@ -64,7 +52,7 @@ fn values_in(rows: &[&Entry]) -> u32
 }
 
 /// The token of a row, and whether it is dead.
-fn put_mark(out: &mut Vec<u8>, row: &Entry) -> Result<(), AllocError>
+fn put_mark(out: &mut Vec<u8>, row: &TableRow) -> Result<(), AllocError>
     ensures { OnOk result (out.new.items ≡ out.old.items ++ spelled_mark row.now) }
 {
     put_token(out, row.token())?;
@@ -75,12 +63,12 @@ fn put_mark(out: &mut Vec<u8>, row: &Entry) -> Result<(), AllocError>
 fn put_head(
     out: &mut Vec<u8>,
     before: Option<&Value>,
-    row: &Entry,
-    rows: &[&Entry],
+    row: &TableRow,
+    rows: &[TableRow],
 ) -> Result<(), AllocError>
     requires short { IsShort row.now.0.0 }
     requires few { length rows.now < 65536 }
-    ensures { OnOk result (out.new.items ≡ out.old.items ++ spelled_head (option_map (λ v. val_of v.now) before.entry) row.now (map (λ r. r.now) rows.now)) }
+    ensures { OnOk result (out.new.items ≡ out.old.items ++ spelled_head (option_map (λ v. val_of v.now) before.entry) row.now rows.now) }
 {
     if !is_first(before, row) {
         return Ok(());
@@ -93,44 +81,44 @@ fn put_head(
 fn put_row(
     out: &mut Vec<u8>,
     before: Option<&Value>,
-    row: &Entry,
-    rows: &[&Entry],
+    row: &TableRow,
+    rows: &[TableRow],
 ) -> Result<(), AllocError>
     requires short { IsShort row.now.0.0 }
     requires few { length rows.now < 65536 }
-    ensures { OnOk result (out.new.items ≡ out.old.items ++ (spelled_head (option_map (λ v. val_of v.now) before.entry) row.now (map (λ r. r.now) rows.now) ++ spelled_mark row.now)) }
+    ensures { OnOk result (out.new.items ≡ out.old.items ++ (spelled_head (option_map (λ v. val_of v.now) before.entry) row.now rows.now ++ spelled_mark row.now)) }
 {
     put_head(out, before, row, rows)?;
     put_mark(out, row)
 }
 
-fn put_rows(out: &mut Vec<u8>, rows: &[&Entry]) -> Result<(), AllocError>
-    requires { AreShortRows (map (λ r. r.now) rows.now) }
-    ensures { OnOk result (out.new.items ≡ out.old.items ++ spelled_after None (map (λ r. r.now) rows.now)) }
+fn put_rows(out: &mut Vec<u8>, rows: &[TableRow]) -> Result<(), AllocError>
+    requires { AreShortRows rows.now }
+    ensures { OnOk result (out.new.items ≡ out.old.items ++ spelled_after None rows.now) }
 {
     let mut before: Option<&Value> = None;
     for i in 0..rows.len() {
         let (_, behind) = rows.split_at(i + 1);
-        put_row(out, before, rows[i], behind)?;
+        put_row(out, before, &rows[i], behind)?;
         before = Some(rows[i].value());
     }
     Ok(())
 }
 
 /// The number of values, and the rows.
-fn put_grouped(out: &mut Vec<u8>, rows: &[&Entry]) -> Result<(), AllocError>
-    requires { AreShortRows (map (λ r. r.now) rows.now) }
-    ensures { OnOk result (out.new.items ≡ out.old.items ++ (number 4 (values_after None (map (λ r. r.now) rows.now)) ++ spelled_after None (map (λ r. r.now) rows.now))) }
+fn put_grouped(out: &mut Vec<u8>, rows: &[TableRow]) -> Result<(), AllocError>
+    requires { AreShortRows rows.now }
+    ensures { OnOk result (out.new.items ≡ out.old.items ++ (number 4 (values_after None rows.now) ++ spelled_after None rows.now)) }
 {
     put_u32(out, values_in(rows))?;
     put_rows(out, rows)
 }
 
-/// The rows of a set. It costs one list of their addresses.
-pub fn put_set(alloc: Global, out: &mut Vec<u8>, set: &OrSet) -> Result<(), AllocError>
+/// The rows of a set. It costs one list of their addresses, which is sorted.
+pub fn put_set(out: &mut Vec<u8>, set: &OrSet) -> Result<(), AllocError>
     requires { AreShortRows set.now }
     ensures { OnOk result (out.new.items ≡ out.old.items ++ spelled_rows set.now) }
 {
-    let rows = rows_of(alloc, set)?;
+    let rows = set.sorted()?;
     put_grouped(out, &rows)
 }

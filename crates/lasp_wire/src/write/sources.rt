@@ -7,7 +7,7 @@ use super::numbers::put_u8;
 use super::states::put_state;
 use crate::source::Source;
 use lasp_value::Name;
-use std::alloc::{AllocError, Global};
+use std::alloc::AllocError;
 
 /// A name with its length before it.
 fn put_name(out: &mut Vec<u8>, name: &Name) -> Result<(), AllocError>
@@ -18,20 +18,20 @@ fn put_name(out: &mut Vec<u8>, name: &Name) -> Result<(), AllocError>
     out.extend_from_slice(name.as_str().as_bytes())
 }
 
-fn put_source(alloc: Global, out: &mut Vec<u8>, source: &Source) -> Result<(), AllocError>
+fn put_source(out: &mut Vec<u8>, source: &Source) -> Result<(), AllocError>
     requires { IsShortSource source.now }
     ensures { OnOk result (out.new.items ≡ out.old.items ++ spelled_source (sent_of source.now)) }
 {
     put_name(out, &source.name)?;
-    put_state(alloc, out, &source.state)
+    put_state(out, &source.state)
 }
 
-pub fn put_sources(alloc: Global, out: &mut Vec<u8>, sources: &[Source]) -> Result<(), AllocError>
+pub fn put_sources(out: &mut Vec<u8>, sources: &[Source]) -> Result<(), AllocError>
     requires { AllByRecursion IsShortSource sources.now }
     ensures { OnOk result (out.new.items ≡ out.old.items ++ flat_map spelled_source (map sent_of sources.now)) }
 {
     for source in sources {
-        put_source(alloc, out, source)?;
+        put_source(out, source)?;
     }
     Ok(())
 }

@@ -8,14 +8,14 @@ use super::rows::put_set;
 use super::values::put_value;
 use lasp_counters::{GCount, GSet};
 use lasp_state::State;
-use std::alloc::{AllocError, Global};
+use std::alloc::AllocError;
 
 fn put_elements(out: &mut Vec<u8>, set: &GSet) -> Result<(), AllocError>
     requires { AreShortValues set.now }
     ensures { OnOk result (out.new.items ≡ out.old.items ++ spelled_values set.now) }
 {
     put_u32(out, set.len() as u32)?;
-    let mut values = set.iter();
+    let mut values = set.sorted()?;
     while let Some(value) = values.next() {
         put_value(out, value)?;
     }
@@ -44,14 +44,14 @@ fn put_top(out: &mut Vec<u8>, top: Option<i64>) -> Result<(), AllocError>
 }
 
 /// The kind of a source with this state, and what it holds.
-pub fn put_state(alloc: Global, out: &mut Vec<u8>, state: &State) -> Result<(), AllocError>
+pub fn put_state(out: &mut Vec<u8>, state: &State) -> Result<(), AllocError>
     requires { IsShortState state.now }
     ensures { OnOk result (out.new.items ≡ out.old.items ++ spelled_content (kind_of state.now) (content_of state.now)) }
 {
     match state {
         State::Set(set) => {
             out.push(1)?;
-            put_set(alloc, out, set)
+            put_set(out, set)
         }
         State::Grow(values) => {
             out.push(2)?;

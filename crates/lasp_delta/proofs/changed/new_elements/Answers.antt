@@ -1,7 +1,7 @@
-use Rattle.std.proofs.Common.{◌≡◌, ◌++◌, ◌∷◌, [], List, map, sym, ap, subst, ◌∙◌, append-nil, append_assoc}
+use Rattle.std.proofs.Common.{◌≡◌, ◌↔◌, ◌++◌, ◌∷◌, [], IsTrue, List, map, sym, ap, subst, ◌∙◌, append-nil, append_assoc}
 use Rattle.std.proofs.lemmas.List.{map_push}
 use Rattle.model_values.specs.Value.{Val}
-use Rattle.model_sets.specs.Values.{AreAscending}
+use Rattle.model_sets.specs.Values.{AreAscending, IsHeld}
 use Rattle.model_deltas.specs.Delta.{new_values}
 use Rattle.lasp_value.specs.Value.{val_of}
 use Rattle.lasp_delta.proofs.ChangedLaws.{new-kept, new-ascends}
@@ -15,7 +15,7 @@ loop-value-preserved-in_ok-push c =
     let pushed : map val_of c.push.new.self.items ≡ kept ++ v ∷ [] =
     ap (map val_of) c.in_ok-push.ensures.items ∙ map_push _ c.loop-value.values.items c.in_ok-try_clone.field-0 ∙ ap (λ (u : Val). kept ++ u ∷ []) c.in_ok-try_clone.ensures in
     ap (λ (l : List Val). l ++ rest) pushed ∙ append_assoc kept (v ∷ []) rest
-    ∙ ap (λ (l : List Val). kept ++ l) (sym (ap (new_values c.args.before.now) c.in-Some.ensures.some ∙ new-kept c.args.before.now v c.next.new.self c.has.result c.has.ensures c.if-not-has.true))
+    ∙ ap (λ (l : List Val). kept ++ l) (sym (ap (new_values c.args.before.now) c.in-Some.ensures.some ∙ new-kept c.args.before.now v c.next.new.self c.has.result (subst (λ (s : List Val). IsTrue c.has.result ↔ IsHeld s v) c.in_ok-known.ensures c.has.ensures) c.if-not-has.true))
     ∙ c.loop-value.invariant
 
 pub from_ascending-requires : goal.from_ascending-requires

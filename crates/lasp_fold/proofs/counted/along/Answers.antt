@@ -18,13 +18,13 @@ use Rattle.lasp_fold.proofs.counted.along.Goals as goal
 pub loop-turn-init : goal.loop-turn-init
 loop-turn-init g c =
     let all = turns (visible c.args.before.now) (visible c.args.after.now) (row_values c.args.among.now) in
-    let same : turns (visible c.args.before.now) (visible c.args.after.now) (values_left (option_map (λ v. val_of v.now) c.among-pass.result.last) c.among-pass.result.rows) ≡ turns (visible c.args.before.now) (visible c.args.after.now) (row_values c.args.among.now) =
-    (λ i. turns (visible c.args.before.now) (visible c.args.after.now) (values_left (option_map (λ v. val_of v.now) (c.among-pass.ensures.first i)) (c.among-pass.ensures.rows i)))
+    let same : turns (visible c.args.before.now) (visible c.args.after.now) (values_left (option_map (λ v. val_of v.now) c.in_ok-pass.pass.last) c.in_ok-pass.pass.rows) ≡ turns (visible c.args.before.now) (visible c.args.after.now) (row_values c.args.among.now) =
+    (λ i. turns (visible c.args.before.now) (visible c.args.after.now) (values_left (option_map (λ v. val_of v.now) (c.in_ok-pass.ensures.first i)) (c.in_ok-pass.ensures.rows i)))
     ∙ ap (turns (visible c.args.before.now) (visible c.args.after.now)) (left-all c.args.among.now c.ascends.ensures) in
     let along = along-start (g.G.FoldGroup.is_member c.args.g.now) (g.G.FoldGroup.size c.args.g.now) (turned (g.G.FoldGroup.combined c.args.g.now) (g.G.FoldGroup.undone c.args.g.now) (taken_lift (g.G.FoldGroup.taken c.args.g.now) (lift_op_at (library_of c.args.lib.now) c.args.lift)))
-    c.args.old _ (turns (visible c.args.before.now) (visible c.args.after.now) (values_left (option_map (λ v. val_of v.now) c.among-pass.result.last) c.among-pass.result.rows)) all (length c.args.among.now) same (λ i. fold (turned (g.G.FoldGroup.combined c.args.g.now) (g.G.FoldGroup.undone c.args.g.now) (taken_lift (g.G.FoldGroup.taken c.args.g.now) (lift_op_at (library_of c.args.lib.now) c.args.lift))) c.args.old all)
+    c.args.old _ (turns (visible c.args.before.now) (visible c.args.after.now) (values_left (option_map (λ v. val_of v.now) c.in_ok-pass.pass.last) c.in_ok-pass.pass.rows)) all (length c.args.among.now) same (λ i. fold (turned (g.G.FoldGroup.combined c.args.g.now) (g.G.FoldGroup.undone c.args.g.now) (taken_lift (g.G.FoldGroup.taken c.args.g.now) (lift_op_at (library_of c.args.lib.now) c.args.lift))) c.args.old all)
     (count-change c.args.before.now c.args.after.now c.args.among.now) c.requires.in_group c.requires.small in
-    (subst AreSized (sym c.among-pass.ensures.rows) c.requires.sized, (search rules), (λ i. library_of c.args.lib.now), omega (arith, ap length same))
+    (subst AreSized (sym c.in_ok-pass.ensures.rows) c.requires.sized, (search rules), (λ i. library_of c.args.lib.now), omega (arith, ap length same))
 
 pub loop-turn-preserved : goal.loop-turn-preserved
 loop-turn-preserved g c =

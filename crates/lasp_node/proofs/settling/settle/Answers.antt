@@ -28,6 +28,14 @@ do_job-done-requires-clause-out g c =
     let is : c.take.new.self ≡ taken job.var (rows_of job) core = subst (λ (o : Option Job). IfSome o (λ j. c.take.new.self ≡ taken j.var (rows_of j) core)) c.in-Some.is c.in_ok-take.ensures.taken in
     (turn-taken core c.take.new.self c.loop-turn.invariant.below.reached job.var (rows_of job) c.loop-turn.invariant.below.bound.idle c.loop-turn.invariant.below.clean next is).idle
 
+pub do_job-done-requires-clause-below : goal.do_job-done-requires-clause-below
+do_job-done-requires-clause-below g c =
+    let core = c.loop-turn.core in
+    let job = c.in-Some.job in
+    let next : IsNext core.frame core.entries core.busy job.var = subst (λ (o : Option Job). IfSome o (λ j. IsNext core.frame core.entries core.busy j.var)) c.in-Some.is c.in_ok-take.ensures.next in
+    let is : c.take.new.self ≡ taken job.var (rows_of job) core = subst (λ (o : Option Job). IfSome o (λ j. c.take.new.self ≡ taken j.var (rows_of j) core)) c.in-Some.is c.in_ok-take.ensures.taken in
+    (turn-taken core c.take.new.self c.loop-turn.invariant.below.reached job.var (rows_of job) c.loop-turn.invariant.below.bound.idle c.loop-turn.invariant.below.clean next is).below
+
 pub do_job-done-requires-clause-fits : goal.do_job-done-requires-clause-fits
 do_job-done-requires-clause-fits g c =
     let core = c.loop-turn.core in

@@ -1,21 +1,19 @@
-use Rattle.std.proofs.Common.{◌≡◌, ◌∙◌, ◌+◌, ◌≤◌, List, map, refl, sym, ap, subst, length, arith, ◌<◌}
-use Rattle.model_values.specs.Value.{Val}
+use Rattle.std.proofs.Common.{◌∙◌, ◌+◌, map, refl, sym, ap, subst, length, arith, ◌<◌}
 use Rattle.model_functions.specs.Map.{mapped}
 use Rattle.model_sets.specs.Equations.{moved, map_set}
 use Rattle.model_sets.specs.Rows.{IsAscending, join}
 use Rattle.lasp_value.specs.Value.{val_of}
 use Rattle.lasp_fns.specs.Library.{maps_of, map_ops_at}
 use Rattle.lasp_fns.specs.Steps.{library_of, ticks_of}
-use Rattle.lasp_orset.proofs.EntryLaws.{join-moved, same-length}
+use Rattle.lasp_setops.proofs.EntryLaws.{join-moved, same-length}
 use Rattle.lasp_setops.proofs.TickLaws.{tick-start, tick-next, tick-stopped}
-use Rattle.lasp_setops.specs.Width.{IsSetOfWidth}
 use Rattle.lasp_setops.proofs.JoinLaws.{first-rows, next-row, last-row, moved-is}
 use Rattle.lasp_setops.proofs.WidthLaws.{sized-row, width-entries, width-rest}
 use Rattle.lasp_setops.proofs.counted.map_counted.Goals as goal
 
 pub loop-row-init : goal.loop-row-init
 loop-row-init g c =
-    (first-rows (map (moved (mapped (map_ops_at (library_of c.args.lib.now) c.args.f))) c.args.x.now) (map (moved (mapped (map_ops_at (library_of c.args.lib.now) c.args.f))) c.entries-rows.result) (map_set (mapped (map_ops_at (library_of c.args.lib.now) c.args.f)) c.args.x.now) c.empty-out.result (join-moved c.empty-out.result (moved (mapped (map_ops_at (library_of c.args.lib.now) c.args.f))) c.entries-rows.result c.args.x.now c.entries-rows.ensures.apart c.entries-rows.ensures.rows) (subst IsAscending (sym c.empty-out.ensures) refl) (λ i. join (sym c.empty-out.ensures i) (map (moved (mapped (map_ops_at (library_of c.args.lib.now) c.args.f))) c.args.x.now)), width-entries 16 c.entries-rows.result c.args.x.now c.entries-rows.ensures.rows c.requires.width, refl, tick-start (ticks_of c.args.lib.now) c.entries-rows.result c.args.x.now (same-length c.entries-rows.result c.args.x.now c.entries-rows.ensures.apart c.entries-rows.ensures.rows))
+    (first-rows (map (moved (mapped (map_ops_at (library_of c.args.lib.now) c.args.f))) c.args.x.now) (map (moved (mapped (map_ops_at (library_of c.args.lib.now) c.args.f))) c.in_ok-rows.rows) (map_set (mapped (map_ops_at (library_of c.args.lib.now) c.args.f)) c.args.x.now) c.empty-out.result (join-moved c.empty-out.result (moved (mapped (map_ops_at (library_of c.args.lib.now) c.args.f))) c.in_ok-rows.rows c.args.x.now c.in_ok-rows.ensures.apart c.in_ok-rows.ensures.rows) (subst IsAscending (sym c.empty-out.ensures) refl) (λ i. join (sym c.empty-out.ensures i) (map (moved (mapped (map_ops_at (library_of c.args.lib.now) c.args.f))) c.args.x.now)), width-entries 16 c.in_ok-rows.rows c.args.x.now c.in_ok-rows.ensures.rows c.requires.width, refl, tick-start (ticks_of c.args.lib.now) c.in_ok-rows.rows c.args.x.now (same-length c.in_ok-rows.rows c.args.x.now c.in_ok-rows.ensures.apart c.in_ok-rows.ensures.rows))
 
 pub call_map-requires-clause-sized : goal.call_map-requires-clause-sized
 call_map-requires-clause-sized g c =

@@ -1,11 +1,8 @@
-use Rattle.std.proofs.Common.{◌≡◌, ◌∙◌, ◌<◌, List, length, ap, sym, subst}
+use Rattle.std.proofs.Common.{◌∙◌, ap, sym}
 use Rattle.model_values.specs.Value.{Val}
-use Rattle.model_values.specs.Row.{Row}
-use Rattle.model_sets.specs.Rows.{join, put, is_of}
-use Rattle.model_sets.specs.Equations.{met}
+use Rattle.model_sets.specs.Rows.{is_of}
 use Rattle.model_states.specs.Content.{row_limit}
-use Rattle.lasp_setops.specs.Joined.{meetings}
-use Rattle.lasp_setops.proofs.JoinLaws.{meet-one, meet-none, meet-new, meet-long}
+use Rattle.lasp_setops.proofs.JoinLaws.{meet-none, meet-new, meet-long}
 use Rattle.lasp_setops.proofs.intersection.meet.Goals as goal
 
 pub returns-then-not-is_of-clause-ok : goal.returns-then-not-is_of-clause-ok

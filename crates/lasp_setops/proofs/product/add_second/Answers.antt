@@ -2,7 +2,7 @@ use Rattle.std.proofs.Common.{◌∙◌, sym, ap, map, flat_map, Err}
 use Rattle.model_sets.specs.Rows.{join}
 use Rattle.model_sets.specs.Equations.{paired, product_set}
 use Rattle.model_states.specs.Content.{row_limit}
-use Rattle.lasp_orset.proofs.EntryLaws.{join-entries}
+use Rattle.lasp_setops.proofs.EntryLaws.{join-entries}
 use Rattle.lasp_setops.specs.declared.refused.SetRefused.TheVariants.{TooManyRows}
 use Rattle.lasp_setops.proofs.JoinLaws.{first-rows, next-rows, long-rows, last-rows, passed-on}
 use Rattle.lasp_setops.proofs.SwapLaws.{product-by_second}
@@ -10,7 +10,7 @@ use Rattle.lasp_setops.proofs.product.add_second.Goals as goal
 
 pub loop-row-init : goal.loop-row-init
 loop-row-init c =
-    (first-rows (flat_map (λ q. map (λ r. paired r q) c.args.x.now) c.args.y.now) (flat_map (λ q. map (λ r. paired r q) c.args.x.now) c.entries-rows.result) (join c.args.out.now (product_set c.args.x.now c.args.y.now)) c.args.out.now (join-entries c.args.out.now (λ q. map (λ r. paired r q) c.args.x.now) c.entries-rows.result c.args.y.now c.entries-rows.ensures.apart c.entries-rows.ensures.rows) c.ascends.ensures (sym (product-by_second c.args.out.now c.args.x.now c.args.y.now)), c.requires)
+    (first-rows (flat_map (λ q. map (λ r. paired r q) c.args.x.now) c.args.y.now) (flat_map (λ q. map (λ r. paired r q) c.args.x.now) c.in_ok-rows.rows) (join c.args.out.now (product_set c.args.x.now c.args.y.now)) c.args.out.now (join-entries c.args.out.now (λ q. map (λ r. paired r q) c.args.x.now) c.in_ok-rows.rows c.args.y.now c.in_ok-rows.ensures.apart c.in_ok-rows.ensures.rows) c.ascends.ensures (sym (product-by_second c.args.out.now c.args.x.now c.args.y.now)), c.requires)
 
 pub loop-row-preserved : goal.loop-row-preserved
 loop-row-preserved c =
@@ -19,7 +19,7 @@ loop-row-preserved c =
 pub returns-in_err-pair_each-clause-too_many : goal.returns-in_err-pair_each-clause-too_many
 returns-in_err-pair_each-clause-too_many c =
     λ h. long-rows row_limit (λ q. map (λ r. paired r q) c.args.x.now) c.loop-row.out c.loop-row.rows c.next.new.self (join c.args.out.now (product_set c.args.x.now c.args.y.now)) c.in-Some.row c.in-Some.ensures.some c.loop-row.invariant.0
-    (c.pair_each.ensures.too_many (c.in_err-pair_each.was ∙ ap Err (passed-on c.from_residual.result c.in_err-pair_each.field-0.0 TooManyRows c.from_residual.ensures.1 h)))
+    (c.pair_each.ensures.too_many (c.in_err-pair_each.was ∙ ap Err (passed-on c.from_residual-in_err-pair_each.result c.in_err-pair_each.field-0.0 TooManyRows c.from_residual-in_err-pair_each.ensures.1 h)))
 
 pub returns-clause-ok : goal.returns-clause-ok
 returns-clause-ok c =

@@ -2,15 +2,15 @@ use Rattle.std.proofs.Common.{◌∙◌, map, ap, refl, Err}
 use Rattle.model_sets.specs.Rows.{join}
 use Rattle.model_sets.specs.Equations.{paired}
 use Rattle.model_states.specs.Content.{row_limit}
-use Rattle.lasp_orset.proofs.EntryLaws.{join-moved}
+use Rattle.lasp_setops.proofs.EntryLaws.{join-moved}
 use Rattle.lasp_setops.specs.declared.refused.SetRefused.TheVariants.{TooManyRows}
 use Rattle.lasp_setops.proofs.JoinLaws.{first-rows, next-row, long-row, last-row, passed-on}
 use Rattle.lasp_setops.proofs.product.pair_each.Goals as goal
 
 pub loop-other-init : goal.loop-other-init
 loop-other-init c = (
-  first-rows (map (λ r. paired r c.args.row.now) c.args.x.now) (map (λ r. paired r c.args.row.now) c.entries-others.result) (join c.args.out.now (map (λ r. paired r c.args.row.now) c.args.x.now)) c.args.out.now
-      (join-moved c.args.out.now (λ r. paired r c.args.row.now) c.entries-others.result c.args.x.now c.entries-others.ensures.apart c.entries-others.ensures.rows) c.ascends.ensures refl,
+  first-rows (map (λ r. paired r c.args.row.now) c.args.x.now) (map (λ r. paired r c.args.row.now) c.in_ok-others.others) (join c.args.out.now (map (λ r. paired r c.args.row.now) c.args.x.now)) c.args.out.now
+      (join-moved c.args.out.now (λ r. paired r c.args.row.now) c.in_ok-others.others c.args.x.now c.in_ok-others.ensures.apart c.in_ok-others.ensures.rows) c.ascends.ensures refl,
   c.requires,
 )
 

@@ -1,4 +1,4 @@
-use Rattle.std.proofs.Common.{◌≡◌, ◌∙◌, ap, List}
+use Rattle.std.proofs.Common.{◌∙◌, ap, List}
 use Rattle.model_values.specs.Row.{Row}
 use Rattle.model_sets.specs.Rows.{join}
 use Rattle.model_sets.proofs.RowLaws.{join-commutative}

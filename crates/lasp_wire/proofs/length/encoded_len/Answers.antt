@@ -13,7 +13,7 @@ sources_len-requires c = subst (λ (l : List Sent). len_of l ≤ 2 ^ 32) (sym c.
 
 pub overflow_add-result-2 : goal.overflow_add-result-2
 overflow_add-result-2 c =
-    omega (arith, sources_fit_in c.args.m.now c.recall.ensures, c.recall.ensures.nodes.few, c.len.ensures, ap (λ (l : List ℕ). length l) c.counts.ensures, c.sources_len.ensures, ap len_of c.sources.ensures)
+    omega (arith, sources_fit_in c.args.m.now c.recall.ensures, c.recall.ensures.nodes.few, c.len.ensures, ap (λ (l : List ℕ). length l) c.counts.ensures, c.in_ok-sources_len.ensures, ap len_of c.sources.ensures)
 
 pub returns : goal.returns
-returns c = omega (arith, spelled_len c.args.m.now, c.len.ensures, ap (λ (l : List ℕ). length l) c.counts.ensures, c.sources_len.ensures, ap len_of c.sources.ensures)
+returns c = omega (arith, spelled_len c.args.m.now, c.len.ensures, ap (λ (l : List ℕ). length l) c.counts.ensures, c.in_ok-sources_len.ensures, ap len_of c.sources.ensures)

@@ -41,3 +41,9 @@ returns-then-not-admits-clause-asked g c =
     (added-none g.J.Jobs.place g.J.Jobs.frame g.J.Jobs.caller g.J.Jobs.list g.J.Jobs.looks g.J.Jobs.rows_owed c.args.replica.now.jobs c.take.new.self took.place took.frame took.caller took.list took.own took.alone took.later)
     (subst (λ (o : Option Job). IfSome o (λ job. g.J.Jobs.rows_owed c.take.new.self ≡ counted_up (g.J.Jobs.rows_owed c.args.replica.now.jobs) (rows_of job))) c.in-Ok-Some.field-0-is took.owed)
     (ended-none g.J.Jobs.place g.J.Jobs.frame g.J.Jobs.caller g.J.Jobs.list g.J.Jobs.looks g.J.Jobs.rows_owed c.take.new.self c.give_back.new.self back.place back.frame back.caller back.list back.own back.alone back.later back.owed) (omega arith)
+
+pub returns-in-Ok-false-clause-left : goal.returns-in-Ok-false-clause-left
+returns-in-Ok-false-clause-left g c = λ _. c.in-Ok-false.ensures.left c.in-Ok-false.field-0-test
+
+pub returns-in-Ok-false-clause-done : goal.returns-in-Ok-false-clause-done
+returns-in-Ok-false-clause-done g c = λ _. c.in-Ok-false.ensures.left c.in-Ok-false.field-0-test

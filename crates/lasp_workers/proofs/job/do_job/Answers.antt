@@ -46,3 +46,21 @@ returns-in-Err-TooManyRows-clause-left g c = λ _.
       derived = c.variables_stay.ensures.job X h c.args.job c.requires.job.is;
       large = subst (λ (s : Content). row_limit < size_of s) (c.evaluated_jobs_have_results.ensures.present X h c.args.job.var c.args.job c.requires.job) (too-many c.in-Err-TooManyRows.field-0 _ c.in-Err-TooManyRows.field-0-is c.in-Err-TooManyRows.ensures.content);
     })
+
+pub returns-then-not-fits-clause-ended : goal.returns-then-not-fits-clause-ended
+returns-then-not-fits-clause-ended g c =
+    let back = c.give_back.ensures in
+    ended-none g.J.Jobs.place g.J.Jobs.frame g.J.Jobs.caller g.J.Jobs.list g.J.Jobs.looks g.J.Jobs.rows_owed c.args.jobs.now c.give_back.new.self back.place back.frame back.caller back.list back.own back.alone back.later back.owed
+
+pub returns-in-Err-TooManyRows-clause-ended : goal.returns-in-Err-TooManyRows-clause-ended
+returns-in-Err-TooManyRows-clause-ended g c =
+    let back = c.give_back-in-Err-TooManyRows.ensures in
+    ended-none g.J.Jobs.place g.J.Jobs.frame g.J.Jobs.caller g.J.Jobs.list g.J.Jobs.looks g.J.Jobs.rows_owed c.args.jobs.now c.give_back-in-Err-TooManyRows.new.self back.place back.frame back.caller back.list back.own back.alone back.later back.owed
+
+pub returns-clause-ended : goal.returns-clause-ended
+returns-clause-ended g c =
+    let back = c.give_back-in-Err-Memory.ensures in
+    ended-none g.J.Jobs.place g.J.Jobs.frame g.J.Jobs.caller g.J.Jobs.list g.J.Jobs.looks g.J.Jobs.rows_owed c.args.jobs.now c.give_back-in-Err-Memory.new.self back.place back.frame back.caller back.list back.own back.alone back.later back.owed
+
+pub evaluate-requires : goal.evaluate-requires
+evaluate-requires g c = record { fits = c.fits.ensures.0 c.if-not-fits.false }

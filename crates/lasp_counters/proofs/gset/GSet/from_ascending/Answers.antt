@@ -1,38 +1,30 @@
-use Rattle.std.proofs.Common.{◌≡◌, ◌++◌, ◌∷◌, [], List, length, map, refl, sym, ap, subst, ◌∙◌, append-nil, arith}
+use Rattle.std.proofs.Common.{◌≡◌, ◌++◌, ◌∷◌, [], List, length, map, sym, ap, subst, ◌∙◌, append-nil, arith}
 use Rattle.std.specs.Vec.Iter.{into_iter_items}
-use Rattle.std.proofs.lemmas.List.{map-append}
-use Rattle.model_values.specs.Value.{Val}
 use Rattle.model_values.specs.Row.{Row}
 use Rattle.model_sets.specs.Rows.{IsAscending}
-use Rattle.model_sets.specs.Values.{AreAscending}
 use Rattle.lasp_value.specs.Value.{val_of}
 use Rattle.lasp_value.specs.declared.value.Value.{Value}
 use Rattle.lasp_counters.specs.Members.{member, values_of, AreMembers}
-use Rattle.lasp_counters.proofs.MemberLaws.{are_members, values_of-member}
-use Rattle.lasp_counters.proofs.AscendingLaws.{ascending_next}
+use Rattle.lasp_counters.proofs.MemberLaws.{are_members, values_of-member, ascending-members}
 use Rattle.lasp_counters.proofs.gset.GSet.from_ascending.Goals as goal
 
-nothing_left : {X : Type 0} (l : List X) → length l ≡ 0 → l ≡ []
-nothing_left [] h = refl
-nothing_left (x ∷ xs) h = absurd (omega (arith, h))
+-- where no value is left, the rows are those of all values
+rows-all : (yielded left values : List Value) (rows : List Row) → yielded ++ left ≡ values → rows ≡ map member (map val_of yielded) → length left ≡ 0 → rows ≡ map member (map val_of values)
+rows-all yielded [] values rows all is none = is ∙ ap (λ (l : List Value). map member (map val_of l)) (sym (append-nil yielded) ∙ all)
+rows-all yielded (v ∷ left) values rows all is none = absurd (omega (arith, none))
 
-pub append-requires : goal.append-requires
-append-requires c =
+pub of_ascending-requires : goal.of_ascending-requires
+of_ascending-requires c =
     let at = c.loop-value in
-    let x = c.in-Some.value in
-    let rest = into_iter_items c.next.new.self in
-    let steps : into_iter_items at.value-iterator ≡ x ∷ rest = c.in-Some.ensures.steps.0 in
-    let all : at.yielded ++ x ∷ rest ≡ c.args.values.items = ap (λ (l : List Value). at.yielded ++ l) (sym steps) ∙ at.invariant.0 ∙ c.into_iter-value-iterator.ensures.into_iter_gives.0 in
-    let up : AreAscending (map val_of at.yielded ++ val_of x ∷ map val_of rest) = subst AreAscending (ap (λ (l : List Value). map val_of l) (sym all) ∙ map-append val_of at.yielded (x ∷ rest)) c.requires in
-    rw (at.invariant.1, c.in_ok-member.ensures) (ascending_next (map val_of at.yielded) (val_of x) (map val_of rest) up)
+    let rows = rows-all at.yielded (into_iter_items at.value-iterator) c.args.values.items at.rows.items (at.invariant.0 ∙ c.into_iter-value-iterator.ensures.into_iter_gives.0) at.invariant.1 (sym at.invariant.2 ∙ c.in-None.ensures.steps.0) in
+    subst IsAscending (sym rows) (ascending-members (map val_of c.args.values.items) c.requires)
 
 pub invariant_of-result : goal.invariant_of-result
-invariant_of-result c = subst AreMembers (sym c.loop-value.invariant.1) (are_members (map val_of c.loop-value.yielded))
+invariant_of-result c =
+    subst AreMembers (sym (c.in_ok-of_ascending.ensures ∙ c.loop-value.invariant.1)) (are_members (map val_of c.loop-value.yielded))
 
 pub returns : goal.returns
 returns c =
     let at = c.loop-value in
-    let none = c.in-None.ensures.steps in
-    let empty : into_iter_items at.value-iterator ≡ [] = nothing_left _ (sym at.invariant.2 ∙ none.0) in
-    let all = sym (append-nil at.yielded) ∙ rw empty at at.invariant.0 ∙ c.into_iter-value-iterator.ensures.into_iter_gives.0 in
-    ap values_of at.invariant.1 ∙ values_of-member (map val_of at.yielded) ∙ ap (λ (l : List Value). map val_of l) all
+    let rows = rows-all at.yielded (into_iter_items at.value-iterator) c.args.values.items at.rows.items (at.invariant.0 ∙ c.into_iter-value-iterator.ensures.into_iter_gives.0) at.invariant.1 (sym at.invariant.2 ∙ c.in-None.ensures.steps.0) in
+    ap values_of (c.in_ok-of_ascending.ensures ∙ rows) ∙ values_of-member (map val_of c.args.values.items)

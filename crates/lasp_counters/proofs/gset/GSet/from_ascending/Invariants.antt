@@ -6,5 +6,5 @@ use Rattle.lasp_counters.proofs.gset.GSet.from_ascending.Given as goal
 
 abbrev pub invariant-loop-value : goal.invariant-loop-value
 invariant-loop-value l = (l.yielded ++ into_iter_items l.value-iterator ≡ into_iter_items l.initial.value-iterator)
-    × (l.members ≡ map member (map val_of l.yielded))
+    × (l.rows.items ≡ map member (map val_of l.yielded))
     × (into_iter_len l.value-iterator ≡ length (into_iter_items l.value-iterator))

@@ -1,8 +1,7 @@
 use Rattle.std.proofs.Common.{◌∙◌, ◌++◌, ap}
 use Rattle.std.specs.String.{string_bytes}
 use Rattle.model_values.specs.Text.{shown_values}
-use Rattle.lasp_orset.proofs.PieceLaws.{on_ok}
-use Rattle.lasp_counters.proofs.MemberLaws.{shown-members}
+use Rattle.lasp_counters.proofs.MemberLaws.{on_ok, shown-members}
 use Rattle.lasp_counters.proofs.gset.GSet.print_into.Goals as goal
 
 pub returns : goal.returns

@@ -2,8 +2,7 @@ use Rattle.std.proofs.Common.{◌∙◌, subst, List, IfOk, IsTrue, ◌↔◌, �
 use Rattle.model_values.specs.Value.{Val}
 use Rattle.model_sets.specs.Values.{unite}
 use Rattle.lasp_counters.specs.Members.{values_of}
-use Rattle.lasp_orset.proofs.PieceLaws.{on_ok}
-use Rattle.lasp_counters.proofs.MemberLaws.{members-either, grew-either, values-join}
+use Rattle.lasp_counters.proofs.MemberLaws.{on_ok, members-either, grew-either, values-join}
 use Rattle.lasp_counters.proofs.gset.GSet.unite.Goals as goal
 
 pub invariant_of-self : goal.invariant_of-self

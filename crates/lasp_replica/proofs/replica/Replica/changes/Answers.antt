@@ -16,6 +16,6 @@ unreachable-requires c = set-state c.args.self.now c.requires.replica c.args.x c
 pub returns : goal.returns
 returns c =
     let r = c.args.self.now in
-    ok-same c.try_clone.result c.in-Set.rows (of_rows (drop (rows_before (growths_at r c.args.x) c.args.n) (log_at r c.args.x))) c.try_clone.ensures
+    ok-same c.past.result c.in-Set.rows (of_rows (drop (rows_before (growths_at r c.args.x) c.args.n) (log_at r c.args.x))) c.past.ensures
     (all-changed r c.requires.replica c.args.x c.from.result c.requires.var c.requires.set (arc_value c.at.result.now) c.deref.result.now c.in-Set.rows c.from.ensures c.at.ensures c.deref.ensures c.in-Set.is
     c.args.n c.rows_before.result c.index-history.result.now (omega (arith, c.requires.var, histories-many r c.requires.replica)) c.index-history.ensures c.rows_before.ensures.exact c.if-rows_before-gt0.false)

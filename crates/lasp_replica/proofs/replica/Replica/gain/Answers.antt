@@ -1,6 +1,7 @@
 use Rattle.std.proofs.Common.{ℕ, ◌≡◌, ◌+◌, Some, slice_get, true, false, arith, sym, ap, subst, ◌∙◌}
 use Rattle.std.proofs.lemmas.Bool.{lt-ltb, le-ltb}
 use Rattle.std.specs.Arc.{arc_value}
+use Rattle.model_states.specs.Content.{join_contents}
 use Rattle.model_states.specs.Update.{delta}
 use Rattle.lasp_state.specs.State.{op_of, content_of}
 use Rattle.lasp_replica.proofs.UpdateLaws.{checked, state-found, suited, count-found, gained, refusal, state-same}
@@ -17,8 +18,8 @@ pub at-state-requires : goal.at-state-requires
 at-state-requires c =
     states-at c.args.self.now c.requires c.args.var c.from-2.result c.from-2.ensures (checked c.args.self.now c.args.var c.args.op.now c.in_ok-check_update.ensures).declared
 
-pub delta-requires : goal.delta-requires
-delta-requires c =
+pub change-requires : goal.change-requires
+change-requires c =
     suited c.args.self.now c.args.var c.args.op.now c.deref.result.now c.requires (checked c.args.self.now c.args.var c.args.op.now c.in_ok-check_update.ensures)
     (state-found c.args.self.now.states c.args.var c.from-2.result (arc_value c.at-state.result.now) c.deref.result.now c.from-2.ensures c.at-state.ensures c.deref.ensures)
 
@@ -28,7 +29,7 @@ returns-then-joined_size-gt-MOST_ROWS-clause-answer c =
     let found = state-found c.args.self.now.states c.args.var c.from-2.result (arc_value c.at-state.result.now) c.deref.result.now c.from-2.ensures c.at-state.ensures c.deref.ensures in
     let same = state-same c.deref.result.now c.deref-2.result.now (arc_value c.at-state.result.now) c.deref.ensures c.deref-2.ensures in
     refusal c.args.self.now c.args.var c.args.op.now c.deref.result.now c.in_ok-delta.delta c.in_ok-check_update.ensures found
-    (c.in_ok-delta.ensures.content ∙ ap (λ (n : ℕ). delta (op_of c.args.op.now) (content_of c.deref.result.now) c.args.self.now.me (n + 1)) (sym count)) true
+    (c.in_ok-delta.ensures.content ∙ ap (λ (n : ℕ). join_contents (content_of c.deref.result.now) (delta (op_of c.args.op.now) (content_of c.deref.result.now) c.args.self.now.me (n + 1))) (sym count)) true
     (lt-ltb _ _ (let size = c.joined_size.ensures in omega (arith, c.if-joined_size-gt-MOST_ROWS.true, size, same c.in_ok-delta.delta)))
 
 pub returns-clause-ok : goal.returns-clause-ok
@@ -37,8 +38,8 @@ returns-clause-ok c =
     let found = state-found c.args.self.now.states c.args.var c.from-2.result (arc_value c.at-state.result.now) c.deref.result.now c.from-2.ensures c.at-state.ensures c.deref.ensures in
     let same = state-same c.deref.result.now c.deref-2.result.now (arc_value c.at-state.result.now) c.deref.ensures c.deref-2.ensures in
     gained c.args.self.now c.args.var c.args.op.now c.deref.result.now c.in_ok-delta.delta c.requires (checked c.args.self.now c.args.var c.args.op.now c.in_ok-check_update.ensures) found
-    (c.in_ok-delta.ensures.content ∙ ap (λ (n : ℕ). delta (op_of c.args.op.now) (content_of c.deref.result.now) c.args.self.now.me (n + 1)) (sym count))
-    c.in_ok-delta.ensures.shape (let size = c.joined_size.ensures in omega (arith, c.if-joined_size-gt-MOST_ROWS.false, size, same c.in_ok-delta.delta))
+    (c.in_ok-delta.ensures.content ∙ ap (λ (n : ℕ). join_contents (content_of c.deref.result.now) (delta (op_of c.args.op.now) (content_of c.deref.result.now) c.args.self.now.me (n + 1))) (sym count))
+    c.recall.ensures.ordered c.in_ok-delta.ensures.shape (let size = c.joined_size.ensures in omega (arith, c.if-joined_size-gt-MOST_ROWS.false, size, same c.in_ok-delta.delta))
 
 pub returns-clause-answer : goal.returns-clause-answer
 returns-clause-answer c =
@@ -46,5 +47,5 @@ returns-clause-answer c =
     let found = state-found c.args.self.now.states c.args.var c.from-2.result (arc_value c.at-state.result.now) c.deref.result.now c.from-2.ensures c.at-state.ensures c.deref.ensures in
     let same = state-same c.deref.result.now c.deref-2.result.now (arc_value c.at-state.result.now) c.deref.ensures c.deref-2.ensures in
     refusal c.args.self.now c.args.var c.args.op.now c.deref.result.now c.in_ok-delta.delta c.in_ok-check_update.ensures found
-    (c.in_ok-delta.ensures.content ∙ ap (λ (n : ℕ). delta (op_of c.args.op.now) (content_of c.deref.result.now) c.args.self.now.me (n + 1)) (sym count)) false
+    (c.in_ok-delta.ensures.content ∙ ap (λ (n : ℕ). join_contents (content_of c.deref.result.now) (delta (op_of c.args.op.now) (content_of c.deref.result.now) c.args.self.now.me (n + 1))) (sym count)) false
     (le-ltb _ _ (let size = c.joined_size.ensures in omega (arith, c.if-joined_size-gt-MOST_ROWS.false, size, same c.in_ok-delta.delta)))

@@ -23,8 +23,20 @@ returns-in_err-reserve-clause-same c = record {
   journal = c.reserve.ensures.items;
 }
 
-pub returns-in_err-result-clause-same : goal.returns-in_err-result-clause-same
-returns-in_err-result-clause-same c = record {
+pub returns-in_err-base-clause-same : goal.returns-in_err-base-clause-same
+returns-in_err-base-clause-same c = record {
+  graph = refl;
+  opening = refl;
+  me = refl;
+  counts = refl;
+  states = refl;
+  histories = map-set_same told c.args.self.now.histories.items c.args.job.now.var c.prepare.new.self c.index_mut.result.now (c.prepare.ensures.history ∙ ap told c.index_mut.ensures.value);
+  processes = refl;
+  journal = c.reserve.ensures.items;
+}
+
+pub returns-in_err-state-clause-same : goal.returns-in_err-state-clause-same
+returns-in_err-state-clause-same c = record {
   graph = refl;
   opening = refl;
   me = refl;

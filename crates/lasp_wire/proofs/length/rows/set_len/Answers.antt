@@ -5,4 +5,4 @@ use Rattle.lasp_wire.proofs.Lengths.{spelled_rows_len}
 use Rattle.lasp_wire.proofs.length.rows.set_len.Goals as goal
 
 pub loop-row-init : goal.loop-row-init
-loop-row-init c = ap (λ (rows : List Row). 4 + rows_len None rows) c.iter-rows.ensures.exact ∙ spelled_rows_len c.args.set.now
+loop-row-init c = ap (λ (rows : List Row). 4 + rows_len None rows) c.in_ok-rows.ensures ∙ spelled_rows_len c.args.set.now

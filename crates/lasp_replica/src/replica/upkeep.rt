@@ -1,0 +1,98 @@
+//! What makes later calls cheap and changes nothing that is seen.
+
+ghost use Rattle.std.specs.Prelude.{◌≡◌, ◌<◌, length};
+ghost use Rattle.lasp_replica.specs.Prelude.{arc_value, IsDerived, IsReplica};
+
+use super::Replica;
+use lasp_graph::{Kind, States};
+use lasp_state::Op;
+
+/// Puts what came into the tables of all states, where no one else has these by now.
+pub(super) fn gather_all(states: &mut States)
+    ensures { states.new ≡ states.old }
+{
+    for x in 0..states.len() {
+        states.gather_at(x);
+    }
+}
+
+/// Puts what came into the tables of two states, where no one else has these by now, and closes their logs.
+fn tend_both(states: &mut States, x: u8, y: u8)
+    requires first { x < length states.old }
+    requires second { y < length states.old }
+    ensures { states.new ≡ states.old }
+{
+    states.gather_at(u64::from(x));
+    states.close_at(u64::from(x));
+    states.gather_at(u64::from(y));
+    states.close_at(u64::from(y));
+}
+
+/// Sees that a process finds without a pass what it looks up by value: a fold the live rows of its input and of itself, an intersection all rows of either input.
+fn index_for(states: &mut States, kind: &Kind, var: u8, x: u8, y: u8)
+    requires itself { var < length states.old }
+    requires first { x < length states.old }
+    requires second { y < length states.old }
+    ensures { states.new ≡ states.old }
+{
+    match kind {
+        Kind::Fold(_, _, _) => {
+            states.index_values_at(u64::from(x));
+            states.index_values_at(u64::from(var));
+        }
+        Kind::Intersection(_, _) => {
+            states.index_rows_at(u64::from(x));
+            states.index_rows_at(u64::from(y));
+        }
+        _ => {}
+    }
+}
+
+impl Replica {
+    /// Sees that a share of a derived variable's inputs costs little, and that its process finds values in them without a pass.
+    pub(super) fn ready_inputs(&mut self, var: u8)
+        requires replica { IsReplica self.old }
+        requires derived { IsDerived (arc_value self.old.graph) var }
+        ensures { self.new ≡ self.old }
+    {
+        let kind = &self.graph.at(u64::from(var)).kind;
+        if let Some((x, y)) = kind.inputs() {
+            tend_both(&mut self.states, x, y);
+            index_for(&mut self.states, kind, var, x, y);
+        }
+    }
+
+    /// Sees that all rows of a value of a variable are found without a pass.
+    pub fn index_rows(&mut self, var: u8)
+        ensures { self.new ≡ self.old }
+    {
+        let x = u64::from(var);
+        if x < self.states.len() {
+            self.states.index_rows_at(x);
+        }
+    }
+
+    /// Sees that a pass over a variable's rows in their order costs little more than a comparison for each.
+    pub fn order_rows(&mut self, var: u8)
+        ensures { self.new ≡ self.old }
+    {
+        let x = u64::from(var);
+        if x < self.states.len() {
+            self.states.order_rows_at(x);
+        }
+    }
+
+    /// Sees that an update looks up in a table, and that a removal finds the live rows of its value without a pass.
+    pub(super) fn ready_source(&mut self, var: u8, op: &Op)
+        ensures { self.new ≡ self.old }
+    {
+        let x = u64::from(var);
+        if x >= self.states.len() {
+            return;
+        }
+        self.states.gather_at(x);
+        if let Op::Remove(value) = op {
+            self.states.prune_value_at(x, value);
+        }
+    }
+}

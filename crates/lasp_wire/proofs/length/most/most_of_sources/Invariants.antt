@@ -1,0 +1,9 @@
+use Rattle.std.proofs.Common.{length, map, take}
+use Rattle.std.specs.List.{flat_map}
+use Rattle.model_messages.specs.Spelling.{spelled_source}
+use Rattle.lasp_logset.specs.Weights.{IsBounded}
+use Rattle.lasp_wire.specs.Sent.{sent_of}
+use Rattle.lasp_wire.proofs.length.most.most_of_sources.Given as goal
+
+abbrev pub invariant-loop-source : goal.invariant-loop-source
+invariant-loop-source l = IsBounded (length (flat_map spelled_source (map sent_of (take l.source-index l.sources)))) l.len
