@@ -166,22 +166,34 @@ fn tell_alike(set: &OrSet, pieces: &Pieces, value: &Value) -> bool {
         && set.has_row(value, true) == pieces.has_row(value, true)
 }
 
+/// How many rows of a value a set in pieces has.
+fn count_in_pieces(pieces: &Pieces, value: &Value) -> u64 {
+    let mut count = 0u64;
+    let mut rows = pieces.iter();
+    while let Some(row) = rows.next() {
+        if row.is_of(value) {
+            count = count.saturating_add(1);
+        }
+    }
+    count
+}
+
+/// How many rows of a value a pass near it has.
+fn count_near(set: &OrSet, value: &Value) -> Result<u64, AllocError> {
+    let mut count = 0u64;
+    let mut rows = set.entries_near(value)?;
+    while let Some(row) = rows.next() {
+        if row.is_of(value) {
+            count = count.saturating_add(1);
+        }
+    }
+    Ok(count)
+}
+
 /// Whether a pass near a value has its rows, once each, and the bound of what all rows weigh is one: each is a number with a base token.
 fn pass_near(set: &OrSet, pieces: &Pieces, value: &Value) -> Result<bool, AllocError> {
-    let mut near = set.entries_near(value)?;
-    let mut missing = 0u64;
-    let mut others = pieces.iter();
-    while let Some(row) = others.next() {
-        if row.is_of(value) {
-            missing = missing.saturating_add(1);
-        }
-    }
-    while let Some(row) = near.next() {
-        if row.is_of(value) {
-            missing = missing.wrapping_sub(1);
-        }
-    }
-    Ok(missing == 0 && set.weight() >= pieces.rows().saturating_mul(23))
+    let is_whole = count_near(set, value)? == count_in_pieces(pieces, value);
+    Ok(is_whole && set.weight() >= pieces.rows().saturating_mul(23))
 }
 
 /// One call that a number tells.
