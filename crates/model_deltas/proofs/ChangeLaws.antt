@@ -1,21 +1,18 @@
 -- What changed in a source, part by part, and what it makes of an earlier content.
-use Rattle.std.proofs.Common.{◌≡◌, ◌≢◌, ℕ, zero, suc, ◌≤◌, max, ℤ, Bool, true, false, cond, ◌==◌, nat_lt, if◌then◌else◌, IsTrue, ◌↔◌, List, [], ◌∷◌, ◌++◌, length, filter, Option, Some, None, refl, sym, ap, subst, ◌∙◌, arith}
+use Rattle.std.proofs.Common.{◌≡◌, ◌≢◌, ℕ, zero, suc, ◌≤◌, max, ℤ, Bool, true, false, cond, ◌==◌, nat_lt, if◌then◌else◌, IsTrue, ◌↔◌, List, [], ◌∷◌, ◌++◌, length, Option, Some, None, refl, sym, ap, ◌∙◌, arith}
 use Rattle.std.proofs.lemmas.Bool.Decides.{nat_tests, Decides-int_eq}
 use Rattle.std.proofs.lemmas.Int.{ints, clamps}
-use Rattle.std.specs.Int.{int_max}
 use Rattle.std.specs.Ordering.{int_eq}
 use Rattle.model_values.specs.Value.{Val}
 use Rattle.model_values.specs.Token.{Tok}
 use Rattle.model_sets.specs.Rows.{mark}
 use Rattle.model_sets.specs.Values.{held, IsHeld, AreAscending, unite, IsWithin}
-use Rattle.model_sets.specs.Equations.{changed}
 use Rattle.model_sets.proofs.ValueLaws.{held-small, held-unite, ascending-of_values, same_from_held}
 use Rattle.model_sets.proofs.EquationLaws.{changed-mark, join-changed, ascending-changed}
 use Rattle.model_sets.proofs.AlgebraLaws.{held-filter, IsHeld-filter, ascending-filter}
 use Rattle.model_states.specs.Counts.{count_at, larger, AreCountsAtMost}
 use Rattle.model_states.specs.Register.{later, IsNotLater}
-use Rattle.model_states.specs.Content.{Content, least, join_contents, content_mark, at_row, at_value, at_count, at_top, IsContentAtMost, IsOrdered}
-use Rattle.model_states.proofs.CountLaws.{count_at-larger, length-larger, same_from_counts}
+use Rattle.model_states.specs.Content.{Content, least, join_contents, content_mark, IsContentAtMost, IsOrdered}
 use Rattle.model_states.proofs.ContentLaws.{order-parts, same_from_content_mark, content_mark-join, content_mark-least, ordered-join, counts-join}
 use Rattle.model_deltas.specs.Delta.{new_values, changed_counts, changed_top, changed_content}
 

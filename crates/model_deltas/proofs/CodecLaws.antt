@@ -1,5 +1,5 @@
 -- Deltas beside their spellings.
-use Rattle.std.proofs.Common.{◌≡◌, ℕ, zero, suc, ◌+◌, ◌<◌, ◌≤◌, true, eqb, List, [], ◌∷◌, ◌++◌, length, Ok, ◌⊎◌, inl, inr, refl, sym, ap, subst, ◌∙◌, append_assoc, append-nil, arith, add-zero}
+use Rattle.std.proofs.Common.{◌≡◌, ℕ, zero, suc, ◌+◌, ◌<◌, ◌≤◌, eqb, List, [], ◌∷◌, ◌++◌, length, Ok, ◌⊎◌, inl, inr, refl, sym, ap, subst, ◌∙◌, append_assoc, append-nil, arith, add-zero}
 use Rattle.std.specs.List.{AllByRecursion, flat_map}
 use Rattle.std.specs.Int.{w8, w64, to_be_bytes}
 use Rattle.std.proofs.lemmas.Bool.{eqb-true, eq-eqb}
@@ -10,11 +10,10 @@ use Rattle.model_states.specs.Counts.{count_at, AreCountsAtMost}
 use Rattle.model_messages.specs.Message.{Sent}
 use Rattle.model_messages.specs.Spelling.{spelled_counts, spelled_source}
 use Rattle.model_wire.specs.declared.wire_why.WireWhy.TheVariants as why
-use Rattle.model_wire.specs.Reader.{Reading, Reader, both_at, counted, list_at, ranged_at, magic_at}
-use Rattle.model_wire.specs.Message.{update_limit, sources_at, counts_at, decoded_from}
-use Rattle.model_wire.specs.Spelling.{spelled_source_in}
+use Rattle.model_wire.specs.Reader.{Reading, both_at, counted, list_at, magic_at}
+use Rattle.model_wire.specs.Message.{sources_at, counts_at, decoded_from}
 use Rattle.model_wire.specs.Lawful.{IsNodes, AreAtMost, IsSent}
-use Rattle.model_wire.proofs.Codecs.{IsBytes, IsCodec, wide64, HasBoth, spell_both, both_codec, spell_counted, HasCounted, counted_codec, made_codec, has_codec, AllHave, HasMany, spell_all, list_codec, passed, test_passed}
+use Rattle.model_wire.proofs.Codecs.{IsBytes, IsCodec, wide64, HasBoth, spell_both, both_codec, HasCounted, counted_codec, made_codec, has_codec, AllHave, HasMany, list_codec, passed, test_passed}
 use Rattle.model_wire.proofs.ValueLaws.{HasRange, ranged_codec, within_range, in_range}
 use Rattle.model_wire.proofs.MessageLaws.{AreCounts, spelled_all_counts, counts_codec, AreSources, spelled_sources, sources_codec, Magic, magic_codec, behind_magic, sources_written, decoded_from-ok}
 use Rattle.model_deltas.specs.Delta.{Delta}
@@ -25,14 +24,14 @@ use Rattle.model_world.proofs.StopLaws.{shifted}
 
 -- ---- counts that are not below others
 
-abbrev HasLater : List ℕ → ℕ → ℕ → Type 0
+abbrev pub HasLater : List ℕ → ℕ → ℕ → Type 0
 HasLater from q = HasRange 18446744073709551616 (count_at from q) 100000
 
 -- the counts are in their ranges from replica q on
-abbrev AreLaterFrom : List ℕ → ℕ → List ℕ → Type 0
+abbrev pub AreLaterFrom : List ℕ → ℕ → List ℕ → Type 0
 AreLaterFrom from q counts = AreAtMost 100000 counts × ((j : ℕ) → j < length counts → count_at from (q + j) ≤ count_at counts j)
 
-later_known : (from : List ℕ) (q : ℕ) (xs : List ℕ) → AllHave ℕ ℕ (HasLater from) next_replica q xs → AreLaterFrom from q xs
+pub later_known : (from : List ℕ) (q : ℕ) (xs : List ℕ) → AllHave ℕ ℕ (HasLater from) next_replica q xs → AreLaterFrom from q xs
 later_known from q [] h = (tt, λ j low. absurd (omega (arith, low)))
 later_known from q (x ∷ xs) h = after (within_range (count_at from q) 100000 x h.0.1) (later_known from (q + 1) xs h.1) where
   after : (count_at from q ≤ x) × (x ≤ 100000) → AreLaterFrom from (q + 1) xs → AreLaterFrom from q (x ∷ xs)
@@ -41,7 +40,7 @@ later_known from q (x ∷ xs) h = after (within_range (count_at from q) 100000 x
     each zero low = subst (λ (n : ℕ). count_at from n ≤ x) ((sym (add-zero q))) range.0
     each (suc j) low = subst (λ (n : ℕ). count_at from n ≤ count_at xs j) (shifted q j) (rest.1 j (omega (arith, low)))
 
-later_ranged : (from : List ℕ) (q : ℕ) (xs : List ℕ) → AreLaterFrom from q xs → AllHave ℕ ℕ (HasLater from) next_replica q xs
+pub later_ranged : (from : List ℕ) (q : ℕ) (xs : List ℕ) → AreLaterFrom from q xs → AllHave ℕ ℕ (HasLater from) next_replica q xs
 later_ranged from q [] h = tt
 later_ranged from q (x ∷ xs) h =
     let low : count_at from q ≤ x = subst (λ (n : ℕ). count_at from n ≤ x) (sym ((sym (add-zero q)))) (h.1 0 (omega arith)) in (
@@ -49,7 +48,7 @@ later_ranged from q (x ∷ xs) h =
       later_ranged from (q + 1) xs (h.0.1, λ j small. subst (λ (n : ℕ). count_at from n ≤ count_at xs j) (sym (shifted q j)) (h.1 (suc j) (omega (arith, small)))),
     )
 
-abbrev AreLater : List ℕ → List ℕ → Type 0
+abbrev pub AreLater : List ℕ → List ℕ → Type 0
 AreLater from counts = (length counts ≡ length from) × AreAtMost 100000 counts × AreCountsAtMost from counts
 
 all-later : (from counts : List ℕ) → HasMany ℕ ℕ (HasLater from) next_replica (length from) 0 counts → AreLater from counts
@@ -76,13 +75,13 @@ later_codec from =
 
 -- ---- what stands behind the version
 
-abbrev SpanHas : Span → Type 0
+abbrev pub SpanHas : Span → Type 0
 SpanHas = HasBoth (List ℕ) (List ℕ) AreCounts AreLater
 
-abbrev spelled_span : Span → List ℕ
+abbrev pub spelled_span : Span → List ℕ
 spelled_span = spell_both (List ℕ) (List ℕ) spelled_all_counts spelled_counts
 
-span_codec : IsCodec Span SpanHas spelled_span span_at
+pub span_codec : IsCodec Span SpanHas spelled_span span_at
 unfolding span_at
 span_codec = both_codec (List ℕ) (List ℕ) AreCounts AreLater spelled_all_counts spelled_counts counts_at later_counts_at counts_codec (λ from _. later_codec from)
 
@@ -124,18 +123,18 @@ delta_body_codec =
 
 -- ---- the version
 
-abbrev spelled_version : ℕ → List ℕ
+abbrev pub spelled_version : ℕ → List ℕ
 spelled_version v = to_be_bytes w8 76 ++ (to_be_bytes w8 65 ++ (to_be_bytes w8 83 ++ (to_be_bytes w8 68 ++ to_be_bytes w8 v)))
 
-version_codec : IsCodec ℕ (Magic 1) spelled_version delta_version_at
+pub version_codec : IsCodec ℕ (Magic 1) spelled_version delta_version_at
 unfolding delta_version_at
 version_codec =
     behind_magic 76 (Magic 1) _ _ (omega arith) (behind_magic 65 (Magic 1) _ _ (omega arith) (behind_magic 83 (Magic 1) _ _ (omega arith) (behind_magic 68 (Magic 1) (to_be_bytes w8) (magic_at 1) (omega arith) (magic_codec 1))))
 
-abbrev spelled_parts : Delta → List ℕ
+abbrev pub spelled_parts : Delta → List ℕ
 spelled_parts d = spelled_version 1 ++ spelled_body d
 
-delta_codec : IsCodec Delta IsDelta spelled_parts delta_at
+pub delta_codec : IsCodec Delta IsDelta spelled_parts delta_at
 unfolding delta_at
 delta_codec =
     has_codec Delta (HasCounted ℕ Delta (Magic 1) (λ _. 1) (λ _. IsDelta)) IsDelta spelled_parts (counted delta_version_at (λ _. delta_body_at))
@@ -148,7 +147,7 @@ regroup a n f c k s =
     ∙ ap (λ (t : List ℕ). a ++ t) (sym (append_assoc (n ++ f) c (k ++ s) ∙ append_assoc n f (c ++ (k ++ s))))
 
 -- the definition's spelling puts the parts together from the front
-delta_spelled : (d : Delta) → spelled_delta d ≡ spelled_parts d
+pub delta_spelled : (d : Delta) → spelled_delta d ≡ spelled_parts d
 unfolding spelled_delta
 delta_spelled d =
     regroup (76 ∷ 65 ∷ 83 ∷ 68 ∷ 1 ∷ []) (to_be_bytes w8 (length d.from)) (spelled_counts d.from) (spelled_counts d.counts) (to_be_bytes w8 (length d.sources)) (flat_map spelled_source d.sources)

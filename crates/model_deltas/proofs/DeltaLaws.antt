@@ -1,5 +1,5 @@
 -- The delta between two messages of one sender: its sources, and that they are within the ranges of the format.
-use Rattle.std.proofs.Common.{◌≡◌, ℕ, zero, suc, ◌+◌, ◌≤◌, ◌<◌, ℤ, Bool, true, false, cond, ◌==◌, nat_lt, List, [], ◌∷◌, length, filter, Option, Some, None, refl, sym, ap, subst, ◌∙◌, arith}
+use Rattle.std.proofs.Common.{◌≡◌, ℕ, zero, suc, ◌+◌, ◌≤◌, ◌<◌, ℤ, Bool, true, false, cond, ◌==◌, nat_lt, List, [], ◌∷◌, length, filter, Option, Some, None, refl, ap, ◌∙◌, arith}
 use Rattle.std.specs.List.{AllByRecursion}
 use Rattle.std.specs.Ordering.{int_eq}
 use Rattle.model_values.specs.Value.{Val}
@@ -11,11 +11,11 @@ use Rattle.model_sets.proofs.EquationLaws.{ascending-changed}
 use Rattle.model_sets.proofs.AlgebraLaws.{ascending-filter}
 use Rattle.model_states.specs.Counts.{count_max}
 use Rattle.model_states.specs.Register.{FitsTop}
-use Rattle.model_states.specs.Content.{Content, of_set, of_grow, of_counts, of_top}
+use Rattle.model_states.specs.Content.{Content}
 use Rattle.model_graph.specs.Graph.{Kind, OrSet, GSet, Counter, MaxReg, Union, Product, Intersection, Map, Filter, Fold}
 use Rattle.model_messages.specs.Message.{Sent, Message, sent_at}
 use Rattle.model_wire.specs.Lawful.{IsSourceValue, IsRow, AreAtMost, IsSource, IsSent, IsMessage}
-use Rattle.model_deltas.specs.Delta.{new_values, changed_counts, changed_top, changed_content, changed_source, changed_sources, delta_of}
+use Rattle.model_deltas.specs.Delta.{new_values, changed_counts, changed_top, changed_content, changed_sources, delta_of}
 use Rattle.model_deltas.specs.Before.{IsBefore, IsDelta}
 use Rattle.model_deltas.proofs.ChangeLaws.{length-changed_counts}
 

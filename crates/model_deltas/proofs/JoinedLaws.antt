@@ -1,14 +1,14 @@
 -- What two messages have together, source by source, and that it is a message where no source is too large.
-use Rattle.std.proofs.Common.{◌≡◌, ℕ, zero, suc, ◌≤◌, max, List, [], ◌∷◌, length, map, Ok, refl, sym, ap, subst, ◌∙◌, arith}
+use Rattle.std.proofs.Common.{◌≡◌, ℕ, zero, suc, ◌≤◌, max, List, [], ◌∷◌, length, map, Ok, refl, sym, subst, ◌∙◌, arith}
 use Rattle.std.specs.List.{AllByRecursion}
 use Rattle.model_states.specs.Counts.{larger}
-use Rattle.model_states.specs.Content.{Content, least, join_contents, size_of, row_limit, IsOrdered}
+use Rattle.model_states.specs.Content.{least, join_contents, IsOrdered}
 use Rattle.model_states.proofs.CountLaws.{length-larger}
 use Rattle.model_states.proofs.ContentLaws.{join-nothing, join-commutative, ordered-least}
 use Rattle.model_graph.specs.Graph.{Decl}
 use Rattle.model_graph.specs.Limit.{AreWithinLimit}
 use Rattle.model_messages.specs.Message.{Sent, Message, sent_at}
-use Rattle.model_wire.specs.Lawful.{IsNodes, AreAtMost, IsSource, IsSent, IsMessage}
+use Rattle.model_wire.specs.Lawful.{IsNodes, IsSource, IsSent, IsMessage}
 use Rattle.model_runs.proofs.EachLaws.{each-larger}
 use Rattle.model_runs.proofs.SourceLaws.{source-ordered, source-join}
 use Rattle.model_deltas.specs.Delta.{Delta, carried}

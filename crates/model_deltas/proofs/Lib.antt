@@ -5,3 +5,6 @@ pub mod JoinedLaws
 pub mod WorldLaws
 pub mod CodecLaws
 pub mod PlaceLaws
+pub mod CountFails
+pub mod SourceFails
+pub mod StuckLaws

@@ -1,12 +1,12 @@
 -- The places of refusals: what is left from the failing field on is no more than there was.
-use Rattle.std.proofs.Common.{◌≡◌, ℕ, ◌-◌, ◌≤◌, Bool, true, false, cond, eqb, List, length, Result, Ok, Err, ap, arith}
+use Rattle.std.proofs.Common.{◌≡◌, ℕ, ◌≤◌, Bool, true, false, cond, eqb, List, length, Result, Ok, Err, ap, arith}
 use Rattle.std.specs.Int.{w64}
 use Rattle.model_graph.specs.Chain.{◌>>=◌}
 use Rattle.model_states.specs.Counts.{count_at}
 use Rattle.model_messages.specs.Message.{Sent}
 use Rattle.model_wire.specs.declared.wire_why.WireWhy.{WireWhy}
 use Rattle.model_wire.specs.declared.wire_why.WireWhy.TheVariants as why
-use Rattle.model_wire.specs.Reader.{Reading, Reader, both_at, counted, ranged_at, magic_at}
+use Rattle.model_wire.specs.Reader.{Reading, Reader, both_at, counted, magic_at}
 use Rattle.model_wire.specs.Message.{update_limit, sources_at, counts_at, placed, decoded_from}
 use Rattle.model_wire.proofs.Within.{Inside, IsInside, made_inside, counted_inside, both_inside, list_inside, ranged_inside, magic_inside, counts_inside, sources_inside}
 use Rattle.model_deltas.specs.Delta.{Delta}

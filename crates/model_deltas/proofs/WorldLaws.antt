@@ -1,10 +1,10 @@
 -- Deltas between messages that carry what is known by their counts.
-use Rattle.std.proofs.Common.{◌≡◌, ℕ, zero, suc, ◌+◌, ◌≤◌, ◌<◌, max, ◌⊎◌, inl, inr, Bool, true, false, if◌then◌else◌, IsTrue, List, [], ◌∷◌, length, Option, Some, None, Result, refl, sym, ap, subst, ◌∙◌, arith, add-zero}
+use Rattle.std.proofs.Common.{◌≡◌, ℕ, zero, suc, ◌+◌, ◌≤◌, ◌<◌, ◌⊎◌, inl, inr, Bool, true, false, if◌then◌else◌, IsTrue, List, [], ◌∷◌, length, Option, Some, None, refl, sym, ap, subst, ◌∙◌, arith, add-zero}
 use Rattle.std.specs.List.{AllByRecursion}
-use Rattle.model_states.specs.Counts.{zeros, count_at, larger, AreCountsAtMost}
+use Rattle.model_states.specs.Counts.{larger, AreCountsAtMost}
 use Rattle.model_states.specs.Content.{Content, least, join_contents, Key, at_row, at_value, at_count, at_top, content_mark, IsContentAtMost, IsOrdered}
 use Rattle.model_states.proofs.CountLaws.{count_at-zeros, larger-at_most}
-use Rattle.model_states.proofs.ContentLaws.{content_mark-join, content_mark-least, at_most-least, ordered-least}
+use Rattle.model_states.proofs.ContentLaws.{content_mark-join, content_mark-least, at_most-least}
 use Rattle.model_states.proofs.DeltaLaws.{shape-counts}
 use Rattle.model_graph.specs.Graph.{Kind, OrSet, GSet, Counter, MaxReg, Union, Product, Intersection, Map, Filter, Fold, Decl, is_source, kind_at}
 use Rattle.model_graph.specs.Evaluation.{least_of}
@@ -13,7 +13,7 @@ use Rattle.model_graph.proofs.PlaceLaws.{below-or-not}
 use Rattle.model_messages.specs.Message.{Sent, Message, source_number, sent_at}
 use Rattle.model_messages.proofs.MessageLaws.{sent-past}
 use Rattle.model_world.specs.Command.{Command}
-use Rattle.model_world.specs.World.{Run, peer_at, message_at, sent_number}
+use Rattle.model_world.specs.World.{peer_at}
 use Rattle.model_known.specs.Delta as known
 use Rattle.model_known.specs.Follow.{Followed}
 use Rattle.model_known.specs.Holds.{IsPlaceOf, Carries}
@@ -21,7 +21,7 @@ use Rattle.model_known.proofs.HoldLaws.{sends-known}
 use Rattle.model_known.proofs.KnownLaws.{known-larger, replica-holds, message-carries}
 use Rattle.model_runs.proofs.SourceLaws.{source-shape, source-ordered}
 use Rattle.model_wire.specs.Lawful.{IsSource, IsSent, IsMessage}
-use Rattle.model_deltas.specs.Delta.{changed_content, changed_source, changed_sources, delta_of, carried}
+use Rattle.model_deltas.specs.Delta.{changed_content, changed_sources, delta_of, carried}
 use Rattle.model_deltas.specs.Applied.{Cause, first_gap, joined_sources, joined, limited, unless, applied}
 use Rattle.model_deltas.specs.Before.{AreSourcesBefore, IsBefore, AreAlike}
 use Rattle.model_deltas.specs.World.{IsMessageIn}

@@ -1,5 +1,5 @@
 -- Which messages a delta leads from and to, and which ones it may be applied to.
-use Rattle.std.specs.Prelude.{◌≡◌, ℕ, ◌≤◌, List, [], ◌∷◌, length}
+use Rattle.std.specs.Prelude.{◌≡◌, ◌≤◌, List, [], ◌∷◌, length}
 use Rattle.std.specs.List.{AllByRecursion}
 use Rattle.model_states.specs.Counts.{AreCountsAtMost}
 use Rattle.model_states.specs.Content.{IsContentAtMost}

@@ -4,6 +4,7 @@
 mod applied;
 mod bytes;
 mod changes;
+mod stuck;
 mod worlds;
 
 pub use applied::{applied_messages_are_messages, causes_of_refusals};
@@ -12,4 +13,5 @@ pub use bytes::{
     refusals_of_deltas_stand_within_the_bytes,
 };
 pub use changes::{changes_make_up_the_difference, deltas_are_within_the_format};
+pub use stuck::bytes_are_no_delta_where_they_are_stuck;
 pub use worlds::deltas_stand_for_their_messages;
