@@ -1,16 +1,18 @@
 //! The delta that bytes are.
 
-ghost use Rattle.std.specs.Prelude.{◌≡◌, ◌≤◌, ℕ, ◌+◌, IfOk, Ok, drop, length};
+ghost use Rattle.std.specs.Prelude.{◌≡◌, ◌≤◌, ℕ, ◌+◌, IfOk, IfErr, Ok, Err, drop, length};
 ghost use Rattle.std.specs.Int.{w64};
+ghost use Rattle.model_wire.specs.declared.wire_why.WireWhy as declared;
 ghost use Rattle.model_wire.specs.Reader.{ranged_at};
 ghost use Rattle.model_wire.specs.Message.{update_limit, numbers_at};
 ghost use Rattle.model_deltas.specs.Delta as plain;
 ghost use Rattle.model_deltas.specs.Before.{IsDelta};
 ghost use Rattle.model_deltas.specs.Spelling.{spelled_delta};
 ghost use Rattle.model_deltas.specs.Reader.{later_counts_at, span_at, delta_body_at, delta_version_at, delta_at, decoded_delta};
+ghost use Rattle.model_deltas.specs.Stuck.{IsStuckDelta};
 ghost use Rattle.lasp_wire.specs.Placed.{IsReadAt};
 ghost use Rattle.lasp_wire.specs.Decoded.{Tells};
-ghost use Rattle.lasp_delta.specs.Decoded.{parts_of};
+ghost use Rattle.lasp_delta.specs.Decoded.{parts_of, IsStuckAs};
 
 use super::delta::Delta;
 use lasp_wire::{Counts, Message, WireRefused, WireWhy, count_at, magic_at, nodes_at, sources_at};
@@ -32,6 +34,10 @@ pub fn decode_delta(alloc: Global, bytes: &[u8]) -> Result<Delta, WireRefused>
     ensures read { IfOk result (λ d. IsDelta d × (bytes.now ≡ spelled_delta d)) }
     // What is spelled so is read.
     ensures only { (d : plain.Delta) → IsDelta d → bytes.now ≡ spelled_delta d → Tells (λ e. e) result (Ok d) }
+    // A refusal tells where whole lawful fields, in order, end, and what stands there fails.
+    ensures stuck { IfErr result (λ e. IsStuckAs e bytes.now) }
+    // Where they end so, that is told.
+    ensures refused { (place : ℕ) (why : declared.WireWhy) → IsStuckDelta bytes.now place why → Tells (λ d. d) result (Err (place, why)) }
 {
     let parts = parts_in(alloc, bytes)?;
     let carried = parts.sources.with_counts(parts.counts);
