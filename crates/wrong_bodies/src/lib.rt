@@ -24,6 +24,6 @@ pub use networks::{receive, send};
 pub use program::run;
 pub use runs::{advance, run_on, run_through};
 pub use scripts::script_of;
-pub use sets::{count_more, image, join, remove, union};
+pub use sets::{count_more, image, join, put_row, remove, union};
 pub use states::{delta, is_reached};
 pub use values::{name_of, text_of, value_of};

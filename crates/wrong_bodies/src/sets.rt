@@ -3,7 +3,7 @@
 ghost use Rattle.std.specs.Prelude.{◌≡◌, ◌≢◌, ◌<◌, ◌↔◌, IfOk, OnOk, IsTrue, Err, length};
 ghost use Rattle.model_functions.specs.Map.{mapped};
 ghost use Rattle.model_sets.specs.Equations.{map_set};
-ghost use Rattle.model_sets.specs.Rows.{join, remove_delta};
+ghost use Rattle.model_sets.specs.Rows.{join, put, remove_delta};
 ghost use Rattle.model_states.specs.Content.{row_limit};
 ghost use Rattle.lasp_value.specs.Value.{val_of};
 ghost use Rattle.model_states.specs.Counts.{inc_delta};
@@ -13,10 +13,17 @@ ghost use Rattle.lasp_setops.specs.declared.refused.SetRefused.TheVariants as re
 
 use lasp_counters::GCount;
 use lasp_fns::StoredMap;
-use lasp_logset::OrSet;
+use lasp_logset::{Entry, OrSet};
 use lasp_setops::{SetRefused, map_set, union_sets};
 use lasp_value::Value;
 use std::alloc::{AllocError, Global};
+
+/// `lasp_logset::OrSet::add`. The allocator is there for wrong bodies.
+pub fn put_row(_alloc: Global, set: &mut OrSet, row: &Entry) -> Result<(), AllocError>
+    ensures ok { OnOk result (set.new ≡ put row.now set.old) }
+{
+    set.add(row.try_clone()?)
+}
 
 /// A remove: `lasp_logset::OrSet::remove_delta`, joined in. The allocator is there for wrong bodies.
 pub fn remove(_alloc: Global, set: &mut OrSet, value: &Value) -> Result<(), AllocError>
