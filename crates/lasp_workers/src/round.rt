@@ -16,13 +16,15 @@ use lasp_core::Jobs;
 use lasp_fns::StepLib;
 use std::alloc::{AllocError, Global};
 
-/// No replica is left yet.
+/// No replica is left yet, nor waits for a variable: who was at it may have left since.
 pub(crate) fn leave_none<J>(replicas: &mut [Replica<J>])
     ensures same { map pair_of replicas.new ≡ map pair_of replicas.old }
     ensures none { All (λ r. r.is_left ≡ false) replicas.new }
 {
     for i in 0..replicas.len() {
-        replicas[i].is_left = false;
+        let replica = &mut replicas[i];
+        replica.is_left = false;
+        replica.waits_for = None;
     }
 }
 

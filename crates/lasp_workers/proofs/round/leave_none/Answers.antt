@@ -4,7 +4,7 @@ use Rattle.lasp_workers.proofs.round.leave_none.Goals as goal
 
 pub loop-i-preserved : goal.loop-i-preserved
 loop-i-preserved g c = record {
-  same = same-pairs _ c.loop-i.replicas c.loop-i.i c.index-replicas-i.result ∙ c.loop-i.invariant.same;
+  same = same-pairs c.loop-i.replicas c.loop-i.i c.index-replicas-i.result ∙ c.loop-i.invariant.same;
   none = unleft-more c.loop-i.replicas c.loop-i.i c.index-replicas-i.result (omega arith) c.loop-i.invariant.none;
   within = search rules;
 }
