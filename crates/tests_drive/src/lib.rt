@@ -6,4 +6,10 @@ mod call;
 #[cfg(test)]
 mod meeting;
 #[cfg(test)]
+mod refusal;
+#[cfg(test)]
+mod rest;
+#[cfg(test)]
 mod turns;
+#[cfg(test)]
+mod upstream;

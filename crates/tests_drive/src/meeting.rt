@@ -1,22 +1,24 @@
 //! That two workers are in their jobs at once, where the program runs a script by two.
 
 use crate::call::{Case, ended};
+use crate::rest::rest;
 use lasp_workers::Gate;
+use std::sync::Wait;
 use std::sync::atomic::{AtomicBool, AtomicU32, Ordering};
 use std::test::Fail;
-use std::thread;
 
-/// How often a worker in its job looks for another, at most.
-const MOST_LOOKS: u32 = 10_000_000;
+/// How often a worker in its job looks for another, at most: ten times as often as one that is kept out of a variable asks before it is let in.
+const MOST_LOOKS: u32 = 10_000;
 
 /// A gate that holds each worker in its job until two are in theirs at once, or it has looked for another often enough.
 #[derive(Drop)]
-struct Meeting {
+struct Meeting<'a, R> {
+    rt: &'a R,
     inside: AtomicU32,
     met: AtomicBool,
 }
 
-impl Gate for Meeting {
+impl<R: Wait> Gate for Meeting<'_, R> {
     fn pass(&self, _worker: u32, _node: u8, _var: u8) {
         self.inside.fetch_add(1, Ordering::SeqCst);
         for _ in 0..MOST_LOOKS {
@@ -26,7 +28,7 @@ impl Gate for Meeting {
             if self.inside.load(Ordering::SeqCst) > 1 {
                 self.met.store(true, Ordering::SeqCst);
             }
-            thread::yield_now();
+            rest(self.rt);
         }
         self.inside.fetch_sub(1, Ordering::SeqCst);
     }
@@ -89,6 +91,7 @@ const CASES: [Case; 6] = [
 fn two_workers_are_in_their_jobs_at_once(rt: HostRuntime) -> Result<(), Fail> {
     for case in CASES {
         let gate = Meeting {
+            rt: &rt,
             inside: AtomicU32::new(0),
             met: AtomicBool::new(false),
         };

@@ -1,32 +1,30 @@
 //! That workers take turns at a variable.
 
 use crate::call::{Case, ended};
+use crate::rest::rest;
 use lasp_workers::Gate;
+use std::sync::Wait;
 use std::sync::atomic::{AtomicBool, AtomicU32, Ordering};
 use std::test::Fail;
-use std::thread;
-
-/// For how many turns a worker stays in its job: long enough for others to come by, and much shorter than they wait.
-const STAY: u32 = 10;
 
 /// A gate that sees whether two workers are at the one derived variable at once, and whether a worker has another number than 1 to 8.
 #[derive(Drop)]
-struct Turnstile {
+struct Turnstile<'a, R> {
+    rt: &'a R,
     inside: AtomicU32,
     passed: AtomicU32,
     is_crowded: AtomicBool,
     is_unknown: AtomicBool,
 }
 
-impl Gate for Turnstile {
+impl<R: Wait> Gate for Turnstile<'_, R> {
     fn pass(&self, worker: u32, _node: u8, _var: u8) {
         self.passed.fetch_add(1, Ordering::SeqCst);
         if worker < 1 || 8 < worker {
             self.is_unknown.store(true, Ordering::SeqCst);
         }
-        for _ in 0..STAY {
-            thread::yield_now();
-        }
+        // (long enough for others to come by, and much shorter than they wait)
+        rest(self.rt);
     }
 
     fn admits(&self, _worker: u32, _node: u8, _var: u8) -> bool {
@@ -53,6 +51,7 @@ const ADDS: Case = Case {
 #[test]
 fn one_worker_at_a_time_is_at_a_variable(rt: HostRuntime) -> Result<(), Fail> {
     let gate = Turnstile {
+        rt: &rt,
         inside: AtomicU32::new(0),
         passed: AtomicU32::new(0),
         is_crowded: AtomicBool::new(false),
