@@ -23,7 +23,8 @@ use Rattle.model_known.proofs.EffectLaws.{followed}
 use Rattle.model_known.proofs.VariableLaws.{known-ordered}
 use Rattle.model_known.proofs.UpdateLaws.{known-kept, own-holds}
 use Rattle.model_known.proofs.KnownLaws.{known-larger, known-nothing}
-use Rattle.model_known.proofs.SoundLaws.{IsSound, sound-act, first-empty}
+use Rattle.model_known.proofs.KnowsLaws.{first-empty}
+use Rattle.model_known.proofs.SoundLaws.{IsSound, sound-act}
 use Rattle.model_known.proofs.FollowLaws.{afters}
 use Rattle.model_known.proofs.RoundLaws.{AreCalm, calm-sync}
 use Rattle.model_known.proofs.PlayLaws.{IsAt, stage_of}

@@ -31,7 +31,8 @@ use Rattle.model_known.proofs.UpdateLaws.{known-kept, own-holds}
 use Rattle.model_known.proofs.HoldLaws.{each-var}
 use Rattle.model_known.proofs.TokenLaws.{known-owned}
 use Rattle.model_known.proofs.KnownLaws.{known-above, known-larger, known-nothing}
-use Rattle.model_known.proofs.SoundLaws.{IsSound, sound-act, first-empty}
+use Rattle.model_known.proofs.KnowsLaws.{first-empty}
+use Rattle.model_known.proofs.SoundLaws.{IsSound, sound-act}
 use Rattle.model_known.proofs.FollowLaws.{afters}
 use Rattle.model_known.proofs.RoundLaws.{AreCalm, calm-sync}
 use Rattle.model_known.proofs.PlayLaws.{IsAt, stage_of}

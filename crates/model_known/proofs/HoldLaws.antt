@@ -12,8 +12,9 @@ use Rattle.model_messages.specs.Message.{Message, message_of, source_number, sen
 use Rattle.model_messages.proofs.MessageLaws.{sent-is, sent-past, sent-length, number-append, number-rises, gained-length, gained-at}
 use Rattle.model_known.specs.Delta.{Delta, first_deltas, brought_to, known}
 use Rattle.model_known.specs.Holds.{Holds, Carries, Keeps}
-use Rattle.model_known.proofs.MeasureLaws.{same_from_measures, measure-all, total-larger, Each, each-weaker}
-use Rattle.model_known.proofs.VariableLaws.{IsOfSource, kind-append, known-append, known-derived, known-later, known-ordered}
+use Rattle.model_known.specs.Known.{Each, IsOfSource}
+use Rattle.model_known.proofs.MeasureLaws.{same_from_measures, measure-all, total-larger, each-weaker}
+use Rattle.model_known.proofs.VariableLaws.{kind-append, known-append, known-derived, known-later, known-ordered}
 
 -- ---- a message
 

@@ -19,7 +19,7 @@ use Rattle.model_known.specs.Follow.{Followed, begin, follow_step, follow, point
 use Rattle.model_known.specs.Holds.{Holds, Carries, Keeps, IsPlaceOf}
 use Rattle.model_known.proofs.MeasureLaws.{same_from_measures, measure-all, one, total-larger, first-has, first-low}
 use Rattle.model_known.proofs.VariableLaws.{known-ordered}
-use Rattle.model_known.proofs.SoundLaws.{first-none}
+use Rattle.model_known.proofs.KnowsLaws.{first-none}
 use Rattle.model_known.proofs.FollowLaws.{bound, follow-play}
 use Rattle.model_known.proofs.PlayLaws.{place-sound}
 use Rattle.model_known.proofs.PlaceLaws.{known_contents-at, holds-contents}

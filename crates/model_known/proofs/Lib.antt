@@ -3,6 +3,7 @@ pub mod EffectLaws
 pub mod VariableLaws
 pub mod UpdateLaws
 pub mod HoldLaws
+pub mod KnowsLaws
 pub mod TokenLaws
 pub mod SoundLaws
 pub mod FollowLaws
@@ -10,6 +11,7 @@ pub mod RoundLaws
 pub mod PlayLaws
 pub mod PlaceLaws
 pub mod DirectLaws
+pub mod ActLaws
 pub mod KnownLaws
 pub mod AlikeLaws
 pub mod ReportLaws

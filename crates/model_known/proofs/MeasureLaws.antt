@@ -8,6 +8,7 @@ use Rattle.model_states.proofs.ContentLaws.{content_mark-join, same_from_content
 use Rattle.model_graph.proofs.PlaceLaws.{below-or-not}
 use Rattle.model_known.specs.Owner.{no_delta, delta_at}
 use Rattle.model_known.specs.Delta.{Delta, deltas_at, first_deltas, brought_to, join_all}
+use Rattle.model_known.specs.Known.{EachOf, Each}
 
 -- a number that a join sends to the maximum
 abbrev pub IsMeasure : (Content → ℕ) → Type 0
@@ -111,14 +112,6 @@ first-kept (suc p) (deltas ∷ all) [] d h = refl
 first-kept (suc p) (deltas ∷ all) (c ∷ cs) d h = ap (λ (ds : List Delta). take c deltas ++ ds) (first-kept p all cs d h)
 
 -- ---- what holds of every delta
-
-abbrev pub EachOf : (Delta → Type 0) → List Delta → Type 0
-EachOf P [] = Unit {0}
-EachOf P (d ∷ deltas) = P d × EachOf P deltas
-
-abbrev pub Each : (Delta → Type 0) → List (List Delta) → Type 0
-Each P [] = Unit {0}
-Each P (deltas ∷ all) = EachOf P deltas × Each P all
 
 pub each-append : (P : Delta → Type 0) (ds es : List Delta) → EachOf P ds → EachOf P es → EachOf P (ds ++ es)
 each-append P [] es h g = g

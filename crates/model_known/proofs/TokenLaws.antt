@@ -19,7 +19,8 @@ use Rattle.model_world.specs.World.{Peer}
 use Rattle.model_known.specs.Delta.{Delta, deltas_at, first_deltas, brought_to, known}
 use Rattle.model_known.specs.Follow.{delta_of}
 use Rattle.model_known.specs.Owner.{no_delta, delta_at, IsOwnedBy, AreOwned, is_dead_at, is_dead_in}
-use Rattle.model_known.proofs.MeasureLaws.{IsMeasure, measure-all, total, one, total-more, EachOf, Each, each-first}
+use Rattle.model_known.specs.Known.{EachOf, Each}
+use Rattle.model_known.proofs.MeasureLaws.{IsMeasure, measure-all, total, one, total-more, each-first}
 
 -- a token was given once, to one value of one variable
 pub owned-once : (all : List (List Delta)) (x y : ℕ) (v w : Val) (t : Tok) → IsOwnedBy all x v t → IsOwnedBy all y w t → (x ≡ y) × (v ≡ w)

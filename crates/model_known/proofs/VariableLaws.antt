@@ -6,14 +6,11 @@ use Rattle.model_graph.specs.Evaluation.{least_of}
 use Rattle.model_graph.proofs.PlaceLaws.{at-append, equal-numbers}
 use Rattle.model_graph.proofs.LeastLaws.{least_of-ordered}
 use Rattle.model_known.specs.Delta.{Delta, first_deltas, brought_to, join_all, known}
-use Rattle.model_known.proofs.MeasureLaws.{ordered-all, Each, each-first, each-weaker, nothing-brought}
+use Rattle.model_known.specs.Known.{Each, IsOfSource}
+use Rattle.model_known.proofs.MeasureLaws.{ordered-all, each-first, each-weaker, nothing-brought}
 
 pub known-ordered : (g : List Decl) (nodes : ℕ) (all : List (List Delta)) (cs : List ℕ) (x : ℕ) → IsOrdered (known g nodes all cs x)
 known-ordered g nodes all cs x = ordered-all (least_of nodes (kind_at g x)) (brought_to x (first_deltas all cs)) (least_of-ordered nodes (kind_at g x))
-
--- each delta is of a declared source
-abbrev pub IsOfSource : List Decl → Delta → Type 0
-IsOfSource g d = (d.var < length g) × IsTrue (is_source (kind_at g d.var))
 
 -- where no delta is of the variable, it is known to be least
 pub known-untouched : (g : List Decl) (nodes : ℕ) (all : List (List Delta)) (cs : List ℕ) (x : ℕ) → Each (λ d. (d.var == x) ≡ false) all → known g nodes all cs x ≡ least_of nodes (kind_at g x)

@@ -17,11 +17,10 @@ use Rattle.model_known.specs.Owner.{delta_at}
 use Rattle.model_known.proofs.EffectLaws.{followed}
 use Rattle.model_known.proofs.HoldLaws.{sends-known, takes-known}
 use Rattle.model_known.proofs.KnownLaws.{known-above}
-use Rattle.model_known.proofs.MeasureLaws.{Each}
+use Rattle.model_known.specs.Known.{Each, IsOfSource}
 use Rattle.model_known.proofs.PlaceLaws.{holds-contents}
 use Rattle.model_known.proofs.PlayLaws.{source-of}
 use Rattle.model_known.proofs.SoundLaws.{IsSound, sound-begin, sound-act}
-use Rattle.model_known.proofs.VariableLaws.{IsOfSource}
 use Rattle.model_world.specs.Command.{Command}
 use Rattle.model_world.specs.Lawful.{opening_stage, stage_after, MayBeDone, AreLawful}
 use Rattle.model_world.specs.World.{Peer, Update, Take, Post, fresh_peer, no_peer, peer_at, sent_number, updated, delivered, message_at, shown_at}
