@@ -19,6 +19,7 @@ pub use Rattle.lasp_state.specs.declared.state.State.{State}
 pub use Rattle.lasp_graph.specs.Decl.{decl_of}
 pub use Rattle.lasp_graph.specs.Evaluated.{number_by}
 pub use Rattle.lasp_graph.specs.States.{contents_of, held_at, held_of}
+pub use Rattle.model_runs.specs.Part.{BringsAsMuch}
 pub use Rattle.lasp_replica.specs.Entries.{entry_of}
 pub use Rattle.lasp_replica.specs.Jobs.{IsFirst, IsJobNow, IsJobOf, IsNext, IsResultOf, IsUnclean, Lacks, unread_rows}
 pub use Rattle.lasp_replica.specs.Replica.{IsAnswered, IsDelivered, IsReplica, IsSmall, IsSuited, entries_of, frame_of, update_refusal}

@@ -1,7 +1,7 @@
 //! The core of a replica, as callers see it.
 
 ghost use Rattle.std.specs.Prelude.{◌≡◌, ◌<◌, ◌≤◌, ◌^◌, ◌↔◌, [], IfOk, IfErr, OnOk, OnErr, IfSome, IfNone, IsTrue, is_some, length, take, slice_get, Some, vec_capacity, ℕ};
-ghost use Rattle.lasp_core.specs.Prelude.{arc_value, count_at, IsContentAtMost, suits, meets, kind_at, equation, eval, ContentsAtMost, IsDerived, variable_limit, IsClean, base, entry, entered, op_of, threshold_of, decl_of, contents_of, held_at, number_by, read_of, entry_of, IsSmall, IsSuited, update_refusal, IsAnswered, IsDelivered, IsUnclean, IsFirst, IsNext, Lacks, IsJobOf, IsJobNow, IsResultOf, fresh_core, IsOpen, opened_read, opened, closed, rows_of, taken, returned, IsSettled, declared, IsStateOf, AreOfKind, AreAscending, AreInOrder};
+ghost use Rattle.lasp_core.specs.Prelude.{arc_value, count_at, IsContentAtMost, suits, meets, kind_at, equation, eval, ContentsAtMost, IsDerived, variable_limit, IsClean, base, entry, entered, op_of, threshold_of, decl_of, contents_of, held_at, number_by, read_of, entry_of, IsSmall, IsSuited, update_refusal, IsAnswered, IsDelivered, BringsAsMuch, IsUnclean, IsFirst, IsNext, Lacks, IsJobOf, IsJobNow, IsResultOf, fresh_core, IsOpen, opened_read, opened, closed, rows_of, taken, returned, IsSettled, declared, IsStateOf, AreOfKind, AreAscending, AreInOrder};
 ghost use Rattle.model_graph.specs.Lawful.{shape_of};
 ghost use Rattle.model_readings.specs.Lawful.{IsNext as MayFollow};
 ghost use Rattle.model_journal.specs.Entry as model;
@@ -101,10 +101,28 @@ impl Core {
         ensures err { OnErr result (self.new ≡ self.old) }
         ensures answer { IsDelivered self.old.frame.nodes (journal.graph self.old.frame self.old.entries) (journal.vals self.old.frame self.old.entries) (arc_value message.now) result }
     {
+        self.deliver_part(by, number, message, message)
+    }
+
+    /// Joins a message in by one that brings as much to what is there: it costs what the other one has.
+    pub fn deliver_part(
+        &mut self,
+        by: u64,
+        number: u32,
+        message: &Arc<Message>,
+        part: &Message,
+    ) -> Result<Released, DeliverRefused>
+        requires { BringsAsMuch (journal.graph self.old.frame self.old.entries) (journal.vals self.old.frame self.old.entries) (arc_value message.now) part.now }
+        ensures ok { OnOk result (self.new ≡ entered (entry by (model.Deliver number (arc_value message.now))) self.old) }
+        ensures released { IfOk result (λ reads. reads ≡ plain.released (entry by (model.Deliver number (arc_value message.now))) self.old) }
+        ensures ascending { IfOk result AreAscending }
+        ensures err { OnErr result (self.new ≡ self.old) }
+        ensures answer { IsDelivered self.old.frame.nodes (journal.graph self.old.frame self.old.entries) (journal.vals self.old.frame self.old.entries) (arc_value message.now) result }
+    {
         ready_reads(&mut self.replica, self.parked.as_slice());
         let mut released = self.room()?;
         let n = self.replica.journal.len() as u64;
-        self.replica.deliver(by, number, message)?;
+        self.replica.deliver_part(by, number, message, part)?;
         split_met(&self.replica, n, &mut self.parked, &mut released);
         Ok(Released::of(released))
     }

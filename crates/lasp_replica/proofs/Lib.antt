@@ -17,5 +17,6 @@ pub mod BeginLaws
 pub mod RaiseLaws
 pub mod TakenLaws
 pub mod RecordLaws
+pub mod BroughtLaws
 pub mod DeliverLaws
 pub mod NewsLaws

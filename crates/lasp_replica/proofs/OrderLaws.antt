@@ -10,10 +10,13 @@ use Rattle.model_core.proofs.ValidLaws.{sent-valid}
 use Rattle.lasp_replica.specs.Parts.{Parts}
 use Rattle.lasp_replica.specs.TakenIn.{IsInOrder}
 
-sent-ordered : (nodes : ℕ) (sent : List Sent) → AreValidSources nodes sent → (i : ℕ) → IsOrdered (sent_at sent i)
-sent-ordered nodes [] valid i = ordered-least
-sent-ordered nodes (s ∷ sent) valid zero = valid.0.ordered
-sent-ordered nodes (s ∷ sent) valid (suc i) = sent-ordered nodes sent valid.1 i
+ordered-at : (nodes : ℕ) (sent : List Sent) → AreValidSources nodes sent → (i : ℕ) → IsOrdered (sent_at sent i)
+ordered-at nodes [] valid i = ordered-least
+ordered-at nodes (s ∷ sent) valid zero = valid.0.ordered
+ordered-at nodes (s ∷ sent) valid (suc i) = ordered-at nodes sent valid.1 i
+
+pub sent-ordered : (m : Message) → IsMessage m → (i : ℕ) → IsOrdered (sent_at m.sources i)
+sent-ordered m message i = ordered-at (length m.counts) m.sources (sent-valid (length m.counts) m.sources message.sources) i
 
 -- what a message of the format brings is in order
 pub message-in-order : (m : Message) (p : Parts) → IsMessage m → IsInOrder m p
@@ -22,5 +25,5 @@ message-in-order m p message x low c brings = choose (is_source (kind_at p.graph
   sent = sent_at m.sources (source_number p.graph x)
 
   choose : (b : Bool) → (if b then Some sent else None) ≡ Some c → IsOrdered c
-  choose true is = subst IsOrdered (let same : sent ≡ c = cc in same) (sent-ordered (length m.counts) m.sources (sent-valid (length m.counts) m.sources message.sources) (source_number p.graph x))
+  choose true is = subst IsOrdered (let same : sent ≡ c = cc in same) (sent-ordered m message (source_number p.graph x))
   choose false is = absurd cc

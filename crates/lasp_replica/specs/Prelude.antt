@@ -16,6 +16,7 @@ pub use Rattle.model_journal.specs.Entry.{Bind, Deliver, Entry, Extend, Frame, U
 pub use Rattle.model_journal.specs.Journal.{counts, graph, val, vals}
 pub use Rattle.model_journal.specs.Legal.{IsLegal}
 pub use Rattle.model_runs.specs.Held.{IsSentTo}
+pub use Rattle.model_runs.specs.Part.{BringsAsMuch}
 pub use Rattle.model_readings.specs.Lawful.{IsNext}
 pub use Rattle.lasp_history.specs.History.{AreBelow, grown, no_history, rows_before, version_before}
 pub use Rattle.lasp_state.specs.State.{content_of, op_of}
@@ -28,7 +29,7 @@ pub use Rattle.lasp_replica.specs.Finish.{AreNewsOf, HasRoom, HasRows, IsAlike, 
 pub use Rattle.lasp_replica.specs.Jobs.{AreShared, HasBound, HasStarted, HasStopped, IsFirstFree, IsFirstUnclean, IsFreeAt, IsJobOf, IsLacking, IsNextVar, IsResultOf, IsUncleanAt}
 pub use Rattle.lasp_replica.specs.Parts.{Base, IsBase, IsKept, Parts, base_at, first_input, fresh_base, fresh_state, history_at, news_of, no_set, second_input}
 pub use Rattle.lasp_replica.specs.Reading.{HasChanged, IsOfItsKind, IsSmallSet, IsStill, rows_since}
-pub use Rattle.lasp_replica.specs.Replica.{Goes, Grows, IsAnswered, IsBeginning, IsDelivered, IsReplica, IsSmall, Stays, busy_of, entries_of, frame_of, growths_at, is_for, jobs_of, kept_at, log_at, refused, seen_process, shape_for, told, update_check, update_refusal}
+pub use Rattle.lasp_replica.specs.Replica.{Goes, Grows, IsAnswered, IsBeginning, IsDelivered, IsOfGraph, IsReplica, IsSmall, Stays, busy_of, entries_of, frame_of, growths_at, is_for, jobs_of, kept_at, log_at, refused, seen_process, shape_for, told, update_check, update_refusal}
 pub use Rattle.lasp_replica.specs.TakenIn.{IsInOrder, IsTakenIn}
 pub use Rattle.lasp_replica.specs.Update.{IsGain, IsInFormat, IsPrepared, recorded}
 pub use Rattle.lasp_job.specs.Asked.{has_two}

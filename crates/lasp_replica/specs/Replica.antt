@@ -15,6 +15,7 @@ use Rattle.model_graph.specs.Evaluation.{content_at, first_large}
 use Rattle.model_graph.specs.Lawful.{shape_of, sources_among}
 use Rattle.model_wire.specs.Lawful.{IsSource}
 use Rattle.model_runs.specs.Held.{IsHeld}
+pub use Rattle.model_runs.specs.Part.{IsBeginning}
 use Rattle.model_journal.specs.Entry as model
 use Rattle.model_journal.specs.Entry.{Frame}
 use Rattle.model_journal.specs.Legal.{IsLegal}
@@ -180,10 +181,6 @@ IsAnswered expected (Err update.Memory) = Unit {0}
 IsAnswered expected (Err why) = expected ≡ Some why
 
 -- ---- deliveries
-
--- the message's sources are the first of the graph's
-abbrev pub IsBeginning : Message → List Decl → Type 0
-IsBeginning m g = (more : List Decl) × (map (λ (s : Sent). s.decl) m.sources ++ more ≡ sources_among g)
 
 -- the message is one of a graph, among so many nodes
 abbrev pub IsOfGraph : ℕ → List Decl → Message → Type 0

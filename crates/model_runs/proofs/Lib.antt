@@ -11,3 +11,4 @@ pub mod RunLaws
 pub mod BindLaws
 pub mod CallLaws
 pub mod FedLaws
+pub mod PartLaws

@@ -17,7 +17,8 @@ use Rattle.model_known.specs.Follow.{Followed, with_run, follow_act, follow_each
 use Rattle.model_known.specs.Holds.{IsPlaceOf}
 use Rattle.model_known.specs.Owner.{AreOwned}
 use Rattle.model_known.proofs.EffectLaws.{followed, follow-effect}
-use Rattle.model_known.proofs.SoundLaws.{sound-begin, no-deltas}
+use Rattle.model_known.proofs.KnowsLaws.{no-deltas}
+use Rattle.model_known.proofs.SoundLaws.{sound-begin}
 use Rattle.model_known.proofs.FollowLaws.{bound, each-run}
 use Rattle.model_known.proofs.PlayLaws.{stage_of, mark-owned, source-of, step-sound}
 use Rattle.model_journal.specs.Entry.{Entry}

@@ -1,7 +1,7 @@
 //! Deliveries of messages to a replica.
 
-ghost use Rattle.std.specs.Prelude.{◌≡◌, ◌<◌, ◌≤◌, OnOk, OnErr, IfOk, length, map};
-ghost use Rattle.lasp_replica.specs.Prelude.{arc_value, join_contents, of_set, size_of, row_limit, set, sent_at, brought, gained, IsSentTo, entry, content_of, held_of, held_at, contents_of, AreJoinable, told, IsReplica, Goes, Stays, IsDelivered, AreSourcesOfKind, IsLike, AreSmall, IsRefusedAt, AreJoined, IsRefused, AreRecordable, AreRecordedTo};
+ghost use Rattle.std.specs.Prelude.{◌≡◌, ◌<◌, ◌≤◌, ◌↔◌, IsTrue, OnOk, OnErr, IfOk, length, map};
+ghost use Rattle.lasp_replica.specs.Prelude.{arc_value, join_contents, of_set, size_of, row_limit, set, sent_at, brought, gained, IsSentTo, entry, content_of, held_of, held_at, contents_of, AreJoinable, told, IsReplica, Goes, Stays, IsDelivered, IsOfGraph, BringsAsMuch, AreSourcesOfKind, IsLike, AreSmall, IsRefusedAt, AreJoined, IsRefused, AreRecordable, AreRecordedTo};
 ghost use Rattle.model_states.specs.Counts as plain;
 ghost use Rattle.model_journal.specs.Entry as model;
 ghost use Rattle.lasp_state.specs.State.{shape_of};
@@ -202,7 +202,14 @@ fn record_all(histories: &mut Vec<History>, grow: &[bool], entry: u64)
 }
 
 impl Replica {
-    /// Joins a message in. All memory is taken before anything changes.
+    /// Whether a message is one of this graph, among as many nodes.
+    fn suits(&self, message: &Message) -> bool
+        ensures { IsTrue result ↔ IsOfGraph (length self.now.counts) (arc_value self.now.graph) message.now }
+    {
+        message.counts().len() == self.counts.len() && begins(&self.graph, message)
+    }
+
+    /// Joins a message in. All memory is taken before anything changes. It costs a look-up for each row of the message.
     pub fn deliver(
         &mut self,
         by: u64,
@@ -214,20 +221,32 @@ impl Replica {
         ensures err { OnErr result (Stays self.old self.new) }
         ensures answer { IsDelivered (length self.old.counts) (arc_value self.old.graph) (contents_of self.old.states) (arc_value message.now) result }
     {
-        if message.counts().len() != self.counts.len() || !begins(&self.graph, message) {
+        self.deliver_part(by, number, message, message)
+    }
+
+    /// Joins a message in by one that brings as much to what is there. All memory is taken before anything changes. It costs a look-up for each row of the other one.
+    pub fn deliver_part(
+        &mut self,
+        by: u64,
+        number: u32,
+        message: &Arc<Message>,
+        part: &Message,
+    ) -> Result<(), DeliverRefused>
+        requires replica { IsReplica self.old }
+        requires part { BringsAsMuch (arc_value self.old.graph) (contents_of self.old.states) (arc_value message.now) part.now }
+        ensures ok { OnOk result (Goes (entry by (model.Deliver number (arc_value message.now))) self.old self.new) }
+        ensures err { OnErr result (Stays self.old self.new) }
+        ensures answer { IsDelivered (length self.old.counts) (arc_value self.old.graph) (contents_of self.old.states) (arc_value message.now) result }
+    {
+        if !self.suits(message) {
             return Err(DeliverRefused::WrongGraph);
         }
         message.recall();
+        part.recall();
         let alloc = self.allocator();
         let share = Arc::try_clone(message)?;
         let mut states = self.states.try_clone(alloc)?;
-        let grow = join_sources(
-            alloc,
-            &self.graph,
-            &mut states,
-            &mut self.histories,
-            message,
-        )?;
+        let grow = join_sources(alloc, &self.graph, &mut states, &mut self.histories, part)?;
         self.journal.reserve(1)?;
         record_all(&mut self.histories, &grow, self.journal.len() as u64);
         self.states = states;

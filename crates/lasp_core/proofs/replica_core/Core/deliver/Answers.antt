@@ -1,27 +1,12 @@
-use Rattle.std.proofs.Common.{◌∷◌, [], map, ◌∙◌}
+use Rattle.std.proofs.Common.{sym, subst}
 use Rattle.std.specs.Arc.{arc_value}
-use Rattle.model_journal.specs.Entry as model
-use Rattle.model_journal.specs.Entry.{entry}
-use Rattle.model_core.specs.Core.{is_met}
-use Rattle.lasp_core.specs.Reads.{read_of}
-use Rattle.lasp_replica.specs.Replica.{frame_of, entries_of}
-use Rattle.lasp_core.proofs.OrderLaws.{passed-ascend}
-use Rattle.lasp_core.proofs.CoresLaws.{ready-sound, all-watched, entered-sound, entries-many}
+use Rattle.model_journal.specs.Journal.{graph, vals}
+use Rattle.model_runs.specs.Part.{BringsAsMuch}
+use Rattle.model_runs.proofs.PartLaws.{brings-itself}
 use Rattle.lasp_core.proofs.replica_core.Core.deliver.Goals as goal
 
-pub split_met-requires-clause-reads : goal.split_met-requires-clause-reads
-split_met-requires-clause-reads c =
-    let goes = c.in_ok-deliver.ensures.ok in
-    let e = entry c.args.by (model.Deliver c.args.number (arc_value c.args.message.now)) in
-    all-watched c.ready_reads.new.replica c.deliver.new.self c.self.inside.parked.items c.self.inside.opened (e ∷ []) c.len-n.result (ready-sound c.self.inside.replica c.ready_reads.new.replica c.self.inside.parked.items c.self.inside.opened c.ready_reads.ensures c.self.invariant) goes.sound goes.frame goes.entries (c.len-n.ensures ∙ entries-many c.ready_reads.new.replica)
-
-pub invariant_of-self-2 : goal.invariant_of-self-2
-invariant_of-self-2 c =
-    let goes = c.in_ok-deliver.ensures.ok in
-    let e = entry c.args.by (model.Deliver c.args.number (arc_value c.args.message.now)) in
-    entered-sound c.ready_reads.new.replica c.deliver.new.self e c.self.inside.parked.items c.split_met.new.parked.items c.self.inside.opened (ready-sound c.self.inside.replica c.ready_reads.new.replica c.self.inside.parked.items c.self.inside.opened c.ready_reads.ensures c.self.invariant) goes.sound goes.frame goes.entries c.split_met.ensures.parked
-
-pub returns-clause-ascending : goal.returns-clause-ascending
-returns-clause-ascending c =
-    let new = c.deliver.new.self in
-    passed-ascend (λ r. is_met (frame_of new) (entries_of new) r) (map read_of c.self.inside.parked.items) c.of.result c.self.invariant.order.ascend (c.of.ensures ∙ c.split_met.ensures.released)
+pub deliver_part-requires : goal.deliver_part-requires
+deliver_part-requires c =
+    let core = c.args.self.now in
+    let m = arc_value c.args.message.now in
+    subst (BringsAsMuch (graph core.frame core.entries) (vals core.frame core.entries) m) (sym c.deref.ensures) (brings-itself (graph core.frame core.entries) (vals core.frame core.entries) m)
