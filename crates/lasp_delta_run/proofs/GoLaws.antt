@@ -16,13 +16,14 @@ use Rattle.model_delta_runs.specs.Going.{IsGoing}
 use Rattle.model_delta_runs.proofs.RunLaws.{forget, forget-each, gossip-append}
 use Rattle.lasp_drive.specs.Node.{NodeView, IsNode, IsStill, AreNodes, Grew, OnlyLearns}
 use Rattle.lasp_drive.specs.Nodes.{peers_of}
-use Rattle.lasp_drive.specs.Driver.{DriverView, run_of, stage_of, Stands}
+use Rattle.lasp_drive.specs.Driver.{DriverView, run_of, stage_of, IsRunKnown, Stands}
 use Rattle.lasp_drive.specs.Acts.{Halts, MayDo, Acted, ActsSeen, all_staged}
 use Rattle.lasp_drive.specs.declared.halt.Halt.{Halt}
 use Rattle.lasp_drive.specs.declared.halt.Halt.TheVariants as halt
 use Rattle.lasp_drive.proofs.NodeLaws.{with_peers, nodes-set, node-stays, deliver-done, deliver-stops, peer-here}
 use Rattle.lasp_drive.proofs.WaitLaws.{all-called}
 use Rattle.lasp_drive.proofs.ActLaws.{halts-as, halts-then, halts-one, staged-append}
+use Rattle.lasp_drive.proofs.KnownLaws.{known-take}
 use Rattle.lasp_drive.proofs.StepLaws.{with_nodes, acted-learns}
 use Rattle.lasp_delta_run.specs.Seen.{DeltaView, gossip_of, IsUnderWay}
 use Rattle.lasp_delta_run.specs.Acts.{Did, DoesSeen, Went, Goes}
@@ -61,6 +62,7 @@ did-take c p i d n new m ready may at still same is small grew =
         nodes = subst (λ (many : ℕ). AreNodes d.graph many nodes) (sym size) (nodes-set d.graph (length d.nodes) d.nodes p new ready.nodes (node-stays d.graph (length d.nodes) p n new here still));
         limit = ready.limit;
         sound = subst (λ (many : ℕ). IsSound many c (stage_of d) (with_peers (run_of d) (peers_of nodes))) (sym size) sound;
+        known = subst (λ (many : ℕ). IsRunKnown many (with_peers (run_of d) (peers_of nodes))) (sym size) (known-take (length d.nodes) c (run_of d) (with_peers (run_of d) (peers_of nodes)) ready.known p i done);
         waiting = all-called c p d.nodes d.reads n new at grew ready.waiting;
       };
       size = size;

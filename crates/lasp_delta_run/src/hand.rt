@@ -46,7 +46,7 @@ pub(crate) fn hand<N: Node>(
     requires brings { BringsTheSame (seen N.view N.read driver.old) p i (arc_value message.now) }
     ensures { DoesSeen c (seen N.view N.read driver.old) (Take p i ∷ []) result (seen N.view N.read driver.new) }
 {
-    match driver.nodes[p as usize].deliver(alloc, i, message) {
+    match driver.nodes[p as usize].deliver(alloc, i, message, message) {
         Ok(()) => Ok(()),
         Err(NodeStop::TooLarge(x)) => Err(Halt::TooLarge(c, p, x)),
         Err(NodeStop::Memory) => Err(Halt::Memory),

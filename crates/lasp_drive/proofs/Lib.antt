@@ -3,6 +3,8 @@ pub mod WaitLaws
 pub mod PointLaws
 pub mod CallLaws
 pub mod ActLaws
+pub mod KnownLaws
+pub mod PartLaws
 pub mod StepLaws
 pub mod PlayLaws
 pub mod StretchLaws

@@ -34,7 +34,7 @@ use Rattle.lasp_drive.specs.Nodes.{peers_of, MaySettle, AllLearn, AllSettled, Se
 use Rattle.lasp_drive.specs.Reads.{IsNextRead, opens_next, looks_once}
 use Rattle.lasp_drive.specs.Waiting.{AreWaiting, opened_count, GoOnByReads}
 use Rattle.lasp_drive.specs.Calls.{GoOnByCalls}
-use Rattle.lasp_drive.specs.Driver.{DriverView, marked_of, opened_of, run_of, stage_of, Stands, Starts}
+use Rattle.lasp_drive.specs.Driver.{DriverView, marked_of, opened_of, run_of, stage_of, IsRunKnown, Stands, Starts}
 use Rattle.lasp_drive.specs.Acts.{MayDo, Acted, ActsSeen}
 use Rattle.lasp_script.specs.Command.{until_of}
 use Rattle.lasp_script.specs.declared.command.Until as rust_until
@@ -48,6 +48,7 @@ use Rattle.lasp_drive.proofs.NodeLaws.{mapped-or, same-set, nodes-set, node-stay
 use Rattle.lasp_drive.proofs.WaitLaws.{all-later, all-called, all-looked, all-opened, all-fresh, opened-kept, opened-one}
 use Rattle.lasp_drive.proofs.CallLaws.{calls-stay, calls-set, updated-there, updated-elsewhere, taken-there, taken-elsewhere, calls-each, counts-stay, one-opened}
 use Rattle.lasp_drive.proofs.ActLaws.{acted-one, acted-then, stops-still}
+use Rattle.lasp_drive.proofs.KnownLaws.{known-start, known-update, known-keep, known-post, known-take, known-show, known-open, known-extend}
 
 -- the driver with these nodes
 abbrev pub with_nodes : DriverView → List NodeView → DriverView
@@ -55,13 +56,14 @@ with_nodes d nodes = record { graph = d.graph; nodes = nodes; sent = d.sent; lim
 
 -- as many nodes of the same run, whose world is sound
 stands-with : (c next : ℕ) (d : DriverView) (nodes : List NodeView) → Stands c d → length nodes ≡ length d.nodes → AreNodes d.graph (length d.nodes) nodes → IsSound (length d.nodes) next (stage_of d) (with_peers (run_of d) (peers_of nodes))
-    → AreWaiting next nodes d.reads → Stands next (with_nodes d nodes)
-stands-with c next d nodes ready size each sound waiting = record {
+    → IsRunKnown (length d.nodes) (with_peers (run_of d) (peers_of nodes)) → AreWaiting next nodes d.reads → Stands next (with_nodes d nodes)
+stands-with c next d nodes ready size each sound known waiting = record {
   some = omega (arith, ready.some, size);
   few = omega (arith, ready.few, size);
   nodes = subst (λ (many : ℕ). AreNodes d.graph many nodes) (sym size) each;
   limit = ready.limit;
   sound = subst (λ (many : ℕ). IsSound many next (stage_of d) (with_peers (run_of d) (peers_of nodes))) (sym size) sound;
+  known = subst (λ (many : ℕ). IsRunKnown many (with_peers (run_of d) (peers_of nodes))) (sym size) known;
   waiting = waiting;
 }
 
@@ -83,7 +85,7 @@ acted-learns c p d n new ready at learned =
     let same : run_of d ≡ with_peers (run_of d) (peers_of nodes) = ap (with_peers (run_of d)) (sym peers) in
     record {
       ready = stands-with c c d nodes ready (length-set d.nodes p new) (nodes-set d.graph (length d.nodes) d.nodes p new ready.nodes (node-stays d.graph (length d.nodes) p n new (ready.nodes p n at) learned.learns.still))
-          (subst (λ (run : Run). IsSound (length d.nodes) c (stage_of d) run) same ready.sound) (all-called c p d.nodes d.reads n new at grew ready.waiting);
+          (subst (λ (run : Run). IsSound (length d.nodes) c (stage_of d) run) same ready.sound) (subst (IsRunKnown (length d.nodes)) same ready.known) (all-called c p d.nodes d.reads n new at grew ready.waiting);
       size = length-set d.nodes p new;
       stage = refl;
       run = ap (λ (run : Run). Ok run) same;
@@ -99,7 +101,7 @@ acted-asked c p d e n new a at learned done = acted-then c c c d e (with_nodes e
 pub stands-asked : (c : ℕ) (d : DriverView) (nodes : List NodeView) → Stands c d → AllLearn d.nodes nodes → Stands c (with_nodes d nodes)
 stands-asked c d nodes ready learn =
     let same : run_of d ≡ with_peers (run_of d) (peers_of nodes) = ap (with_peers (run_of d)) (sym learn.peers) in
-    stands-with c c d nodes ready learn.size (λ p n at. let was = learn.still p n at in node-stays d.graph (length d.nodes) p was.0 n (ready.nodes p was.0 was.1) was.2) (subst (λ (run : Run). IsSound (length d.nodes) c (stage_of d) run) same ready.sound) (learn.reads.waiting c d.reads ready.waiting)
+    stands-with c c d nodes ready learn.size (λ p n at. let was = learn.still p n at in node-stays d.graph (length d.nodes) p was.0 n (ready.nodes p was.0 was.1) was.2) (subst (λ (run : Run). IsSound (length d.nodes) c (stage_of d) run) same ready.sound) (subst (IsRunKnown (length d.nodes)) same ready.known) (learn.reads.waiting c d.reads ready.waiting)
 
 -- ---- updates
 
@@ -125,6 +127,7 @@ acted-update c p x op d n new ready may at still is small calls grew =
     acted-one c (c + 1) d (with_nodes d (slice_set d.nodes p new)) (Update p x op)
     (stands-with c (c + 1) d (slice_set d.nodes p new) ready (length-set d.nodes p new) (nodes-set d.graph (length d.nodes) d.nodes p new ready.nodes (node-stays d.graph (length d.nodes) p n new here still))
     (sound-update (length d.nodes) c p x (stage_of d) op (run_of d) (with_peers (run_of d) (peers_of (slice_set d.nodes p new))) ready.sound may.2 may.0.0 may.0.1 may.1 done)
+    (known-update (length d.nodes) c (run_of d) (with_peers (run_of d) (peers_of (slice_set d.nodes p new))) ready.known p x op may.0.0 may.0.1 may.1 done)
     (all-later-called c d p n new at grew ready.waiting))
     (length-set d.nodes p new) refl done
     (calls-set d.nodes p n new (λ q. call_of (run_of d) q (Update p x op)) at (calls ∙ ap (λ (h : List Entry). n.calls ++ h) (sym (updated-there (run_of d) p x op))) (updated-elsewhere (run_of d) p x op))
@@ -147,6 +150,7 @@ acted-take c p i d n new m ready may at same still is small calls grew =
     acted-one c c d (with_nodes d (slice_set d.nodes p new)) (Take p i)
     (stands-with c c d (slice_set d.nodes p new) ready (length-set d.nodes p new) (nodes-set d.graph (length d.nodes) d.nodes p new ready.nodes (node-stays d.graph (length d.nodes) p n new here still))
     (sound-take (length d.nodes) c p i (stage_of d) (run_of d) (with_peers (run_of d) (peers_of (slice_set d.nodes p new))) ready.sound may.0 may.1 done)
+    (known-take (length d.nodes) c (run_of d) (with_peers (run_of d) (peers_of (slice_set d.nodes p new))) ready.known p i done)
     (all-called c p d.nodes d.reads n new at grew ready.waiting))
     (length-set d.nodes p new) refl done
     (calls-set d.nodes p n new (λ q. call_of (run_of d) q (Take p i)) at
@@ -162,13 +166,14 @@ length-more [] y = refl
 length-more (x ∷ xs) y = omega (arith, length-more xs y)
 
 -- the same nodes stand in another world
-stands-in : (c : ℕ) (d e : DriverView) → Stands c d → e.nodes ≡ d.nodes → e.graph ≡ d.graph → e.limit ≡ d.limit → e.reads ≡ d.reads → IsSound (length d.nodes) c (stage_of e) (run_of e) → Stands c e
-stands-in c d e ready nodes graph limit reads sound = record {
+stands-in : (c : ℕ) (d e : DriverView) → Stands c d → e.nodes ≡ d.nodes → e.graph ≡ d.graph → e.limit ≡ d.limit → e.reads ≡ d.reads → IsSound (length d.nodes) c (stage_of e) (run_of e) → IsRunKnown (length d.nodes) (run_of e) → Stands c e
+stands-in c d e ready nodes graph limit reads sound known = record {
   some = omega (arith, ready.some, ap (λ (ns : List NodeView). length ns) nodes);
   few = omega (arith, ready.few, ap (λ (ns : List NodeView). length ns) nodes);
   nodes = subst (λ (g : List Decl). AreNodes g (length e.nodes) e.nodes) (sym graph) (subst (λ (ns : List NodeView). AreNodes d.graph (length ns) ns) (sym nodes) ready.nodes);
   limit = limit ∙ ready.limit;
   sound = subst (λ (many : ℕ). IsSound many c (stage_of e) (run_of e)) (sym (ap (λ (ns : List NodeView). length ns) nodes)) sound;
+  known = subst (λ (many : ℕ). IsRunKnown many (run_of e)) (sym (ap (λ (ns : List NodeView). length ns) nodes)) known;
   waiting = subst (λ (rs : List (OpenRead Read)). AreWaiting c e.nodes rs) (sym reads) (subst (λ (ns : List NodeView). AreWaiting c ns d.reads) (sym nodes) ready.waiting);
 }
 
@@ -177,7 +182,7 @@ acted-post c p d m ready member done =
     let e = with_sent d (d.sent ++ m ∷ []) d.limit in
     let stage : stage_of e ≡ record { graph = d.graph; marked = map (λ (m : Mark). m.var) d.marks; sent = length d.sent + 1 } = ap (λ (n : ℕ). record { graph = d.graph; marked = map (λ (m : Mark). m.var) d.marks; sent = n }) (length-more d.sent m) in
     acted-one c c d e (Post p)
-    (stands-in c d e ready refl refl refl refl (subst (λ s. IsSound (length d.nodes) c s (run_of e)) (sym stage) (sound-post (length d.nodes) c p (stage_of d) (run_of d) (run_of e) ready.sound member done)))
+    (stands-in c d e ready refl refl refl refl (subst (λ s. IsSound (length d.nodes) c s (run_of e)) (sym stage) (sound-post (length d.nodes) c p (stage_of d) (run_of d) (run_of e) ready.sound member done)) (known-post (length d.nodes) c (run_of d) (run_of e) ready.known p done))
     refl stage done (calls-stay d.nodes d.nodes refl) (counts-stay d.nodes d.nodes refl)
 
 -- ---- marks
@@ -203,7 +208,7 @@ acted-keep c p x d n m ready may at var shape content =
     let stage : stage_of e ≡ record { graph = d.graph; marked = map (λ (m : Mark). m.var) d.marks ++ x ∷ []; sent = length d.sent } =
     ap (λ (vs : List ℕ). record { graph = d.graph; marked = vs; sent = length d.sent }) (map-append (λ (m : Mark). m.var) d.marks (m ∷ []) ∙ ap (λ (v : ℕ). map (λ (m : Mark). m.var) d.marks ++ v ∷ []) var) in
     acted-one c c d e (Keep p x)
-    (stands-in c d e ready refl refl refl refl (subst (λ s. IsSound (length d.nodes) c s (run_of e)) (sym stage) (sound-keep (length d.nodes) c p x (stage_of d) (run_of d) (run_of e) ready.sound may.0.0 may.0.1 may.1 done)))
+    (stands-in c d e ready refl refl refl refl (subst (λ s. IsSound (length d.nodes) c s (run_of e)) (sym stage) (sound-keep (length d.nodes) c p x (stage_of d) (run_of d) (run_of e) ready.sound may.0.0 may.0.1 may.1 done)) (known-keep (length d.nodes) c (run_of d) (run_of e) ready.known p x done))
     refl stage done (calls-stay d.nodes d.nodes refl) (counts-stay d.nodes d.nodes refl)
 
 -- ---- what settled nodes show
@@ -231,7 +236,7 @@ show-done c p x d n decl name shown text ready settled at there named showing is
 
 pub acted-show : (c p x : ℕ) (d : DriverView) (text : List ℕ) → Stands c d → act c (run_of d) (Show p x) ≡ Ok (run_of (with_text d text)) → Acted c c d (Show p x ∷ []) (with_text d text)
 acted-show c p x d text ready done =
-    acted-one c c d (with_text d text) (Show p x) (stands-in c d (with_text d text) ready refl refl refl refl (sound-show (length d.nodes) c p x (stage_of d) (run_of d) (run_of (with_text d text)) ready.sound done))
+    acted-one c c d (with_text d text) (Show p x) (stands-in c d (with_text d text) ready refl refl refl refl (sound-show (length d.nodes) c p x (stage_of d) (run_of d) (run_of (with_text d text)) ready.sound done) (known-show (length d.nodes) c (run_of d) (run_of (with_text d text)) ready.known p x done))
     refl refl done (calls-stay d.nodes d.nodes refl) (counts-stay d.nodes d.nodes refl)
 
 -- ---- reads
@@ -274,6 +279,7 @@ acted-open c p x until d n new r ready may at few next learned =
       limit = ready.limit;
       sound = subst (λ (many : ℕ). IsSound many (c + 1) (stage_of d) (run_of e)) (sym size)
           (sound-later (length d.nodes) c (stage_of d) (run_of e) (sound-open (length d.nodes) c p x (stage_of d) until (run_of d) (run_of e) ready.sound may.0.0 may.0.1 (sound-suits (length d.nodes) c x (stage_of d) until (run_of d) ready.sound may.0.1 may.1) done));
+      known = subst (λ (many : ℕ). IsRunKnown many (run_of e)) (sym size) (known-open (length d.nodes) c (run_of d) (run_of e) ready.known p x until done);
       waiting = all-opened c p x t d.nodes d.reads n new r (omega (arith, few)) at next learned ready.waiting;
     })
     size refl done (none-called d.nodes p n new at learned.learns.calls)
@@ -308,6 +314,7 @@ acted-reach c p x until d n new ready at few learned reached =
     acted-one c (c + 1) d (with_nodes d nodes) (Reach p x until)
     (stands-with c (c + 1) d nodes ready (length-set d.nodes p new) (nodes-set d.graph (length d.nodes) d.nodes p new ready.nodes (node-stays d.graph (length d.nodes) p n new (ready.nodes p n at) learned.learns.still))
     (subst (λ (run : Run). IsSound (length d.nodes) (c + 1) (stage_of d) run) same (sound-later (length d.nodes) c (stage_of d) (run_of d) ready.sound))
+    (subst (IsRunKnown (length d.nodes)) same ready.known)
     (all-looked c p d.nodes d.reads n new (omega (arith, few)) at learned ready.waiting))
     (length-set d.nodes p new) refl (reached ∙ ap (λ (run : Run). Ok run) same) (none-called d.nodes p n new at learned.learns.calls)
     (one-opened d.nodes p n new at (opened-one c p d.reads n new looks_once (omega (arith, few)) (λ s. refl) learned (ready.waiting p n at)))
@@ -318,7 +325,7 @@ pub acted-point : (c : ℕ) (d : DriverView) (nodes : List NodeView) → Stands 
 acted-point c d nodes ready all done =
     let same : run_of d ≡ with_peers (run_of d) (peers_of nodes) = ap (with_peers (run_of d)) (sym all.peers) in
     acted-one c c d (with_nodes d nodes) Point
-    (stands-with c c d nodes ready all.size all.nodes_are (subst (λ (run : Run). IsSound (length d.nodes) c (stage_of d) run) same ready.sound) (all.reads.waiting c d.reads ready.waiting))
+    (stands-with c c d nodes ready all.size all.nodes_are (subst (λ (run : Run). IsSound (length d.nodes) c (stage_of d) run) same ready.sound) (subst (IsRunKnown (length d.nodes)) same ready.known) (all.reads.waiting c d.reads ready.waiting))
     all.size refl (done ∙ ap (λ (run : Run). Ok run) same) (calls-stay d.nodes nodes all.calls) (counts-stay d.nodes nodes all.reads.counts)
 
 abbrev pub with_graph : DriverView → List Decl → List NodeView → DriverView
@@ -337,6 +344,7 @@ acted-extend c decl d nodes ready all =
       nodes = subst (λ (many : ℕ). AreNodes (d.graph ++ decl ∷ []) many nodes) (sym all.size) all.nodes_are;
       limit = ready.limit;
       sound = subst (λ (many : ℕ). IsSound many c (stage_of e) (run_of e)) (sym all.size) (sound-extend (length d.nodes) c (stage_of d) decl (run_of d) (run_of e) ready.sound done);
+      known = subst (λ (many : ℕ). IsRunKnown many (run_of e)) (sym all.size) (known-extend (length d.nodes) c (run_of d) (run_of e) ready.known decl done);
       waiting = all.reads.waiting c d.reads ready.waiting;
     })
     all.size refl done (calls-each d.nodes nodes (fed (model.Extend decl) ∷ []) all.calls) (counts-stay d.nodes nodes all.reads.counts)
@@ -377,6 +385,7 @@ starts-fresh g many d some few fresh graph sent limit marks reads text =
         limit = limit;
         sound = subst (λ (k : ℕ). IsSound k 1 (stage_of d) (run_of d)) (sym fresh.size)
             (subst (λ (r : Run). IsSound many 1 (stage_of d) r) (sym run) (subst (λ (s : Stage). IsSound many 1 s (start g many)) (sym stage) (sound-start many g)));
+        known = subst (λ (k : ℕ). IsRunKnown k (run_of d)) (sym fresh.size) (subst (IsRunKnown many) (sym run) (known-start many g));
         waiting = subst (λ (rs : List (OpenRead Read)). AreWaiting 1 d.nodes rs) (sym reads) (all-fresh d.nodes fresh.reads);
       };
       run = run;

@@ -5,6 +5,8 @@ use Rattle.model_graph.specs.Graph.{Decl}
 use Rattle.model_messages.specs.Message.{Message}
 use Rattle.model_world.specs.Lawful.{Stage, opening_stage}
 use Rattle.model_world.specs.World.{Marked, Opened, Run, start, network_limit}
+use Rattle.model_known.specs.Delta.{Delta}
+use Rattle.model_known.specs.Known.{IsKnown}
 use Rattle.model_core.specs.Core.{Read}
 use Rattle.model_runs.specs.Sound.{IsSound}
 use Rattle.lasp_state.specs.State.{content_of, shape_of}
@@ -56,13 +58,18 @@ run_of d = record { graph = d.graph; peers = map (λ (n : NodeView). n.peer) d.n
 abbrev pub stage_of : DriverView → Stage
 stage_of d = record { graph = d.graph; marked = map (λ (m : Mark). m.var) d.marks; sent = length d.sent }
 
--- before command number c: the nodes are those of one run, which is sound; and of its reads those wait that aren't met
+-- everything that the replicas and messages of a run of so many nodes hold is known by some deltas
+abbrev pub IsRunKnown : ℕ → Run → Type 0
+IsRunKnown many run = (all : List (List Delta)) × IsKnown many run.graph run.peers run.sent all
+
+-- before command number c: the nodes are those of one run, which is sound and of which everything is known; and of its reads those wait that aren't met
 pub record Stands (c : ℕ) (d : DriverView) : Type 0 where
   pub some : 1 ≤ length d.nodes
   pub few : length d.nodes ≤ 8
   pub nodes : AreNodes d.graph (length d.nodes) d.nodes
   pub limit : d.limit ≡ network_limit
   pub sound : IsSound (length d.nodes) c (stage_of d) (run_of d)
+  pub known : IsRunKnown (length d.nodes) (run_of d)
   pub waiting : AreWaiting c d.nodes d.reads
 
 -- the driver stands there

@@ -7,6 +7,7 @@ pub use Rattle.model_world.specs.World.{updated, delivered, shown_at, message_at
 pub use Rattle.model_readings.specs.Lawful.{FitsAll}
 pub use Rattle.model_core.specs.Core.{Read}
 pub use Rattle.model_runs.specs.Held.{IsSentTo}
+pub use Rattle.model_runs.specs.Part.{BringsAsMuch}
 pub use Rattle.model_wire.specs.Lawful.{IsMessage}
 pub use Rattle.lasp_state.specs.State.{op_of}
 pub use Rattle.lasp_state.specs.Threshold.{threshold_of}

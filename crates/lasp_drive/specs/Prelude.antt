@@ -1,15 +1,17 @@
 -- The words that the contracts of acts, commands and reports are written in.
 pub use Rattle.std.specs.List.{range_with_len}
 pub use Rattle.std.specs.Arc.{arc_value}
+pub use Rattle.model_states.specs.Counts.{AreCountsAtMost}
 pub use Rattle.model_states.specs.Threshold.{meets}
 pub use Rattle.model_graph.specs.Graph.{kind_at}
 pub use Rattle.model_graph.specs.Evaluation.{content_at}
 pub use Rattle.model_graph.specs.Lawful.{shape_of, variable_limit}
 pub use Rattle.model_readings.specs.Lawful.{IsGraph, IsNext, FitsAll}
 pub use Rattle.model_scripts.specs.Progress.{grown}
-pub use Rattle.model_world.specs.World.{Update, Keep, Post, Take, Point, Show, Open, Reach, Extend, takes, sync_acts, ended, shown_content_at}
+pub use Rattle.model_world.specs.World.{Update, Keep, Post, Take, Point, Show, Open, Reach, Extend, takes, sync_acts, ended, peer_at, shown_content_at}
 pub use Rattle.model_world.specs.Report.{known_lines, read_lines, report_of}
 pub use Rattle.model_runs.specs.Calls.{fed}
+pub use Rattle.model_runs.specs.Part.{BringsAsMuch}
 pub use Rattle.lasp_value.specs.Value.{val_of}
 pub use Rattle.lasp_state.specs.State.{op_of, IsOpOf}
 pub use Rattle.lasp_graph.specs.Decl.{decl_of}

@@ -1,7 +1,7 @@
 //! What the driver asks of one node, whatever engine keeps its states.
 
 ghost use Rattle.std.specs.Prelude.{◌≡◌, ◌<◌, ◌≤◌, ◌++◌, ◌∷◌, [], ℕ, IfOk, OnOk, OnErr, IsTrue, length};
-ghost use Rattle.lasp_drive.specs.NodePrelude.{arc_value, Decl, is_source, kind_at, meets, content_at, first_large, updated, delivered, shown_at, message_at, FitsAll, Read, IsSentTo, IsMessage, op_of, threshold_of, library_of, NodeView, IsFresh, ShowsNoMore, HoldsLittle, IsSettled, MayUpdate, MayRead, Updates, Delivers, Settles, Learns, LearnsAnd, OnlyLearns, TakesIn, Extends, OnlyGrew, Holds, Shows, Polls, IsNextRead, opens_next, closes_one, looks_once};
+ghost use Rattle.lasp_drive.specs.NodePrelude.{arc_value, Decl, is_source, kind_at, meets, content_at, first_large, updated, delivered, shown_at, message_at, FitsAll, Read, IsSentTo, BringsAsMuch, IsMessage, op_of, threshold_of, library_of, NodeView, IsFresh, ShowsNoMore, HoldsLittle, IsSettled, MayUpdate, MayRead, Updates, Delivers, Settles, Learns, LearnsAnd, OnlyLearns, TakesIn, Extends, OnlyGrew, Holds, Shows, Polls, IsNextRead, opens_next, closes_one, looks_once};
 ghost use Rattle.model_journal.specs.Entry as model;
 
 use lasp_fns::Library;
@@ -76,10 +76,17 @@ pub trait Node: Drop + Sized {
         ensures learns { OnlyLearns (view self.old) (view self.new) }
         ensures place { place self.new ≡ place self.old };
 
-    /// Takes message i of all that were sent: its sources are joined in, and the counts become the larger ones.
-    fn deliver(&mut self, alloc: Global, i: u32, m: &Arc<Message>) -> Result<(), NodeStop>
+    /// Takes message i of all that were sent: its sources are joined in, and the counts become the larger ones. The part brings as much to what the node holds, so it may be looked at in place of the message.
+    fn deliver(
+        &mut self,
+        alloc: Global,
+        i: u32,
+        m: &Arc<Message>,
+        part: &Message,
+    ) -> Result<(), NodeStop>
         requires held { HoldsLittle (view self.old) }
         requires sent { IsSentTo (view self.old).among (view self.old).decls (arc_value m.now) }
+        requires part { BringsAsMuch (view self.old).decls (view self.old).peer.contents (arc_value m.now) part.now }
         ensures done { Delivers (delivered (view self.old).decls (arc_value m.now) (view self.old).peer) result (view self.new).peer }
         ensures takes { TakesIn (model.Deliver i (arc_value m.now)) (view self.old) result (view self.new) }
         ensures place { place self.new ≡ place self.old };

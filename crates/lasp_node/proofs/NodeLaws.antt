@@ -16,6 +16,7 @@ use Rattle.model_readings.specs.Lawful.{IsGraph, IsNext}
 use Rattle.model_wire.specs.Lawful.{IsMessage}
 use Rattle.model_world.specs.World.{updated, delivered, extended, message_at}
 use Rattle.model_runs.specs.Held.{AreBelow, IsSentTo, IsUpdate}
+use Rattle.model_runs.specs.Part.{BringsAsMuch}
 use Rattle.model_runs.proofs.HeldLaws.{held-message}
 use Rattle.model_runs.proofs.SourceLaws.{update-source}
 use Rattle.model_journal.specs.Entry as model
@@ -135,6 +136,15 @@ extended-peer old new by e d legal same done =
     ∙ ap (λ (c : Decl). extended old.frame.nodes c (peer_of old.frame old.entries)) same
 
 -- ---- deliveries
+
+-- what brings as much to a node's sources brings as much to its core
+pub brings-core : (X : Frame) (h : List model.Entry) (m part : Message) → BringsAsMuch (graph X h) (peer_of X h).contents m part → BringsAsMuch (graph X h) (vals X h) m part
+brings-core X h m part much = record {
+  wide = much.wide;
+  begins = much.begins;
+  brings = λ x low source.
+      subst (λ (s : Content). join_contents s (sent_at part.sources (source_number (graph X h) x)) ≡ join_contents s (sent_at m.sources (source_number (graph X h) x))) (sources-source (graph X h) (vals X h) x low source) (much.brings x low source);
+}
 
 -- a message that is sent to a graph is one of it
 pub not-wrong : (nodes : ℕ) (g : List Decl) (contents : List Content) (m : Message) (why : DeliverRefused) → why ≡ deliver.WrongGraph → IsSentTo nodes g m → IsDelivered {A = Unit {0}} nodes g contents m (Err why) → ⊥

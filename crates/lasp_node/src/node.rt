@@ -64,9 +64,15 @@ impl Node for CoreNode {
         message_of(alloc, &self.core)
     }
 
-    fn deliver(&mut self, _alloc: Global, i: u32, m: &Arc<Message>) -> Result<(), NodeStop> {
+    fn deliver(
+        &mut self,
+        _alloc: Global,
+        i: u32,
+        m: &Arc<Message>,
+        part: &Message,
+    ) -> Result<(), NodeStop> {
         self.core.recall();
-        match self.core.deliver(0, i, m) {
+        match self.core.deliver_part(0, i, m, part) {
             Ok(_) => {
                 self.core.recall();
                 Ok(())

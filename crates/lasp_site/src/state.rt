@@ -58,7 +58,7 @@ fn take<N: Node>(
     ensures node { IfOk result (λ n. IsSiteNode me graph.now (N.view n)) }
     ensures among { IfOk result (λ n. (N.view n).among ≡ (N.view node).among) }
 {
-    match node.deliver(alloc, file as u32, message) {
+    match node.deliver(alloc, file as u32, message, message) {
         Ok(()) => Ok(node),
         Err(NodeStop::TooLarge(var)) => Err(too_large(graph, file, me, var)),
         Err(NodeStop::Memory) => Err(SiteFailure::Memory),

@@ -166,7 +166,13 @@ impl<R: Wait + RandomSource + AllocGlobal> Node for StoreNode<'_, R> {
         self.sent(alloc)
     }
 
-    fn deliver(&mut self, _alloc: Global, i: u32, m: &Arc<Message>) -> Result<(), NodeStop> {
+    fn deliver(
+        &mut self,
+        _alloc: Global,
+        i: u32,
+        m: &Arc<Message>,
+        _part: &Message,
+    ) -> Result<(), NodeStop> {
         self.feed.known();
         match self.store.deliver(self.rt, &mut self.feed, i, m) {
             Ok(_) => {

@@ -1,14 +1,14 @@
 //! Messages: a node sends, and a node takes what was sent.
 
-ghost use Rattle.std.specs.Prelude.{◌≡◌, ◌∷◌, [], Some, slice_get};
-ghost use Rattle.lasp_drive.specs.Prelude.{arc_value, Post, Take, MayAct, Passes};
+ghost use Rattle.std.specs.Prelude.{◌≡◌, ◌<◌, ◌↔◌, ◌∷◌, [], IsTrue, IfOk, Some, length, map, slice_get};
+ghost use Rattle.lasp_drive.specs.Prelude.{arc_value, AreCountsAtMost, peer_at, peers_of, BringsAsMuch, Post, Take, IsReady, MayAct, Passes};
 
 use crate::driver::Driver;
 use crate::halt::Halt;
 use crate::node::{Node, NodeStop};
 use lasp_gossip::SendRefused;
-use lasp_wire::Message;
-use std::alloc::Global;
+use lasp_wire::{Counts, Message};
+use std::alloc::{AllocError, Global};
 use std::sync::Arc;
 
 impl<N: Node> Driver<N> {
@@ -27,7 +27,7 @@ impl<N: Node> Driver<N> {
         }
     }
 
-    /// Node p is given message i.
+    /// Node p is given message i, and a part that brings it as much.
     fn hand(
         &mut self,
         alloc: Global,
@@ -35,24 +35,92 @@ impl<N: Node> Driver<N> {
         p: u8,
         i: u32,
         message: &Arc<Message>,
+        part: &Message,
     ) -> Result<(), Halt>
         requires may { MayAct N.view N.read c self.old (Take p i) }
         requires message { slice_get self.old.network.sent i ≡ Some (arc_value message.now) }
+        requires part { BringsAsMuch (arc_value self.old.graph) (peer_at (peers_of (map N.view self.old.nodes.items)) p).contents (arc_value message.now) part.now }
         ensures { Passes N.view N.read N.place c self.old (Take p i ∷ []) result self.new }
     {
-        match self.nodes[p as usize].deliver(alloc, i, message) {
+        match self.nodes[p as usize].deliver(alloc, i, message, part) {
             Ok(()) => Ok(()),
             Err(NodeStop::TooLarge(x)) => Err(Halt::TooLarge(c, p, x)),
             Err(NodeStop::Memory) => Err(Halt::Memory),
         }
     }
 
-    /// Node p takes message i.
+    /// How many updates of each replica node p knows.
+    fn counts_at(&mut self, alloc: Global, c: u32, p: u8) -> Result<Counts, Halt>
+        requires ready { IsReady N.view N.read c self.old }
+        requires node { p < length self.old.nodes.items }
+        ensures counts { IfOk result (λ counts. counts ≡ (peer_at (peers_of (map N.view self.old.nodes.items)) p).counts) }
+        ensures asked { Passes N.view N.read N.place c self.old [] result self.new }
+    {
+        let counts = self.nodes[p as usize].counts(alloc)?;
+        Ok(counts)
+    }
+
+    /// Node p, which knows so many updates of each replica, takes message i.
+    fn take_by(
+        &mut self,
+        alloc: Global,
+        c: u32,
+        p: u8,
+        i: u32,
+        message: &Arc<Message>,
+        known: &Counts,
+    ) -> Result<(), Halt>
+        requires may { MayAct N.view N.read c self.old (Take p i) }
+        requires message { slice_get self.old.network.sent i ≡ Some (arc_value message.now) }
+        requires known { known.now ≡ (peer_at (peers_of (map N.view self.old.nodes.items)) p).counts }
+        ensures { Passes N.view N.read N.place c self.old (Take p i ∷ []) result self.new }
+    {
+        if is_counted(message, known) {
+            let nothing = without_sources(alloc, message)?;
+            return self.hand(alloc, c, p, i, message, &nothing);
+        }
+        self.hand(alloc, c, p, i, message, message)
+    }
+
+    /// Node p takes message i. It costs the message's rows, or nothing but its counts where the node has counted them all.
     pub fn take(&mut self, alloc: Global, c: u32, p: u8, i: u32) -> Result<(), Halt>
         requires { MayAct N.view N.read c self.old (Take p i) }
         ensures { Passes N.view N.read N.place c self.old (Take p i ∷ []) result self.new }
     {
         let message = self.network.receive(i)?;
-        self.hand(alloc, c, p, i, &message)
+        match self.counts_at(alloc, c, p) {
+            Ok(known) => self.take_by(alloc, c, p, i, &message, &known),
+            Err(halt) => Err(halt),
+        }
     }
+}
+
+/// Whether no count is above the other one.
+fn are_counted(counts: &[u64], known: &[u64]) -> bool
+    requires { length counts.now ≡ length known.now }
+    ensures { IsTrue result ↔ AreCountsAtMost counts.now known.now }
+{
+    for q in 0..counts.len() {
+        if known[q] < counts[q] {
+            return false;
+        }
+    }
+    true
+}
+
+/// Whether a message brings no update that isn't known.
+fn is_counted(message: &Message, known: &Counts) -> bool
+    requires { length message.now.counts ≡ length known.now }
+    ensures { IsTrue result ↔ AreCountsAtMost message.now.counts known.now }
+{
+    are_counted(message.counts().as_slice(), known.as_slice())
+}
+
+/// A message of the same counts without a source.
+fn without_sources(alloc: Global, message: &Message) -> Result<Message, AllocError>
+    ensures { IfOk result (λ m. m ≡ record { counts = message.now.counts; sources = [] }) }
+{
+    message.recall();
+    let counts = Counts::from_slice(alloc, message.counts().as_slice())?;
+    Ok(Message::new(alloc, counts))
 }

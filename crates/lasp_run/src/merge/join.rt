@@ -42,7 +42,7 @@ fn take<N: Node>(
     ensures exact { Gives (peer_by N.view) (message_joined graph.now number (N.view node).peer (arc_value message.now)) result }
     ensures node { IfOk result (λ node. IsReplica graph.now (N.view node)) }
 {
-    match node.deliver(alloc, u32::from(number), message) {
+    match node.deliver(alloc, u32::from(number), message, message) {
         Ok(()) => Ok(node),
         Err(NodeStop::TooLarge(var)) => Err(too_large(graph, number, var)),
         Err(NodeStop::Memory) => Err(Failure::Memory),

@@ -1,10 +1,12 @@
-use Rattle.std.proofs.Common.{◌∷◌, [], length, refl}
+use Rattle.std.proofs.Common.{◌∷◌, [], List, length, refl, sym, subst}
 use Rattle.std.specs.Arc.{arc_value}
-use Rattle.model_world.specs.World.{Take, delivered, sent_number}
+use Rattle.model_graph.specs.Graph.{Decl}
+use Rattle.model_world.specs.World.{Peer, Take, delivered, sent_number}
+use Rattle.model_runs.specs.Part.{BringsAsMuch}
 use Rattle.lasp_drive.specs.Driver.{seen, run_of}
 use Rattle.lasp_drive.specs.Acts.{Acted, StopsWithin}
 use Rattle.lasp_drive.specs.declared.halt.Halt.TheVariants as halt
-use Rattle.lasp_drive.proofs.NodeLaws.{seen-at, seen-low, seen-set, held-here, sent-read, deliver-stops, stopped-delivery, same-place}
+use Rattle.lasp_drive.proofs.NodeLaws.{seen-at, seen-low, seen-set, held-here, peer-here, sent-read, deliver-stops, stopped-delivery, same-place}
 use Rattle.lasp_drive.proofs.ActLaws.{stops-at}
 use Rattle.lasp_drive.proofs.StepLaws.{with_nodes, may-take, acted-take}
 use Rattle.lasp_drive.proofs.driver.Driver.hand.Goals as goal
@@ -24,6 +26,16 @@ deliver-requires-clause-sent g c =
     let m = arc_value c.args.message.now in
     let at = seen-at g.N.Node.view nodes c.args.p c.index_mut.result.now (seen-low g.N.Node.view nodes c.args.p c.requires.may.lawful.0) c.index_mut.ensures.value in
     may-take c.args.c c.args.p c.args.i d (g.N.Node.view c.index_mut.result.now) m c.requires.may.ready c.requires.may.lawful at (sent-read d.sent c.args.i m c.requires.message)
+
+pub deliver-requires-clause-part : goal.deliver-requires-clause-part
+deliver-requires-clause-part g c =
+    let d = seen g.N.Node.view g.N.Node.read c.args.self.now in
+    let nodes = c.args.self.now.nodes.items in
+    let n = g.N.Node.view c.index_mut.result.now in
+    let m = arc_value c.args.message.now in
+    let at = seen-at g.N.Node.view nodes c.args.p c.index_mut.result.now (seen-low g.N.Node.view nodes c.args.p c.requires.may.lawful.0) c.index_mut.ensures.value in
+    subst (λ (h : List Decl). BringsAsMuch h n.peer.contents m c.args.part.now) (sym (c.requires.may.ready.nodes c.args.p n at).graph)
+    (subst (λ (r : Peer). BringsAsMuch d.graph r.contents m c.args.part.now) (peer-here d.nodes c.args.p n at) c.requires.part)
 
 pub returns-in-Ok : goal.returns-in-Ok
 returns-in-Ok g c =
