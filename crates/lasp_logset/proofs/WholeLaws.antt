@@ -140,6 +140,10 @@ pass-state near now is = sym (of_rows-ascending (of_rows near) (ascending-of_row
 pub empty-rows : (s : List Row) (n : ℕ) → n ≡ length s → n ≡ 0 → s ≡ []
 empty-rows s n many none = no-rows s (omega (arith, many, none))
 
+-- where the other has no rows
+pub joined-nothing : (old other : List Row) (n : ℕ) → IsAscending old → n ≡ length other → n ≡ 0 → old ≡ join old other
+joined-nothing old other n up many none = sym (ap (λ (s : List Row). join old s) (empty-rows other n many none) ∙ join-nothing old up)
+
 -- nothing new came in
 pub covered-join : (old log : List Row) (b : Bool) → (IsTrue b ↔ IsAtMost log old) → b ≡ true → of_rows old ≡ join (of_rows old) (of_rows log)
 covered-join old log b told yes_it = sym (join-at_most-right (of_rows old) (of_rows log) (ascending-of_rows old) ((order-rows log old).0 (told.0 yes_it)))

@@ -30,13 +30,17 @@ impl OrSet {
         }
     }
 
-    /// Joins another set in, and tells whether this made a difference. Each of the other set's changes costs a look-up, and each new row another one; where there is a table and they bring nothing new it takes no memory. A set without rows shares the other one's.
+    /// Joins another set in, and tells whether this made a difference. Each of the other set's changes costs a look-up, and each new row another one; where there is a table and they bring nothing new it takes no memory. A set without rows shares the other one's, and one without rows costs nothing to join in.
     /// Where others share the table, what is new goes behind it; where there is none, and either log is long, one is made.
     pub fn join_in(&mut self, other: &OrSet) -> Result<bool, AllocError>
         ensures ok { OnOk result (self.new ≡ join self.old other.now) }
         ensures grew { IfOk result (λ grew. IsTrue grew ↔ (self.new ≢ self.old)) }
         ensures err { OnErr result (self.new ≡ self.old) }
     {
+        self.ascends();
+        if other.rows() == 0 {
+            return Ok(false);
+        }
         if self.rows() == 0 {
             return self.take_all(other);
         }
