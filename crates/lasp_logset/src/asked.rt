@@ -60,7 +60,7 @@ impl<'a> Asked<'a> {
     {
         match &self.by {
             By::Table(set) => set.lacks_near(hint, name, dead),
-            By::Behind(grown) => grown.raises(name, dead),
+            By::Behind(grown) => grown.raises_near(hint, name, dead),
         }
     }
 
@@ -76,12 +76,12 @@ impl<'a> Asked<'a> {
 }
 
 impl OrSet {
-    /// What answers for the set's keys, where so many are asked for. It costs a share, and where the set has no table and either is long an insertion for each change.
-    pub(crate) fn asked(&self, more: u64) -> Result<Asked<'_>, AllocError>
+    /// What answers for the set's keys, where so many are asked for. It costs a share, and where the log is long, or long behind a table, or many are asked for and there is no table, an insertion for each change.
+    pub(crate) fn asked(&self, keys: u64) -> Result<Asked<'_>, AllocError>
         ensures { IfOk result (λ asked. of_rows asked ≡ self.now) }
     {
         if let Kept::Past(grown) = &self.kept {
-            if grown.is_short(more) {
+            if grown.is_asked(keys) {
                 return Ok(Asked::behind(grown));
             }
         }

@@ -106,23 +106,37 @@ impl Grown {
         behind < SHORT && more < SHORT
     }
 
+    /// Whether so many keys are better asked for here than in a table that is made of the log: any number where little stands behind a table, few where there is none.
+    pub(crate) fn is_asked(&self, keys: u64) -> bool {
+        self.is_short(0) && (self.begin.is_some() || keys < SHORT)
+    }
+
     /// Whether a row of this key tells more than the log. It costs a look-up and a pass over what stands behind the table.
     pub(crate) fn raises(&self, name: &Name, dead: bool) -> bool
         ensures { result ≡ nat_lt (mark self.now name.now.0 name.now.1) (level dead) }
     {
+        let mut hint = Hint::new();
+        self.raises_near(&mut hint, name, dead)
+    }
+
+    /// The same, along with a log.
+    pub(crate) fn raises_near(&self, hint: &mut Hint, name: &Name, dead: bool) -> bool
+        ensures { result ≡ nat_lt (mark self.now name.now.0 name.now.1) (level dead) }
+    {
         match &self.begin {
-            Some(set) => raises_behind(set, &self.past, name, dead),
+            Some(set) => raises_behind(set, &self.past, hint, name, dead),
             None => is_raised(self.past.iter(), name, dead),
         }
     }
 
-    /// Whether each row of a log is known, and dead where it is dead there. It costs what `raises` does for each, up to the first that is lacking.
+    /// Whether each row of a log is known, and dead where it is dead there. It costs what `raises_near` does for each, up to the first that is lacking.
     pub(crate) fn covers(&self, log: &Changes) -> bool
         ensures { IsTrue result ↔ (changed self.now log.now.items ≡ []) }
     {
+        let mut hint = Hint::new();
         let mut left = log.iter();
         while let Some(entry) = left.next() {
-            if self.raises(entry.name(), entry.is_dead()) {
+            if self.raises_near(&mut hint, entry.name(), entry.is_dead()) {
                 return false;
             }
         }
@@ -164,7 +178,7 @@ impl Grown {
         Ok((all, before < after))
     }
 
-    /// The table with what stands behind it put in, where no one else has it by now; a long log without a table gets one.
+    /// The table with what stands behind it put in, where no one else has it by now. Where others have it and much stands behind it, a table of its own, and a long log without a table gets one too.
     pub(crate) fn gathered(&mut self) -> Option<Arc<LogSet>>
         ensures same { self.new ≡ self.old }
         ensures some { IfSome result (λ set. arc_value set ≡ self.old) }
@@ -193,11 +207,11 @@ fn past_with(set: &LogSet, rows: Pass<'_>) -> Result<Past, AllocError>
 }
 
 /// Whether a row of this key tells more than a log that begins as that of a table.
-fn raises_behind(set: &LogSet, past: &Past, name: &Name, dead: bool) -> bool
+fn raises_behind(set: &LogSet, past: &Past, hint: &mut Hint, name: &Name, dead: bool) -> bool
     requires { IsBegun set.now past.now }
     ensures { result ≡ nat_lt (mark past.now name.now.0 name.now.1) (level dead) }
 {
-    if !set.lacks(name, dead) {
+    if !set.lacks_near(hint, name, dead) {
         return false;
     }
     let behind = past.since(set.version() as usize);
@@ -224,7 +238,7 @@ fn begun(begin: &Option<Arc<LogSet>>) -> u64
     }
 }
 
-/// Takes the table out with what stands behind it put in, where no one else has it; where there is none, a long log gets one.
+/// Takes the table out with what stands behind it put in, where no one else has it. A log that is long, or long behind a table that others have, gets one of its own.
 fn gather_begin(begin: &mut Option<Arc<LogSet>>, past: &Past) -> Option<Arc<LogSet>>
     requires { IsBegun (option_map_or arc_value begin.old []) past.now }
     ensures begun { IsBegun (option_map_or arc_value begin.new []) past.now }
@@ -235,11 +249,24 @@ fn gather_begin(begin: &mut Option<Arc<LogSet>>, past: &Past) -> Option<Arc<LogS
             if gather_into(&mut set, past) {
                 return Some(set);
             }
-            *begin = Some(set);
-            None
+            let own = table_behind(&set, past);
+            if own.is_none() {
+                *begin = Some(set);
+            }
+            own
         }
         None => table_of_long(past),
     }
+}
+
+/// A table of a log that begins as that of another table, unless little stands behind that or memory is refused.
+fn table_behind(begin: &LogSet, past: &Past) -> Option<Arc<LogSet>>
+    ensures { IfSome result (λ set. arc_value set ≡ past.now) }
+{
+    if past.version().saturating_sub(begin.version()) < SHORT {
+        return None;
+    }
+    table_of_long(past)
 }
 
 /// A table of a log, unless that is short or memory is refused.

@@ -10,7 +10,7 @@ use lasp_value::Value;
 use std::sync::Arc;
 
 impl OrSet {
-    /// Puts what came behind a table that others shared into it, where no one else has it by now, at a look-up for each of these rows. A long log without a table gets one, at an insertion for each change.
+    /// Puts what came behind a table that others shared into it, where no one else has it by now, at a look-up for each of these rows. Where others have it still and much came behind it, the set gets a table of its own, and so does a long log without one, at an insertion for each change.
     pub fn gather(&mut self)
         ensures { self.new ≡ self.old }
     {
