@@ -6,6 +6,7 @@ pub mod WholeLaws
 pub mod PassLaws
 pub mod ShownLaws
 pub mod GrownLaws
+pub mod BeginLaws
 pub mod PlaceLaws
 pub mod NearLaws
 pub mod AnyLaws

@@ -1,6 +1,7 @@
 -- What passes over logs find: whether a row tells more, whether a value lives, how many rows there are, and the rows that stand in the end.
 use Rattle.std.proofs.Common.{◌≡◌, ℕ, zero, suc, ◌+◌, ◌<◌, ◌≤◌, ◌==◌, ◌||◌, ◌&&◌, max, Bool, true, false, cond, if◌then◌else◌, nat_lt, nat_le, IsTrue, List, [], ◌∷◌, ◌++◌, length, IsPermutation, IsSortedBy, refl, sym, ap, subst, ◌∙◌, append-nil, arith}
 use Rattle.std.proofs.lemmas.Bool.Decides.{nat_tests}
+use Rattle.std.proofs.lemmas.List.Elements.{filter_agree}
 use Rattle.std.specs.Ordering.{is_eq, is_lt, eq_by_cmp}
 use Rattle.std.specs.Cmp.{tied_itself}
 use Rattle.model_values.specs.Value.{Val, val_cmp, val_total, val_exact}
@@ -125,7 +126,14 @@ sorted-all log done left s whole end order up =
 
 -- ---- the rows that stand
 
-standing-mark : (log s : List Row) (v : Val) (w : Tok) → mark (standing log s) v w ≡ (if mark s v w == 1 then (if nat_lt (mark log v w) 2 then 1 else 0) else mark s v w)
+-- the next row of a pass that leaves out what died later
+pub stands-next : (known left rest : List Row) (r : Row) (b : Bool) → left ≡ r ∷ rest → b ≡ stands known r → b ≡ true → standing known left ≡ r ∷ standing known rest
+stands-next known left rest r b next is yes_it = ap (λ (s : List Row). standing known s) next ∙ ap (λ (c : Bool). cond c (r ∷ standing known rest) (standing known rest)) (sym is ∙ yes_it)
+
+pub stands-skip : (known left rest : List Row) (r : Row) (b : Bool) → left ≡ r ∷ rest → b ≡ stands known r → b ≡ false → standing known rest ≡ standing known left
+stands-skip known left rest r b next is no_it = sym (ap (λ (s : List Row). standing known s) next ∙ ap (λ (c : Bool). cond c (r ∷ standing known rest) (standing known rest)) (sym is ∙ no_it))
+
+pub standing-mark : (log s : List Row) (v : Val) (w : Tok) → mark (standing log s) v w ≡ (if mark s v w == 1 then (if nat_lt (mark log v w) 2 then 1 else 0) else mark s v w)
 standing-mark log [] v w = refl
 standing-mark log (r ∷ s) v w = choose (eq_by_cmp key_cmp (v, w) r.0) refl r.1 refl (standing-mark log s v w) (mark s v w) refl (mark-small s v w) where
   here : (b : Bool) → eq_by_cmp key_cmp (v, w) r.0 ≡ b → row_mark r v w ≡ (if b then level r.1 else 0)
@@ -155,18 +163,22 @@ standing-mark log (r ∷ s) v w = choose (eq_by_cmp key_cmp (v, w) r.0) refl r.1
       finish false y true k t own = grind (arith, nat_tests, own, rest)
       finish false y false k t own = grind (arith, nat_tests, own, rest)
 
-still : (m : ℕ) → (if m == 1 then (if nat_lt m 2 then 1 else 0) else m) ≡ m
+pub still : (m : ℕ) → (if m == 1 then (if nat_lt m 2 then 1 else 0) else m) ≡ m
 still zero = refl
 still (suc zero) = refl
 still (suc (suc m)) = grind (arith, nat_tests)
 
-pub standing-rows : (log set left pass : List Row) → set ≡ log → left ≡ log → pass ≡ standing set left → of_rows pass ≡ of_rows log
-standing-rows log set left pass same all is =
-    ap of_rows (is ∙ (λ i. standing (same i) (all i)))
+-- what is known of a log's state tells which of its rows stand
+standing-known : (log known : List Row) → of_rows known ≡ of_rows log → standing known log ≡ standing log log
+standing-known log known same = filter_agree (stands known) (stands log) (λ r. ap (λ (m : ℕ). r.1 || nat_lt m 2) (sym (mark-of_rows known r.0.0 r.0.1) ∙ ap (λ (s : List Row). mark s r.0.0 r.0.1) same ∙ mark-of_rows log r.0.0 r.0.1)) log
+
+pub standing-rows : (log known left pass : List Row) → of_rows known ≡ of_rows log → left ≡ log → pass ≡ standing known left → of_rows pass ≡ of_rows log
+standing-rows log known left pass same all is =
+    ap of_rows (is ∙ ap (λ (s : List Row). standing known s) all ∙ standing-known log known same)
     ∙ same_from_mark (of_rows (standing log log)) (of_rows log) (ascending-of_rows (standing log log)) (ascending-of_rows log)
     (λ v w. mark-of_rows (standing log log) v w ∙ standing-mark log log v w ∙ still (mark log v w) ∙ sym (mark-of_rows log v w))
 
-stands-apart : (log t s : List Row) → AreRises t s → ((v : Val) (w : Tok) → mark s v w ≤ mark log v w) → AreApart (standing log s)
+pub stands-apart : (log t s : List Row) → AreRises t s → ((v : Val) (w : Tok) → mark s v w ≤ mark log v w) → AreApart (standing log s)
 stands-apart log t [] up low = tt
 stands-apart log t (r ∷ s) up low = choose (stands log r) refl (stands-apart log (put r t) s up.1 (λ v w. omega (arith, low v w))) where
   bad : (d : Bool) → r.1 ≡ d → stands log r ≡ true → 0 < mark s r.0.0 r.0.1 → ⊥
@@ -185,5 +197,6 @@ stands-apart log t (r ∷ s) up low = choose (stands log r) refl (stands-apart l
   choose false e rest = rest
   choose true e rest = (none e, rest)
 
-pub standing-apart : (log set left pass : List Row) → set ≡ log → left ≡ log → pass ≡ standing set left → AreRises [] log → AreApart pass
-standing-apart log set left pass same all is up = subst AreApart (sym (is ∙ (λ i. standing (same i) (all i)))) (stands-apart log [] log up (λ v w. omega arith))
+pub standing-apart : (log known left pass : List Row) → of_rows known ≡ of_rows log → left ≡ log → pass ≡ standing known left → AreRises [] log → AreApart pass
+standing-apart log known left pass same all is up =
+    subst AreApart (sym (is ∙ ap (λ (s : List Row). standing known s) all ∙ standing-known log known same)) (stands-apart log [] log up (λ v w. omega arith))

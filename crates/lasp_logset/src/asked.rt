@@ -3,6 +3,7 @@
 ghost use Rattle.std.specs.Prelude.{◌≡◌, ◌↔◌, IsTrue, IfOk, nat_lt};
 ghost use Rattle.std.specs.Arc.{arc_value};
 ghost use Rattle.model_sets.specs.Rows.{level, mark, of_rows, IsAtMost};
+ghost use Rattle.lasp_logset.specs.Whole.{stands};
 
 use super::changes::Changes;
 use super::grown::Grown;
@@ -62,6 +63,13 @@ impl<'a> Asked<'a> {
             By::Table(set) => set.lacks_near(hint, name, dead),
             By::Behind(grown) => grown.raises_near(hint, name, dead),
         }
+    }
+
+    /// Whether a row of a log, of which this is what is known, is the last of its key: a dead one, or one that isn't known as dead. It costs what `lacks_near` does where it isn't dead.
+    pub(crate) fn stands(&self, hint: &mut Hint, name: &Name, dead: bool) -> bool
+        ensures { result ≡ stands self.now (name.now, dead) }
+    {
+        dead || self.lacks_near(hint, name, true)
     }
 
     /// Whether each row of a log is known, and dead where it is dead there. It costs what `lacks_near` does for each, up to the first that is lacking.

@@ -48,7 +48,7 @@ impl OrSet {
 }
 
 impl OrSet {
-    /// The live rows of a value, each dead: joined in here it removes the value as `remove_delta` does. It costs these rows alone where the table's values are indexed, else a pass over the rows.
+    /// The live rows of a value, each dead: joined in here it removes the value as `remove_delta` does. It costs these rows and a pass over what stands behind the table where the table's values are indexed, else a pass over the rows.
     pub fn bury_delta(&self, value: &Value) -> Result<OrSet, AllocError>
         ensures { IfOk result (λ d. join self.now d ≡ join self.now (remove_delta (val_of value.now) self.now)) }
     {
@@ -57,7 +57,10 @@ impl OrSet {
                 let delta = set.remove_delta(value)?;
                 Ok(OrSet::of_past(delta.past()?))
             }
-            Kept::Past(_) => self.remove_delta(value),
+            Kept::Past(grown) => {
+                let delta = grown.bury_delta(value)?;
+                Ok(OrSet::of_past(delta.past()?))
+            }
         }
     }
 }

@@ -5,7 +5,7 @@ ghost use Rattle.std.specs.Option.{option_map_or};
 ghost use Rattle.std.specs.Arc.{arc_value};
 ghost use Rattle.model_sets.specs.Rows.{level, mark, of_rows, join};
 ghost use Rattle.model_sets.specs.Equations.{changed};
-ghost use Rattle.model_sets.specs.Rises.{AreApart};
+ghost use Rattle.model_sets.specs.Rises.{AreRises, AreApart};
 ghost use Rattle.lasp_logset.specs.Grown.{IsBegun};
 
 use super::changes::Changes;
@@ -16,6 +16,7 @@ use super::pass::Pass;
 use super::passes::is_raised;
 use super::past::Past;
 use super::set::LogSet;
+use lasp_log::Items;
 use std::alloc::{AllocError, Global};
 use std::marker::Model;
 use std::sync::Arc;
@@ -93,6 +94,16 @@ impl Grown {
         ensures { result.now ≡ self.now }
     {
         &self.past
+    }
+
+    /// The table, if there is one, and what stands behind it.
+    pub(crate) fn parts(&self) -> (&Option<Arc<LogSet>>, Items<'_, Entry>)
+        ensures whole { option_map_or arc_value result.0.now [] ++ result.1 ≡ self.now }
+        ensures rises { AreRises (option_map_or arc_value result.0.now []) result.1 }
+    {
+        self.past.rises();
+        let behind = self.past.since(begun(&self.begin) as usize);
+        (&self.begin, behind)
     }
 
     /// The allocator that the set was made with.

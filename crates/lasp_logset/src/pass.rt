@@ -1,17 +1,15 @@
 //! A pass over the rows of a set, in any order.
 
 ghost use Rattle.std.specs.Prelude.{◌≡◌, ◌∷◌, [], IfSome, IfNone};
-ghost use Rattle.std.specs.Arc.{arc_value};
 ghost use Rattle.lasp_logset.specs.Whole.{standing};
 
+use super::asked::Asked;
 use super::entry::Entry;
 use super::of_value::Near;
 use super::rows::{Rows, TableRow};
-use super::set::LogSet;
 use super::standing::Standing;
 use lasp_log::Items;
 use std::marker::Model;
-use std::sync::Arc;
 
 /// The rows that are left of a pass, seen as their list.
 #[derive(Drop)]
@@ -57,11 +55,11 @@ impl<'a> Pass<'a> {
         }
     }
 
-    pub(crate) fn of_standing(left: Items<'a, Entry>, set: Arc<LogSet>) -> Pass<'a>
-        ensures { result ≡ standing (arc_value set) left.entry }
+    pub(crate) fn of_standing(left: Items<'a, Entry>, known: Asked<'a>) -> Pass<'a>
+        ensures { result ≡ standing known.entry left.entry }
     {
         Pass {
-            left: Left::Standing(Standing::of(left, set)),
+            left: Left::Standing(Standing::of(left, known)),
         }
     }
 
@@ -73,7 +71,7 @@ impl<'a> Pass<'a> {
         }
     }
 
-    /// The next row. It costs a step, and in a log that was given a table a look-up for each live row.
+    /// The next row. It costs a step, and in a log some of whose rows died after they had come a look-up for each live row, with a pass over what stands behind the table.
     pub fn next(&mut self) -> Option<TableRow<'a>>
         ensures some { IfSome result (λ r. self.old ≡ r ∷ self.new) }
         ensures none { IfNone result (self.old ≡ []) }

@@ -233,13 +233,6 @@ impl LogSet {
         raises(&self.rows, entry.name(), entry.is_dead())
     }
 
-    /// Whether the row of a key isn't dead, or there is none.
-    pub(crate) fn is_live(&self, entry: &Entry) -> bool
-        ensures { result ≡ nat_lt (mark self.now entry.now.0.0 entry.now.0.1) 2 }
-    {
-        raises(&self.rows, entry.name(), true)
-    }
-
     /// Whether a row tells more than the set, as `raises` does.
     pub(crate) fn lacks(&self, name: &Name, dead: bool) -> bool
         ensures { result ≡ nat_lt (mark self.now name.now.0 name.now.1) (level dead) }

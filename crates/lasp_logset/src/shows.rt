@@ -18,14 +18,12 @@ use super::pass::Pass;
 use super::passes::{count_more, has_live_in};
 use super::reads::is_row_of;
 use super::rows::TableRow;
-use super::set::LogSet;
 use super::shown::{copies, print_all};
 use lasp_value::{Value, Values};
 use std::alloc::{AllocError, Global};
-use std::sync::Arc;
 
 impl OrSet {
-    /// A pass over the rows in any order, each key once. It takes no memory but where the set has no table and a row of it died after it had come: there a table is made.
+    /// A pass over the rows in any order, each key once. It takes no memory but where the log is long, or long behind a table, and a row of it died after it had come: there a table is made.
     pub fn entries(&self) -> Result<Pass<'_>, AllocError>
         ensures rows { IfOk result (λ rows. of_rows rows ≡ self.now) }
         ensures apart { IfOk result (λ rows. AreApart rows) }
@@ -63,14 +61,14 @@ impl OrSet {
         self.entries()
     }
 
-    /// A pass over the log that leaves out what died later, by a table that is made for it.
+    /// A pass over the log that leaves out what died later.
     fn standing(&self) -> Result<Pass<'_>, AllocError>
         ensures rows { IfOk result (λ rows. of_rows rows ≡ self.now) }
         ensures apart { IfOk result (λ rows. AreApart rows) }
     {
         let log = self.log();
-        let set = Arc::new(log.allocator(), LogSet::of_log(log)?)?;
-        Ok(Pass::of_standing(log.iter(), set))
+        let known = self.asked(log.len() as u64)?;
+        Ok(Pass::of_standing(log.iter(), known))
     }
 
     /// A pass over the rows in any order, where a row that died after it had come may be passed twice, first as it was. It takes no memory.

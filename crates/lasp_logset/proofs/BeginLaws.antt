@@ -1,0 +1,66 @@
+-- What a table and the rows behind it tell of a value.
+use Rattle.std.proofs.Common.{◌≡◌, ◌≢◌, ℕ, ◌≤◌, ◌<◌, ◌==◌, max, Bool, true, false, cond, if◌then◌else◌, nat_lt, IsTrue, List, [], ◌∷◌, ◌++◌, map, filter, ◌↔◌, refl, sym, ap, subst, ◌∙◌, arith}
+use Rattle.std.proofs.lemmas.Bool.Decides.{nat_tests}
+use Rattle.std.proofs.lemmas.List.Elements.{filter-append}
+use Rattle.std.specs.Ordering.{eq_by_cmp}
+use Rattle.std.specs.List.{list_any}
+use Rattle.model_values.specs.Value.{Val, val_cmp}
+use Rattle.model_values.specs.Token.{Tok}
+use Rattle.model_values.specs.Row.{Row}
+use Rattle.model_sets.specs.Rows.{mark, put, of_rows, join, IsAtMost, is_of, buried, remove_delta}
+use Rattle.model_sets.specs.Equations.{changed, filter_set}
+use Rattle.model_sets.specs.Reads.{is_row_of, HasRowOf}
+use Rattle.model_sets.specs.Rises.{AreRises, AreApart}
+use Rattle.model_sets.proofs.RowLaws.{mark-small, mark-append, mark-put, mark-of_rows, mark-join, same_from_mark, ascending-of_rows, ascending-join, join-nothing}
+use Rattle.model_sets.proofs.UpdateLaws.{remove-mark}
+use Rattle.model_sets.proofs.ReadLaws.{row-words}
+use Rattle.model_sets.proofs.RiseLaws.{none-or, apart-rises, rises-append}
+use Rattle.model_sets.proofs.EquationLaws.{filter-mark, filter-ascending}
+use Rattle.lasp_logset.specs.Whole.{stands, standing}
+use Rattle.lasp_logset.proofs.PassLaws.{standing-mark, still, stands-apart}
+use Rattle.lasp_logset.proofs.GrownLaws.{joined-next, joined-end}
+
+-- ---- rows that are buried
+
+-- rows of the table that died behind it make no difference
+dead-parts : (c : Bool) (a b : ℕ) → a ≤ 2 → b ≤ 2 → max (max a b) (max (if c then (if a == 1 then 2 else 0) else 0) (if c then (if b == 0 then 0 else 2) else 0)) ≡ max (max a b) (if c then (if max a b == 0 then 0 else 2) else 0)
+dead-parts true a b low high = grind (arith, nat_tests, low, high)
+dead-parts false a b low high = omega arith
+
+pub buried-parts : (v : Val) (begin behind log delta delta' : List Row) → begin ++ behind ≡ log
+    → ((u : Val) (t : Tok) → mark delta u t ≡ (if eq_by_cmp val_cmp v u then (if mark begin u t == 1 then 2 else 0) else 0)) → of_rows delta' ≡ join (of_rows delta) (remove_delta v behind)
+    → join (of_rows log) delta' ≡ join (of_rows log) (remove_delta v (of_rows log))
+buried-parts v begin behind log delta delta' is marks made = same_from_mark (join (of_rows log) delta') (join (of_rows log) (remove_delta v (of_rows log))) (ascending-join (of_rows log) delta') (ascending-join (of_rows log) (remove_delta v (of_rows log)))
+    (λ u t. mark-join (of_rows log) delta' u t
+    ∙ (λ i. max (whole u t i) (parts u t i))
+    ∙ dead-parts (eq_by_cmp val_cmp v u) (mark begin u t) (mark behind u t) (mark-small begin u t) (mark-small behind u t)
+    ∙ sym (mark-join (of_rows log) (remove_delta v (of_rows log)) u t
+    ∙ (λ i. max (whole u t i) (remove-mark v (of_rows log) u t i))
+    ∙ ap (λ (m : ℕ). max (max (mark begin u t) (mark behind u t)) (if eq_by_cmp val_cmp v u then (if m == 0 then 0 else 2) else 0)) (whole u t))) where
+      whole : (u : Val) (t : Tok) → mark (of_rows log) u t ≡ max (mark begin u t) (mark behind u t)
+      whole u t = mark-of_rows log u t ∙ ap (λ (s : List Row). mark s u t) (sym is) ∙ mark-append begin behind u t
+
+      parts : (u : Val) (t : Tok) → mark delta' u t ≡ max (if eq_by_cmp val_cmp v u then (if mark begin u t == 1 then 2 else 0) else 0) (if eq_by_cmp val_cmp v u then (if mark behind u t == 0 then 0 else 2) else 0)
+      parts u t =
+          sym (mark-of_rows delta' u t) ∙ ap (λ (s : List Row). mark s u t) made ∙ mark-join (of_rows delta) (remove_delta v behind) u t
+          ∙ (λ i. max ((mark-of_rows delta u t ∙ marks u t) i) (remove-mark v behind u t i))
+
+-- of no rows none are buried
+pub buried-empty : (v u : Val) (t : Tok) (delta : List Row) → delta ≡ [] → mark delta u t ≡ (if eq_by_cmp val_cmp v u then (if mark [] u t == 1 then 2 else 0) else 0)
+buried-empty v u t delta none = ap (λ (s : List Row). mark s u t) none ∙ elim (eq_by_cmp val_cmp v u) as (λ c. ◌≡◌ {A = ℕ} 0 (if c then 0 else 0)) [ true ↦ refl | false ↦ refl ]
+
+of-row : (v : Val) (rest : List Row) (r : Row) (b : Bool) → is_of v r ≡ b → remove_delta v (r ∷ rest) ≡ map buried (cond b (r ∷ filter (is_of v) rest) (filter (is_of v) rest))
+of-row v rest r b is = ap (λ (c : Bool). map buried (cond c (r ∷ filter (is_of v) rest) (filter (is_of v) rest))) is
+
+-- a row of the value that is left of a pass is buried
+pub buried-next : (v : Val) (delta delta' left rest : List Row) (r e : Row) (b : Bool) → left ≡ r ∷ rest → b ≡ is_of v r → b ≡ true → e ≡ (r.0, true) → delta' ≡ delta ++ changed delta (e ∷ [])
+    → join (of_rows delta') (remove_delta v rest) ≡ join (of_rows delta) (remove_delta v left)
+buried-next v delta delta' left rest r e b next is yes_it dead made =
+    joined-next delta delta' (remove_delta v left) (remove_delta v rest) (r.0, true) (ap (λ (s : List Row). remove_delta v s) next ∙ of-row v rest r true (sym is ∙ yes_it)) (made ∙ ap (λ (q : Row). delta ++ changed delta (q ∷ [])) dead)
+
+-- one of another value isn't
+pub buried-skip : (v : Val) (delta left rest : List Row) (r : Row) (b : Bool) → left ≡ r ∷ rest → b ≡ is_of v r → b ≡ false → join (of_rows delta) (remove_delta v rest) ≡ join (of_rows delta) (remove_delta v left)
+buried-skip v delta left rest r b next is no_it = ap (λ (s : List Row). join (of_rows delta) s) (sym (ap (λ (s : List Row). remove_delta v s) next ∙ of-row v rest r false (sym is ∙ no_it)))
+
+pub buried-end : (v : Val) (delta left : List Row) → left ≡ [] → of_rows delta ≡ join (of_rows delta) (remove_delta v left)
+buried-end v delta left none = joined-end delta (remove_delta v left) (ap (λ (s : List Row). remove_delta v s) none)
