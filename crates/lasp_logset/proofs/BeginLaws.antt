@@ -64,3 +64,46 @@ buried-skip v delta left rest r b next is no_it = ap (λ (s : List Row). join (o
 
 pub buried-end : (v : Val) (delta left : List Row) → left ≡ [] → of_rows delta ≡ join (of_rows delta) (remove_delta v left)
 buried-end v delta left none = joined-end delta (remove_delta v left) (ap (λ (s : List Row). remove_delta v s) none)
+
+-- ---- whether a value has a row
+
+pub no-row : (v : Val) (dead : Bool) → (IsTrue false → HasRowOf [] v dead) × (HasRowOf [] v dead → IsTrue false)
+no-row v dead = (λ h. cc, λ has. absurd (none dead has)) where
+  none : (d : Bool) → HasRowOf [] v d → ⊥
+  none true h = omega (arith, h.1)
+  none false h = omega (arith, h.1)
+
+in-first : (v : Val) (dead : Bool) (s t : List Row) → HasRowOf s v dead → HasRowOf (s ++ t) v dead
+in-first v true s t h = (h.0, omega (arith, h.1, mark-append s t v h.0, mark-small t v h.0))
+in-first v false s t h = (h.0, omega (arith, h.1, mark-append s t v h.0))
+
+in-second : (v : Val) (dead : Bool) (s t : List Row) → HasRowOf t v dead → HasRowOf (s ++ t) v dead
+in-second v true s t h = (h.0, omega (arith, h.1, mark-append s t v h.0, mark-small s v h.0))
+in-second v false s t h = (h.0, omega (arith, h.1, mark-append s t v h.0))
+
+either-two : (m n o : ℕ) (P : Type 0) → o ≡ max m n → o ≡ 2 → (m ≡ 2 → P) → (n ≡ 2 → P) → P
+either-two m n o P most is left right = by (m == 2) refl where
+  by : (b : Bool) → (m == 2) ≡ b → P
+  by true e = left (grind (arith, nat_tests, e))
+  by false e = let other : m ≢ 2 = λ same. (let clash : true ≡ false = sym (ap (λ (k : ℕ). k == 2) same) ∙ e in cc) in right (omega (arith, other, most, is))
+
+either-some : (m n o : ℕ) (P : Type 0) → o ≡ max m n → 0 < o → (0 < m → P) → (0 < n → P) → P
+either-some m n o P most some left right = none-or m 0 P left (λ none. right (omega (arith, none, most, some)))
+
+in-either : (v : Val) (dead : Bool) (s t : List Row) (P : Type 0) → HasRowOf (s ++ t) v dead → (HasRowOf s v dead → P) → (HasRowOf t v dead → P) → P
+in-either v true s t P h left right = either-two (mark s v h.0) (mark t v h.0) (mark (s ++ t) v h.0) P (mark-append s t v h.0) h.1 (λ e. left (h.0, e)) (λ e. right (h.0, e))
+in-either v false s t P h left right = either-some (mark s v h.0) (mark t v h.0) (mark (s ++ t) v h.0) P (mark-append s t v h.0) h.1 (λ e. left (h.0, e)) (λ e. right (h.0, e))
+
+-- the table has it
+pub row-begun : (v : Val) (dead : Bool) (begin behind log : List Row) (a : Bool) → begin ++ behind ≡ log → (IsTrue a ↔ HasRowOf begin v dead) → a ≡ true → (IsTrue true → HasRowOf log v dead) × (HasRowOf log v dead → IsTrue true)
+row-begun v dead begin behind log a is told yes_it = (λ _. subst (λ (s : List Row). HasRowOf s v dead) is (in-first v dead begin behind (told.0 yes_it)), λ _. refl)
+
+-- what the table doesn't have, the rows behind it tell
+pub row-behind : (v : Val) (dead : Bool) (begin behind log : List Row) (a b : Bool) → begin ++ behind ≡ log → (IsTrue a ↔ HasRowOf begin v dead) → a ≡ false → b ≡ list_any (is_row_of v dead) behind
+    → (IsTrue b → HasRowOf log v dead) × (HasRowOf log v dead → IsTrue b)
+row-behind v dead begin behind log a b is told no_it here = (
+  λ h. subst (λ (s : List Row). HasRowOf s v dead) is (in-second v dead begin behind (words.0 h)),
+  λ has. in-either v dead begin behind (IsTrue b) (subst (λ (s : List Row). HasRowOf s v dead) (sym is) has) (λ h. absurd (let clash : true ≡ false = sym (told.1 h) ∙ no_it in cc)) words.1,
+) where
+  words : (IsTrue b → HasRowOf behind v dead) × (HasRowOf behind v dead → IsTrue b)
+  words = row-words v dead behind b here

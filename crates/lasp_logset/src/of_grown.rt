@@ -1,16 +1,18 @@
 //! The rows of a value in a log that begins as that of a table does: by the table, and by a pass over what stands behind it.
 
-ghost use Rattle.std.specs.Prelude.{◌≡◌, ◌==◌, if◌then◌else◌, [], IfOk, OnOk};
+ghost use Rattle.std.specs.Prelude.{◌≡◌, ◌==◌, ◌↔◌, if◌then◌else◌, [], IfOk, OnOk, IsTrue};
 ghost use Rattle.std.specs.Ordering.{eq_by_cmp};
 ghost use Rattle.std.specs.Option.{option_map_or};
 ghost use Rattle.std.specs.Arc.{arc_value};
 ghost use Rattle.model_values.specs.Value.{Val, val_cmp};
 ghost use Rattle.model_values.specs.Token.{Tok};
 ghost use Rattle.model_sets.specs.Rows.{mark, of_rows, join, remove_delta};
+ghost use Rattle.model_sets.specs.Reads.{HasRowOf};
 ghost use Rattle.lasp_value.specs.Value.{val_of};
 
 use super::entry::Entry;
 use super::grown::Grown;
+use super::passes::has_row_in;
 use super::set::LogSet;
 use lasp_log::Items;
 use lasp_value::Value;
@@ -18,6 +20,17 @@ use std::alloc::{AllocError, Global};
 use std::sync::Arc;
 
 impl Grown {
+    /// Whether the value has a row, and a dead one where `dead` is true. It costs what `LogSet::has_row` does, and a pass over what stands behind the table.
+    pub(crate) fn has_row(&self, value: &Value, dead: bool) -> bool
+        ensures { IsTrue result ↔ HasRowOf self.now (val_of value.now) dead }
+    {
+        let (begin, behind) = self.parts();
+        if begin_has_row(begin, value, dead) {
+            return true;
+        }
+        has_row_in(behind, value, dead)
+    }
+
     /// What removes a value: of the table its live rows, and its rows behind, each dead. It costs what `LogSet::remove_delta` does, and a pass over what stands behind the table.
     pub(crate) fn bury_delta(&self, value: &Value) -> Result<LogSet, AllocError>
         ensures { IfOk result (λ d. join (of_rows self.now) d ≡ join (of_rows self.now) (remove_delta (val_of value.now) (of_rows self.now))) }
@@ -26,6 +39,16 @@ impl Grown {
         let mut delta = bury_begin(self.allocator(), begin, value)?;
         bury_behind(behind, value, &mut delta)?;
         Ok(delta)
+    }
+}
+
+/// Whether a table, if there is one, has such a row.
+fn begin_has_row(begin: &Option<Arc<LogSet>>, value: &Value, dead: bool) -> bool
+    ensures { IsTrue result ↔ HasRowOf (option_map_or arc_value begin.now []) (val_of value.now) dead }
+{
+    match begin {
+        Some(set) => set.has_row(value, dead),
+        None => false,
     }
 }
 

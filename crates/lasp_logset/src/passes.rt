@@ -1,10 +1,12 @@
 //! What a log tells where there is no table and no memory for one: each row costs a pass.
 
 ghost use Rattle.std.specs.Prelude.{◌≡◌, ◌≤◌, ◌^◌, ◌+◌, ◌↔◌, ◌++◌, ◌&&◌, [], IsTrue, length, nat_lt, nat_le};
+ghost use Rattle.std.specs.List.{list_any};
 ghost use Rattle.std.specs.Ordering.{eq_by_cmp};
 ghost use Rattle.model_values.specs.Row.{key_cmp};
 ghost use Rattle.model_sets.specs.Rows.{level, mark, of_rows, is_of};
 ghost use Rattle.model_sets.specs.Equations.{changed};
+ghost use Rattle.model_sets.specs.Reads.{is_row_of};
 ghost use Rattle.model_sets.specs.Values.{IsHeld, visible};
 ghost use Rattle.lasp_value.specs.Value.{val_of};
 
@@ -65,6 +67,26 @@ fn is_live_of(log: &Changes, entry: &Entry, value: &Value) -> bool
     ensures { result ≡ (is_of (val_of value.now) entry.now && nat_lt (mark log.now.items entry.now.0.0 entry.now.0.1) 2) }
 {
     entry.is_of(value) && is_raised(log.iter(), entry.name(), true)
+}
+
+/// Whether a row that is left of a pass is of the value, and dead where `dead` is true.
+pub(crate) fn has_row_in(rows: Items<'_, Entry>, value: &Value, dead: bool) -> bool
+    ensures { result ≡ list_any (is_row_of (val_of value.now) dead) rows.entry }
+{
+    let mut left = rows;
+    while let Some(entry) = left.next() {
+        if is_as(entry, value, dead) {
+            return true;
+        }
+    }
+    false
+}
+
+/// Whether a row is of the value, and dead where `dead` is true.
+fn is_as(entry: &Entry, value: &Value, dead: bool) -> bool
+    ensures { result ≡ is_row_of (val_of value.now) dead entry.now }
+{
+    entry.is_of(value) && (entry.is_dead() || !dead)
 }
 
 /// Whether neither the rows that are left of a pass nor those of a log have the key of a row.

@@ -16,7 +16,6 @@ use super::near::Hint;
 use super::orset::{Kept, OrSet};
 use super::pass::Pass;
 use super::passes::{count_more, has_live_in};
-use super::reads::is_row_of;
 use super::rows::TableRow;
 use super::shown::{copies, print_all};
 use lasp_value::{Value, Values};
@@ -105,27 +104,14 @@ impl OrSet {
         }
     }
 
-    /// Whether the value has a row, and a dead one where `dead` is true. With a table it costs two look-ups, the value's rows, and a pass over the rows that came since `index_rows`; without one, a pass over the changes.
+    /// Whether the value has a row, and a dead one where `dead` is true. With a table it costs two look-ups, the value's rows, and a pass over the rows that came since `index_rows` or stand behind the table; without one, a pass over the changes.
     pub fn has_row(&self, value: &Value, dead: bool) -> bool
         ensures { IsTrue result ↔ HasRowOf self.now (val_of value.now) dead }
     {
         match &self.kept {
             Kept::Whole(set) => set.has_row(value, dead),
-            Kept::Past(_) => self.passes_row(value, dead),
+            Kept::Past(grown) => grown.has_row(value, dead),
         }
-    }
-
-    /// Whether a pass over the changes finds such a row.
-    fn passes_row(&self, value: &Value, dead: bool) -> bool
-        ensures { IsTrue result ↔ HasRowOf self.now (val_of value.now) dead }
-    {
-        let mut rows = self.iter();
-        while let Some(row) = rows.next() {
-            if is_row_of(&row, value, dead) {
-                return true;
-            }
-        }
-        false
     }
 
     /// The values with a live row, ascending, each once. It costs what `print_into` does, and a copy of each.
