@@ -107,3 +107,39 @@ row-behind v dead begin behind log a b is told no_it here = (
 ) where
   words : (IsTrue b → HasRowOf behind v dead) × (HasRowOf behind v dead → IsTrue b)
   words = row-words v dead behind b here
+
+-- ---- a pass over the rows of a value
+
+alike-of : (v : Val) (s t : List Row) → filter (is_of v) (of_rows s) ≡ filter (is_of v) (of_rows t) → (u : Val) (w : Tok) → (if eq_by_cmp val_cmp v u then mark s u w else 0) ≡ (if eq_by_cmp val_cmp v u then mark t u w else 0)
+alike-of v s t same u w =
+    sym (filter-mark (eq_by_cmp val_cmp v) (of_rows s) u w ∙ ap (λ (m : ℕ). if eq_by_cmp val_cmp v u then m else 0) (mark-of_rows s u w)) ∙ ap (λ (r : List Row). mark r u w) same
+    ∙ filter-mark (eq_by_cmp val_cmp v) (of_rows t) u w ∙ ap (λ (m : ℕ). if eq_by_cmp val_cmp v u then m else 0) (mark-of_rows t u w)
+
+-- the rows of the value in the table with all that stand behind it are those of the log
+pub near-begun : (v : Val) (begin behind log near pass : List Row) → begin ++ behind ≡ log → filter (is_of v) (of_rows near) ≡ filter (is_of v) (of_rows begin) → pass ≡ standing log near ++ standing log behind
+    → filter (is_of v) (of_rows pass) ≡ filter (is_of v) (of_rows log)
+near-begun v begin behind log near pass whole same is =
+    same_from_mark (filter_set (eq_by_cmp val_cmp v) (of_rows pass)) (filter_set (eq_by_cmp val_cmp v) (of_rows log)) (filter-ascending (eq_by_cmp val_cmp v) (of_rows pass) (ascending-of_rows pass)) (filter-ascending (eq_by_cmp val_cmp v) (of_rows log) (ascending-of_rows log))
+    (λ u w. filter-mark (eq_by_cmp val_cmp v) (of_rows pass) u w
+    ∙ ap (λ (m : ℕ). if eq_by_cmp val_cmp v u then m else 0) (mark-of_rows pass u w ∙ ap (λ (s : List Row). mark s u w) (is ∙ sym (filter-append (stands log) near behind)) ∙ standing-mark log (near ++ behind) u w)
+    ∙ choose u w (eq_by_cmp val_cmp v u) (alike-of v near begin same u w)
+    ∙ sym (filter-mark (eq_by_cmp val_cmp v) (of_rows log) u w ∙ ap (λ (m : ℕ). if eq_by_cmp val_cmp v u then m else 0) (mark-of_rows log u w))) where
+      choose : (u : Val) (w : Tok) (c : Bool) → (if c then mark near u w else 0) ≡ (if c then mark begin u w else 0)
+          → (if c then (if mark (near ++ behind) u w == 1 then (if nat_lt (mark log u w) 2 then 1 else 0) else mark (near ++ behind) u w) else 0) ≡ (if c then mark log u w else 0)
+      choose u w false e = refl
+      choose u w true e =
+          let there : mark (near ++ behind) u w ≡ mark log u w =
+          mark-append near behind u w ∙ ap (λ (m : ℕ). max m (mark behind u w)) e ∙ sym (ap (λ (s : List Row). mark s u w) (sym whole) ∙ mark-append begin behind u w) in
+          ap (λ (m : ℕ). if m == 1 then (if nat_lt (mark log u w) 2 then 1 else 0) else m) there ∙ still (mark log u w)
+
+rises-below : (s t log : List Row) → ((v : Val) (w : Tok) → mark t v w ≤ mark s v w) → AreRises s log → AreRises t log
+rises-below s t [] low up = tt
+rises-below s t (r ∷ log) low up = (omega (arith, low r.0.0 r.0.1, up.0), rises-below (put r s) (put r t) log (λ v w. omega (arith, mark-put r s v w, mark-put r t v w, low v w)) up.1)
+
+-- no two of them have one key
+pub near-begun-apart : (begin behind log near pass : List Row) → begin ++ behind ≡ log → IsAtMost near begin → AreApart near → AreRises begin behind → pass ≡ standing log near ++ standing log behind → AreApart pass
+near-begun-apart begin behind log near pass whole low apart up is =
+    subst AreApart (filter-append (stands log) near behind ∙ sym is)
+    (stands-apart log [] (near ++ behind)
+    (rises-append [] near near behind (λ v w. omega arith) (apart-rises [] near apart (λ v w some. refl)) (rises-below begin near behind low up))
+    (λ v w. omega (arith, mark-append near behind v w, low v w, ap (λ (s : List Row). mark s v w) (sym whole), mark-append begin behind v w)))

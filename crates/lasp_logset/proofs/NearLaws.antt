@@ -1,11 +1,12 @@
 -- The rows of one value from the newest back: what a pass along them has.
-use Rattle.std.proofs.Common.{◌≡◌, ℕ, zero, suc, ◌+◌, ◌-◌, ◌<◌, ◌≤◌, max, Bool, true, false, cond, if◌then◌else◌, List, [], ◌∷◌, ◌++◌, length, take, filter, slice_get, Option, Some, None, refl, sym, ap, subst, ◌∙◌, arith}
+use Rattle.std.proofs.Common.{◌≡◌, ◌≢◌, ℕ, zero, suc, ◌+◌, ◌-◌, ◌<◌, ◌≤◌, max, Bool, true, false, cond, if◌then◌else◌, nat_lt, List, [], ◌∷◌, ◌++◌, length, take, filter, slice_get, Option, Some, None, refl, sym, ap, subst, ◌∙◌, arith}
+use Rattle.std.proofs.lemmas.Bool.Decides.{nat_tests}
 use Rattle.std.specs.Ordering.{is_eq, eq_by_cmp}
 use Rattle.std.specs.Cmp.{tied_itself}
 use Rattle.model_values.specs.Value.{Val, val_cmp, val_total, val_exact}
 use Rattle.model_values.specs.Token.{Tok}
 use Rattle.model_values.specs.Row.{Row}
-use Rattle.model_sets.specs.Rows.{mark, of_rows, is_of}
+use Rattle.model_sets.specs.Rows.{mark, of_rows, is_of, IsAtMost}
 use Rattle.model_sets.specs.Equations.{filter_set}
 use Rattle.model_sets.specs.Rises.{AreApart}
 use Rattle.model_sets.proofs.RowLaws.{own_mark, is-Equal, mark-append, mark-of_rows, same_from_mark, ascending-of_rows}
@@ -48,6 +49,22 @@ near-mark v rows (suc b) u w =
       both : (c : Bool) → max (if c then mark (row_at (slice_get rows b)) u w else 0) (if c then mark (take b rows) u w else 0) ≡ (if c then max (mark (row_at (slice_get rows b)) u w) (mark (take b rows) u w) else 0)
       both true = refl
       both false = refl
+
+take-low : (rows : List Row) (b : ℕ) (u : Val) (w : Tok) → mark (take b rows) u w ≤ mark rows u w
+take-low [] zero u w = omega arith
+take-low [] (suc b) u w = omega arith
+take-low (r ∷ rows) zero u w = omega arith
+take-low (r ∷ rows) (suc b) u w = omega (arith, take-low rows b u w)
+
+low-if : (c : Bool) (m n : ℕ) → m ≤ n → (if c then m else 0) ≤ n
+low-if true m n low = low
+low-if false m n low = omega arith
+
+-- a pass has no others than the set
+pub near-within : (v : Val) (rows log : List Row) (b : ℕ) → of_rows rows ≡ of_rows log → IsAtMost (near v rows b) log
+near-within v rows log b is u w =
+    let alike : mark rows u w ≡ mark log u w = sym (mark-of_rows rows u w) ∙ ap (λ (s : List Row). mark s u w) is ∙ mark-of_rows log u w in
+    subst (λ (m : ℕ). m ≤ mark log u w) (sym (near-mark v rows b u w)) (low-if (eq_by_cmp val_cmp v u) (mark (take b rows) u w) (mark log u w) (omega (arith, take-low rows b u w, alike)))
 
 less-if : (c : Bool) (n : ℕ) → n ≡ 0 → (if c then n else 0) ≡ 0
 less-if true n e = e
@@ -125,3 +142,27 @@ pub near-whole : (v : Val) (rows log : List Row) (b : ℕ) → of_rows rows ≡ 
 near-whole v rows log b is within passed =
     let parts : b + (length rows - b) ≡ length rows = omega (arith, within) in
     ap (λ (s : List Row). filter (is_of v) (of_rows s)) (sym (near-skip v rows b (length rows - b) (λ i row less. passed i row)) ∙ ap (near v rows) parts) ∙ near-rows v rows log (length rows) is (omega arith)
+
+-- ---- a pass back over rows to which no chain leads yet
+
+-- a row before a place that isn't of the value
+pub past-row : (rows : List Row) (v : Val) (i b : ℕ) → (IsRowOf rows v (b - 1) → ⊥) → IsRowOf rows v i → i < b → i < b - 1
+past-row rows v i b not_it row less = let other : i ≢ b - 1 = λ same. not_it (subst (IsRowOf rows v) same row) in omega (arith, other, less)
+
+-- the row right before a place
+pub row-right : (rows : List Row) (v : Val) (b k : ℕ) → IsRowOf rows v (b - 1) → b ≡ suc k → IsRowOf rows v k
+row-right rows v b k row is = let same : b - 1 ≡ k = omega (arith, is) in subst (IsRowOf rows v) same row
+
+either-side : (i n : ℕ) (P : Type 0) → (i < n → P) → (n ≤ i → P) → P
+either-side i n P low high = by (nat_lt i n) refl where
+  by : (b : Bool) → nat_lt i n ≡ b → P
+  by true e = low (grind (arith, nat_tests, e))
+  by false e = high (grind (arith, nat_tests, e))
+
+-- a pass that found a row has passed none
+pub passed-back : (i first place behind : ℕ) → (first ≤ i → i < place → i < behind) → first < behind → i < place → i < behind
+passed-back i first place behind passed found less = either-side i first (i < behind) (λ low. omega (arith, low, found)) (λ high. passed high less)
+
+-- where it found none, the chain leads to all
+pub passed-chain : (i first place behind newest : ℕ) → (first ≤ i → i < place → i < behind) → behind ≤ first → (i < first → i < newest) → i < place → i < newest
+passed-chain i first place behind newest passed none chained less = either-side i first (i < newest) chained (λ high. absurd (omega (arith, passed high less, none, high)))

@@ -33,9 +33,7 @@ abbrev pub near : Val → List Row → ℕ → List Row
 near v rows zero = []
 near v rows (suc b) = filter (is_of v) (row_at (slice_get rows b)) ++ near v rows b
 
--- a pass stands at its end, or behind a row of the value, and the chains lead to all rows
+-- a pass stands at its end, or behind a row of the value
 pub record IsNear (rows : List Row) (newest : List (ℕ × ℕ)) (older : List ℕ) (v : Val) (b : ℕ) : Type 0 where
   pub found : AreFound rows newest older
-  pub whole : length older ≡ length rows
-  pub within : b ≤ length older
   pub row : (k : ℕ) → b ≡ suc k → IsRowOf rows v k

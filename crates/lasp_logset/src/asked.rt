@@ -47,7 +47,7 @@ impl<'a> Asked<'a> {
         Asked { by: By::Table(set) }
     }
 
-    fn behind(grown: &'a Grown) -> Asked<'a>
+    pub(crate) fn behind(grown: &'a Grown) -> Asked<'a>
         ensures { result ≡ grown.now }
     {
         Asked {

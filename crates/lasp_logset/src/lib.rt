@@ -19,6 +19,7 @@ mod lattice;
 mod live;
 mod name;
 mod near;
+mod near_grown;
 mod of_grown;
 mod of_value;
 mod ordered;

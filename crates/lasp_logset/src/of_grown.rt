@@ -1,17 +1,20 @@
 //! The rows of a value in a log that begins as that of a table does: by the table, and by a pass over what stands behind it.
 
-ghost use Rattle.std.specs.Prelude.{◌≡◌, ◌==◌, ◌↔◌, if◌then◌else◌, [], IfOk, OnOk, IsTrue};
+ghost use Rattle.std.specs.Prelude.{◌≡◌, ◌==◌, ◌↔◌, if◌then◌else◌, [], filter, IfOk, IfSome, OnOk, IsTrue};
 ghost use Rattle.std.specs.Ordering.{eq_by_cmp};
 ghost use Rattle.std.specs.Option.{option_map_or};
 ghost use Rattle.std.specs.Arc.{arc_value};
 ghost use Rattle.model_values.specs.Value.{Val, val_cmp};
 ghost use Rattle.model_values.specs.Token.{Tok};
-ghost use Rattle.model_sets.specs.Rows.{mark, of_rows, join, remove_delta};
+ghost use Rattle.model_sets.specs.Rows.{mark, of_rows, join, is_of, remove_delta};
+ghost use Rattle.model_sets.specs.Rises.{AreApart};
 ghost use Rattle.model_sets.specs.Reads.{HasRowOf};
 ghost use Rattle.lasp_value.specs.Value.{val_of};
 
+use super::asked::Asked;
 use super::entry::Entry;
 use super::grown::Grown;
+use super::near_grown::NearGrown;
 use super::passes::has_row_in;
 use super::set::LogSet;
 use lasp_log::Items;
@@ -29,6 +32,21 @@ impl Grown {
             return true;
         }
         has_row_in(behind, value, dead)
+    }
+
+    /// The rows of a value, with those that stand behind the table, where there is one and these are few.
+    pub(crate) fn near<'a>(&'a self, value: &'a Value) -> Option<NearGrown<'a>>
+        ensures rows { IfSome result (λ rows. filter (is_of (val_of value.now)) (of_rows rows) ≡ filter (is_of (val_of value.now)) (of_rows self.now)) }
+        ensures apart { IfSome result (λ rows. AreApart rows) }
+    {
+        if !self.is_short(0) {
+            return None;
+        }
+        let (begin, behind) = self.parts();
+        match begin {
+            Some(set) => Some(NearGrown::of(set.near(value), behind, Asked::behind(self))),
+            None => None,
+        }
     }
 
     /// What removes a value: of the table its live rows, and its rows behind, each dead. It costs what `LogSet::remove_delta` does, and a pass over what stands behind the table.

@@ -1,7 +1,7 @@
 //! A pass over the rows of one value, from the newest back.
 
 ghost use Rattle.std.specs.Prelude.{◌≡◌, ◌∷◌, [], IfSome, IfNone, filter};
-ghost use Rattle.model_sets.specs.Rows.{of_rows, is_of};
+ghost use Rattle.model_sets.specs.Rows.{of_rows, is_of, IsAtMost};
 ghost use Rattle.model_sets.specs.Rises.{AreApart};
 ghost use Rattle.lasp_value.specs.Value.{val_of};
 
@@ -38,16 +38,17 @@ impl<'a> Model for Near<'a> {
 }
 
 impl<'a> Near<'a> {
-    /// The next row. It costs a step for each row of the value's hash.
+    /// The next row. It costs a step for each row that came since the rows were indexed, and then for each of the value's hash.
     pub(crate) fn next(&mut self) -> Option<TableRow<'a>>
         ensures some { IfSome result (λ r. self.old ≡ r ∷ self.new) }
         ensures none { IfNone result (self.old ≡ []) }
+        ensures ended { IfNone result (self.new ≡ []) }
     {
         if self.behind == 0 {
             return None;
         }
         let row = self.behind - 1;
-        let before = self.places.row_before(self.rows, row, self.value);
+        let before = self.places.any_before(self.rows, row, self.value);
         self.behind = before;
         let Some((name, dead)) = self.rows.get_index(row) else {
             unreachable!()
@@ -57,18 +58,19 @@ impl<'a> Near<'a> {
 }
 
 impl LogSet {
-    /// The rows of a value, where they are indexed.
-    pub(crate) fn near<'a>(&'a self, value: &'a Value) -> Option<Near<'a>>
-        ensures rows { IfSome result (λ rows. filter (is_of (val_of value.now)) (of_rows rows) ≡ filter (is_of (val_of value.now)) (of_rows self.now)) }
-        ensures apart { IfSome result (λ rows. AreApart rows) }
+    /// The rows of a value: those that came since the rows were indexed are found by a pass, the others by their chain.
+    pub(crate) fn near<'a>(&'a self, value: &'a Value) -> Near<'a>
+        ensures rows { filter (is_of (val_of value.now)) (of_rows result) ≡ filter (is_of (val_of value.now)) (of_rows self.now) }
+        ensures apart { AreApart result }
+        ensures within { IsAtMost result self.now }
     {
-        let (rows, places) = self.places()?;
-        let behind = places.newest_row(rows, value);
-        Some(Near {
+        let (rows, places) = self.first_places();
+        let behind = places.newest_before(rows, rows.len(), value);
+        Near {
             rows,
             places,
             behind,
             value,
-        })
+        }
     }
 }

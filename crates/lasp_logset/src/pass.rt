@@ -5,6 +5,7 @@ ghost use Rattle.lasp_logset.specs.Whole.{standing};
 
 use super::asked::Asked;
 use super::entry::Entry;
+use super::near_grown::NearGrown;
 use super::of_value::Near;
 use super::rows::{Rows, TableRow};
 use super::standing::Standing;
@@ -24,6 +25,7 @@ enum Left<'a> {
     Log(Items<'a, Entry>),
     Standing(Standing<'a>),
     Near(Near<'a>),
+    Grown(NearGrown<'a>),
 }
 
 impl<'a> Model for Pass<'a> {
@@ -71,6 +73,14 @@ impl<'a> Pass<'a> {
         }
     }
 
+    pub(crate) fn of_grown(left: NearGrown<'a>) -> Pass<'a>
+        ensures { result ≡ left.entry }
+    {
+        Pass {
+            left: Left::Grown(left),
+        }
+    }
+
     /// The next row. It costs a step, and in a log some of whose rows died after they had come a look-up for each live row, with a pass over what stands behind the table.
     pub fn next(&mut self) -> Option<TableRow<'a>>
         ensures some { IfSome result (λ r. self.old ≡ r ∷ self.new) }
@@ -87,6 +97,7 @@ impl<'a> Pass<'a> {
                 Some(TableRow::of(entry.name(), entry.is_dead()))
             }
             Left::Near(left) => left.next(),
+            Left::Grown(left) => left.next(),
         }
     }
 }

@@ -32,13 +32,6 @@ impl Places {
         }
     }
 
-    /// Whether they lead to each row of a table.
-    pub(crate) fn are_whole(&self, rows: &IndexMap<Name, bool>) -> bool
-        ensures { IsTrue result → length self.now.older.items ≡ length rows.now.entries }
-    {
-        self.older.len() == rows.len()
-    }
-
     /// Takes the rows in that came since. It costs a look-up for each. After want of memory it has taken some.
     pub(crate) fn follow(&mut self, rows: &IndexMap<Name, bool>) -> Result<(), AllocError>
         requires { AreFound rows.now.entries self.old.newest.entries self.old.older.items }
@@ -87,7 +80,42 @@ impl Places {
         self.row_from(rows, self.begin(hash_of(value)), value)
     }
 
-    /// From a row of a value one more than the number of the one before it, or 0.
+    /// One more than the number of the newest row of a value before a place behind those to which they lead, or 0. It costs a step for each row between.
+    pub(crate) fn newest_before(
+        &self,
+        rows: &IndexMap<Name, bool>,
+        place: usize,
+        value: &Value,
+    ) -> usize
+        requires found { AreFound rows.now.entries self.now.newest.entries self.now.older.items }
+        requires since { length self.now.older.items ≤ place }
+        ensures found { (k : ℕ) → result ≡ suc k → IsRowOf rows.now.entries (val_of value.now) k }
+        ensures passed { (i : ℕ) → IsRowOf rows.now.entries (val_of value.now) i → i < place → i < result }
+        ensures falls { result ≤ place }
+    {
+        let first = self.older.len();
+        let behind = scan_back(rows, first, place, value);
+        if behind > first {
+            return behind;
+        }
+        self.newest_row(rows, value)
+    }
+
+    /// From any row of a value one more than the number of the one before it, or 0.
+    pub(crate) fn any_before(&self, rows: &IndexMap<Name, bool>, row: usize, value: &Value) -> usize
+        requires found { AreFound rows.now.entries self.now.newest.entries self.now.older.items }
+        requires row { IsRowOf rows.now.entries (val_of value.now) row }
+        ensures found { (k : ℕ) → result ≡ suc k → IsRowOf rows.now.entries (val_of value.now) k }
+        ensures passed { (i : ℕ) → IsRowOf rows.now.entries (val_of value.now) i → i < row → i < result }
+        ensures falls { result ≤ row }
+    {
+        if row < self.older.len() {
+            return self.row_before(rows, row, value);
+        }
+        self.newest_before(rows, row, value)
+    }
+
+    /// From a row of a value to which they lead one more than the number of the one before it, or 0.
     pub(crate) fn row_before(&self, rows: &IndexMap<Name, bool>, row: usize, value: &Value) -> usize
         requires found { AreFound rows.now.entries self.now.newest.entries self.now.older.items }
         requires within { row < length self.now.older.items }
@@ -112,6 +140,20 @@ impl Places {
         }
         behind
     }
+}
+
+/// One more than the number of the newest row of a value before a place and not before the first one, or the first one.
+fn scan_back(rows: &IndexMap<Name, bool>, first: usize, place: usize, value: &Value) -> usize
+    requires { first ≤ place }
+    ensures found { (k : ℕ) → result ≡ suc k → first ≤ k → IsRowOf rows.now.entries (val_of value.now) k }
+    ensures passed { (i : ℕ) → IsRowOf rows.now.entries (val_of value.now) i → first ≤ i → i < place → i < result }
+    ensures falls { result ≤ place }
+{
+    let mut behind = place;
+    while behind > first && !is_row_at(rows, behind - 1, value) {
+        behind -= 1;
+    }
+    behind
 }
 
 /// Whether the row at a place is of a value.

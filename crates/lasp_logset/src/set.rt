@@ -137,25 +137,13 @@ impl LogSet {
         (&self.rows, &self.chains)
     }
 
-    /// The places of all rows of a value, where they lead to each, and the rows.
-    pub(crate) fn places(&self) -> Option<(&IndexMap<Name, bool>, &Places)>
-        ensures state { IfSome result (λ p. of_rows p.0.now.entries ≡ of_rows self.now) }
-        ensures apart { IfSome result (λ p. AreApart p.0.now.entries) }
-        ensures found { IfSome result (λ p. AreFound p.0.now.entries p.1.now.newest.entries p.1.now.older.items) }
-        ensures whole { IfSome result (λ p. length p.1.now.older.items ≡ length p.0.now.entries) }
-    {
-        let _count = self.rows.len();
-        if self.places.are_whole(&self.rows) {
-            return Some((&self.rows, &self.places));
-        }
-        None
-    }
-
     /// The rows, and the places of those of a value, which may lead to the first ones alone.
     pub(crate) fn first_places(&self) -> (&IndexMap<Name, bool>, &Places)
         ensures state { of_rows result.0.now.entries ≡ of_rows self.now }
+        ensures apart { AreApart result.0.now.entries }
         ensures found { AreFound result.0.now.entries result.1.now.newest.entries result.1.now.older.items }
     {
+        let _count = self.rows.len();
         (&self.rows, &self.places)
     }
 

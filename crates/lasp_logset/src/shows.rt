@@ -47,17 +47,18 @@ impl OrSet {
         }
     }
 
-    /// A pass as `entries` over rows among which are all those of a value. Where the table's rows are indexed it is these alone.
+    /// A pass as `entries` over rows among which are all those of a value. With a table it is these alone, with those behind it where others share it, and costs a step for each row that came since `index_rows` and for each of the value's hash.
     pub fn entries_near<'a>(&'a self, value: &'a Value) -> Result<Pass<'a>, AllocError>
         ensures rows { IfOk result (λ rows. filter (is_of (val_of value.now)) (of_rows rows) ≡ filter (is_of (val_of value.now)) self.now) }
         ensures apart { IfOk result (λ rows. AreApart rows) }
     {
-        if let Kept::Whole(set) = &self.kept {
-            if let Some(near) = set.near(value) {
-                return Ok(Pass::of_near(near));
-            }
+        match &self.kept {
+            Kept::Whole(set) => Ok(Pass::of_near(set.near(value))),
+            Kept::Past(grown) => match grown.near(value) {
+                Some(near) => Ok(Pass::of_grown(near)),
+                None => self.entries(),
+            },
         }
-        self.entries()
     }
 
     /// A pass over the log that leaves out what died later.
