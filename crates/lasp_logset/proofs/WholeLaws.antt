@@ -237,6 +237,10 @@ passed-join set other log more n m here there many counted =
     )) in
     omega (arith, many, counted, ap length here, ap length joined)
 
+-- a join with a set without rows has those of the other one
+pub alone-counted : (set other : List Row) (n m : ℕ) → IsAscending set → n ≡ length other → n ≡ 0 → m ≡ length set → m ≡ length (join set other)
+alone-counted set other n m up many none is = is ∙ ap length (joined-nothing set other n up many none)
+
 pub other-way : (s t : List Row) (n : ℕ) → n ≡ length (join t s) → n ≡ length (join s t)
 other-way s t n is = is ∙ ap length (join-commutative t s)
 

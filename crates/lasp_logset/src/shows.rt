@@ -131,10 +131,18 @@ impl OrSet {
         print_all(shown.as_slice(), out)
     }
 
-    /// The number of rows that the join with another set has, dead ones counted. Each row of one of them costs a look-up in the other one: of two with tables, each of the smaller one. It takes no memory where that other one has a table.
+    /// The number of rows that the join with another set has, dead ones counted. Where one of both has no rows it costs nothing. Else each row of one of them costs a look-up in the other one: of two with tables, each of the smaller one. It takes no memory where that other one has a table, but where `entries` of the first does.
     pub fn joined_rows(&self, other: &OrSet) -> u64
         ensures { result ≡ length (join self.now other.now) }
     {
+        self.ascends();
+        other.ascends();
+        if other.rows() == 0 {
+            return self.rows();
+        }
+        if self.rows() == 0 {
+            return other.rows();
+        }
         if self.is_asked(other) {
             joined_count(self, other)
         } else {
