@@ -221,14 +221,7 @@ impl LogSet {
         raises(&self.rows, entry.name(), entry.is_dead())
     }
 
-    /// Whether a row tells more than the set, as `raises` does.
-    pub(crate) fn lacks(&self, name: &Name, dead: bool) -> bool
-        ensures { result ≡ nat_lt (mark self.now name.now.0 name.now.1) (level dead) }
-    {
-        raises(&self.rows, name, dead)
-    }
-
-    /// The same, along with a log.
+    /// Whether a row of this key tells more than the set, as `raises` does, along with a log.
     pub(crate) fn lacks_near(&self, hint: &mut Hint, name: &Name, dead: bool) -> bool
         ensures { result ≡ nat_lt (mark self.now name.now.0 name.now.1) (level dead) }
     {
