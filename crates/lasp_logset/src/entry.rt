@@ -6,6 +6,7 @@ ghost use Rattle.model_sets.specs.Rows.{is_of};
 ghost use Rattle.lasp_value.specs.Value.{val_of};
 ghost use Rattle.lasp_value.specs.Token.{tok_of};
 
+use super::key::compare_values;
 use super::name::Name;
 use lasp_log::Share;
 use lasp_value::{Token, Value};
@@ -105,7 +106,7 @@ impl Entry {
     pub fn is_of(&self, value: &Value) -> bool
         ensures { result ≡ is_of (val_of value.now) self.now }
     {
-        value.cmp(self.value()).is_eq()
+        compare_values(value, self.value()).is_eq()
     }
 }
 

@@ -4,6 +4,7 @@ ghost use Rattle.std.specs.Prelude.{◌≡◌, ℕ, ◌<◌, ◌≤◌, ◌↔�
 ghost use Rattle.lasp_value.specs.Value.{val_of};
 ghost use Rattle.lasp_logset.specs.Live.{IsLiveRow};
 
+use super::key::compare_values;
 use super::name::Name;
 use indexmap::IndexMap;
 use lasp_value::Value;
@@ -22,7 +23,7 @@ pub(crate) fn is_live_row(rows: &IndexMap<Name, bool>, place: usize, value: &Val
 pub(crate) fn is_of(name: &Name, value: &Value) -> bool
     ensures { IsTrue result ↔ (name.now.0 ≡ val_of value.now) }
 {
-    *name.value() == *value
+    compare_values(name.value(), value).is_eq()
 }
 
 /// The first place from one on with a live row of a value, or one behind all rows.

@@ -11,6 +11,7 @@ ghost use Rattle.lasp_value.specs.Token.{tok_of};
 ghost use Rattle.lasp_logset.specs.Orders.{row_total, row_equivalence, row_order};
 
 use super::entry::Entry;
+use super::key::compare_values;
 use super::name::Name;
 use indexmap::map::Iter;
 use lasp_value::{Token, Value};
@@ -67,7 +68,7 @@ impl<'a> TableRow<'a> {
     pub fn is_of(&self, value: &Value) -> bool
         ensures { result ≡ is_of (val_of value.now) self.now }
     {
-        value.cmp(self.value()).is_eq()
+        compare_values(value, self.value()).is_eq()
     }
 
     /// The row to be put into another set. It takes no memory.
