@@ -8,7 +8,7 @@ ghost use Rattle.lasp_state.specs.State.{shape_of};
 ghost use Rattle.lasp_replica.specs.Delivery.{IsTaken};
 
 use super::sizes::{joined_size, news};
-use super::upkeep::gather_all;
+use super::upkeep::tend_all;
 use super::{MOST_ROWS, Replica};
 use crate::entry::{Act, Entry};
 use crate::refused::DeliverRefused;
@@ -250,7 +250,7 @@ impl Replica {
         self.journal.reserve(1)?;
         record_all(&mut self.histories, &grow, self.journal.len() as u64);
         self.states = states;
-        gather_all(&mut self.states);
+        tend_all(&mut self.states);
         raise(&mut self.counts, message.counts());
         let _ = self.journal.push(Entry {
             by,

@@ -7,25 +7,34 @@ use super::Replica;
 use lasp_graph::{Kind, States};
 use lasp_state::Op;
 
-/// Puts what came into the tables of all states, where no one else has these by now.
-pub(super) fn gather_all(states: &mut States)
+/// Puts what came into the table of a state, where no one else has it by now, and closes its log.
+fn tend(states: &mut States, x: u64)
+    requires { x < length states.old }
+    ensures { states.new ≡ states.old }
+{
+    states.gather_at(x);
+    states.close_at(x);
+}
+
+/// The same for all states.
+pub(super) fn tend_all(states: &mut States)
     ensures { states.new ≡ states.old }
 {
     for x in 0..states.len() {
-        states.gather_at(x);
+        tend(states, x);
     }
 }
 
-/// Puts what came into the tables of two states, where no one else has these by now, and closes their logs.
-fn tend_both(states: &mut States, x: u8, y: u8)
+/// The same for a derived variable's state and for both of its inputs, so that a job and its result share chunks and not rows.
+fn tend_process(states: &mut States, var: u8, x: u8, y: u8)
+    requires itself { var < length states.old }
     requires first { x < length states.old }
     requires second { y < length states.old }
     ensures { states.new ≡ states.old }
 {
-    states.gather_at(u64::from(x));
-    states.close_at(u64::from(x));
-    states.gather_at(u64::from(y));
-    states.close_at(u64::from(y));
+    tend(states, u64::from(var));
+    tend(states, u64::from(x));
+    tend(states, u64::from(y));
 }
 
 /// Sees that a process finds without a pass what it looks up by value: a fold the live rows of its input and of itself, an intersection all rows of either input.
@@ -49,7 +58,7 @@ fn index_for(states: &mut States, kind: &Kind, var: u8, x: u8, y: u8)
 }
 
 impl Replica {
-    /// Sees that a share of a derived variable's inputs costs little, and that its process finds values in them without a pass.
+    /// Sees that a share of a derived variable and of its inputs costs little, and that its process finds values in them without a pass.
     pub(super) fn ready_inputs(&mut self, var: u8)
         requires replica { IsReplica self.old }
         requires derived { IsDerived (arc_value self.old.graph) var }
@@ -57,7 +66,7 @@ impl Replica {
     {
         let kind = &self.graph.at(u64::from(var)).kind;
         if let Some((x, y)) = kind.inputs() {
-            tend_both(&mut self.states, x, y);
+            tend_process(&mut self.states, var, x, y);
             index_for(&mut self.states, kind, var, x, y);
         }
     }

@@ -77,7 +77,7 @@ returns-clause-ok c =
     let entries : map entry_of c.push.new.self.items ≡ map entry_of c.args.self.now.journal.items ++ entry c.args.by (Deliver c.args.number (arc_value c.args.message.now)) ∷ [] =
     pushed c.args.self.now.journal.items c.push.new.self.items v (entry c.args.by (Deliver c.args.number (arc_value c.args.message.now))) items
     (ap (λ (m : Message). entry c.args.by (Deliver c.args.number m)) c.in_ok-share.ensures) in
-    let gathered = subst (λ (hs : List Held). AreJoined (arc_value c.args.self.now.graph) (arc_value c.args.message.now) c.args.self.now.states hs c.join_sources.new.histories.items c.in_ok-grow.grow.items) (sym c.gather_all.ensures) joined in
+    let gathered = subst (λ (hs : List Held). AreJoined (arc_value c.args.self.now.graph) (arc_value c.args.message.now) c.args.self.now.states hs c.join_sources.new.histories.items c.in_ok-grow.grow.items) (sym c.tend_all.ensures) joined in
     goes c.args.self.now _ c.requires.replica c.args.by c.args.number (arc_value c.args.message.now) c.join_sources.new.histories.items c.in_ok-grow.grow.items message of.0 of.1 c.join_sources.ensures.told gathered recorded refl refl refl refl counts entries v items tt
 
 pub returns-clause-answer : goal.returns-clause-answer
