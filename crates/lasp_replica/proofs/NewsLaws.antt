@@ -30,6 +30,12 @@ join-rows s t flat =
     ap (λ (rows : List Row). record { rows = rows; values = (join_contents s (of_set t.rows)).values; counts = (join_contents s (of_set t.rows)).counts; top = (join_contents s (of_set t.rows)).top }) (join-news s.rows t.rows)
     ∙ sym (ap (join_contents s) flat)
 
+-- the new rows alone, as the state of a set, join in as all of the other set does
+pub rows-joined : (s t : State) (rows : List Row) → shape_of s ≡ set → shape_of s ≡ shape_of t → rows ≡ news_of (shape_of s) (content_of s) (content_of t) → join_contents (content_of s) (of_set rows) ≡ join_contents (content_of s) (content_of t)
+rows-joined s t rows kind alike news =
+    ap (λ (z : List Row). join_contents (content_of s) (of_set z)) (news ∙ ap (λ (shape : Shape). news_of shape (content_of s) (content_of t)) kind)
+    ∙ join-rows (content_of s) (content_of t) (set-flat t (sym alike ∙ kind))
+
 module _ (old : List Held) (x : ℕ) (now : State) (there : slice_get old x ≡ Some (held_of now)) (sent : State) (alike : (held_at old x).shape ≡ shape_of sent) (kind : shape_of sent ≡ set) where
   here : held_at old x ≡ held_of now
   here = held-here old x now there
@@ -46,7 +52,7 @@ module _ (old : List Held) (x : ℕ) (now : State) (there : slice_get old x ≡ 
   new-rows rows news = news ∙ ap (λ (shape : Shape). news_of shape (content_of now) (content_of sent)) set-here
 
   same-join : (rows : List Row) → rows ≡ news_of (shape_of now) (content_of now) (content_of sent) → join_contents (content_of now) (of_set rows) ≡ join_contents (content_of now) (content_of sent)
-  same-join rows news = ap (λ (z : List Row). join_contents (content_of now) (of_set z)) (new-rows rows news) ∙ join-rows (content_of now) (content_of sent) (set-flat sent kind)
+  same-join rows news = rows-joined now sent rows set-here same-shape news
 
   -- the new rows may be joined in
   pub rows-joinable : (rows : List Row) → AreJoinable (held_at old x) (held_of (state.Set rows))

@@ -228,10 +228,6 @@ refusal r x o s d fits found joined large size =
       own : content_at (contents_of r.states) x ≡ content_of s
       own = at-map (λ (h : Held). h.content) r.states x (record { shape = set; content = least; number = pos 0 }) ∙ ap (λ (h : Held). h.content) found
 
--- two looks at one shared state
-pub state-same : (s t u : State) → s ≡ u → t ≡ u → (d : State) → size_of (join_contents (content_of t) (content_of d)) ≡ size_of (join_contents (content_of s) (content_of d))
-state-same s t u a b d = ap (λ (v : State). size_of (join_contents (content_of v) (content_of d))) (b ∙ sym a)
-
 -- what a state joined in leaves, with the memory to write it down
 pub prepared : (x y : ℕ) (old new : Replica) (s t d : State) (covered : Bool) → y ≡ x → held_at old.states x ≡ held_of s → held_at old.states x ≡ held_of t → (IsTrue covered ↔ IsContentAtMost (content_of d) (content_of s))
     → IsReplica old → x < length (arc_value old.graph) → (before after : Kept) → before ≡ get_or old.histories.items x before → after.history ≡ before.history → IsTrue after.prepared

@@ -1,10 +1,11 @@
 //! Results of jobs.
 
-ghost use Rattle.std.specs.Prelude.{◌≡◌, ◌<◌, ◌≤◌, ◌↔◌, IfOk, OnOk, OnErr, IfErr, IsTrue, IsFalse, IsSome, ◌++◌, ◌∷◌, [], length, map, take, slice_set, slice_index_or, Some, None, vec_len, vec_capacity};
-ghost use Rattle.lasp_replica.specs.Prelude.{arc_value, changed, size_of, row_limit, set, kind_at, equation, IsDerived, graph, vals, base, content_of, held_at, frame_of, entries_of, told, seen_process, jobs_of, IsReplica, Stays, IsJobOf, IsResultOf, HasBound, HasRows, AreNewsOf, IsAlike, HasRoom, AreShared, base_on};
+ghost use Rattle.std.specs.Prelude.{◌≡◌, ◌<◌, ◌≤◌, IfOk, OnOk, OnErr, IfErr, IsTrue, IsFalse, IsSome, ◌++◌, ◌∷◌, [], length, map, take, slice_set, slice_index_or, Some, None, vec_len, vec_capacity};
+ghost use Rattle.lasp_replica.specs.Prelude.{arc_value, changed, size_of, row_limit, kind_at, equation, IsDerived, graph, vals, base, content_of, held_at, frame_of, entries_of, told, seen_process, jobs_of, IsReplica, Stays, IsJobOf, IsResultOf, HasBound, HasRows, AreNewsOf, IsAlike, HasRoom, AreShared, base_on};
 ghost use Rattle.lasp_state.specs.State.{shape_of};
 
 use super::Replica;
+use super::sizes::is_set;
 use super::update::record_growth;
 use crate::entry::{Act, Entry};
 use crate::process::Process;
@@ -25,13 +26,6 @@ fn rows_of(state: &State) -> &OrSet
         State::Fold(rows, _) => rows,
         _ => unreachable!(),
     }
-}
-
-/// Whether the state is that of a set.
-fn is_set(state: &State) -> bool
-    ensures { IsTrue result ↔ (shape_of state.now ≡ set) }
-{
-    matches!(state, State::Set(_))
 }
 
 /// Writes an entry down, for which the memory is there.

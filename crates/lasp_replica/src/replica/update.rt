@@ -7,7 +7,7 @@ ghost use Rattle.model_graph.specs.Lawful.{shape_of};
 ghost use Rattle.model_journal.specs.Entry as model;
 ghost use Rattle.lasp_state.specs.State as state;
 
-use super::sizes::{joined_size, news};
+use super::sizes::{brought, joined_size, news};
 use super::{MOST_ROWS, MOST_UPDATES, Replica};
 use crate::entry::{Act, Entry};
 use crate::refused::UpdateRefused;
@@ -122,8 +122,9 @@ impl Replica {
     {
         self.check_update(var, op)?;
         let k = self.counts.at(u64::from(self.me)) + 1;
-        let state = self.states.at(u64::from(var));
-        let delta = state.change(self.allocator(), op, self.me, k)?;
+        let state: &State = self.states.at(u64::from(var));
+        let whole = state.change(self.allocator(), op, self.me, k)?;
+        let delta = brought(self.allocator(), state, op, whole)?;
         delta.recall();
         if joined_size(state, &delta) > MOST_ROWS {
             return Err(UpdateRefused::TooManyRows);
@@ -149,7 +150,7 @@ impl Replica {
         Ok(grows)
     }
 
-    /// Updates a source. All memory is taken before anything changes. A removal costs the value's live rows, and a look-up for each row that came since the last one.
+    /// Updates a source. All memory is taken before anything changes. A removal costs the value's live rows, and a look-up for each row that came since the last one. A set that is joined in costs a look-up for each of its rows, and a few more for each new one.
     pub fn update(&mut self, by: u64, var: u8, op: &Op) -> Result<(), UpdateRefused>
         requires replica { IsReplica self.old }
         requires small { IsSmall (length self.old.counts) op.now }
