@@ -20,3 +20,4 @@ pub mod RecordLaws
 pub mod BroughtLaws
 pub mod DeliverLaws
 pub mod NewsLaws
+pub mod SizeLaws

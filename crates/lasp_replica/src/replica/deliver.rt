@@ -1,15 +1,15 @@
 //! Deliveries of messages to a replica.
 
-ghost use Rattle.std.specs.Prelude.{◌≡◌, ◌<◌, ◌≤◌, ◌↔◌, IsTrue, OnOk, OnErr, IfOk, length, map};
+ghost use Rattle.std.specs.Prelude.{◌≡◌, ◌<◌, ◌≤◌, ◌↔◌, IsTrue, OnOk, OnErr, IfOk, length, map, nat_le};
 ghost use Rattle.lasp_replica.specs.Prelude.{arc_value, join_contents, of_set, size_of, row_limit, set, sent_at, brought, gained, IsSentTo, entry, content_of, held_of, held_at, contents_of, AreJoinable, told, IsReplica, Goes, Stays, IsDelivered, IsOfGraph, BringsAsMuch, AreSourcesOfKind, IsLike, AreSmall, IsRefusedAt, AreJoined, IsRefused, AreRecordable, AreRecordedTo};
 ghost use Rattle.model_states.specs.Counts as plain;
 ghost use Rattle.model_journal.specs.Entry as model;
 ghost use Rattle.lasp_state.specs.State.{shape_of};
 ghost use Rattle.lasp_replica.specs.Delivery.{IsTaken};
 
-use super::sizes::{joined_size, news};
+use super::Replica;
+use super::sizes::{fits, news, rows_fit};
 use super::upkeep::tend_all;
-use super::{MOST_ROWS, Replica};
 use crate::entry::{Act, Entry};
 use crate::refused::DeliverRefused;
 use crate::sources::begins;
@@ -32,13 +32,13 @@ fn raise(counts: &mut Counts, others: &Counts)
     }
 }
 
-/// How many rows the join of a set's state with some rows has.
-fn joined_rows(state: &State, rows: &OrSet) -> u64
+/// Whether the join of a set's state with some rows has no more rows than a variable may have.
+fn fits_with(state: &State, rows: &OrSet) -> bool
     requires { shape_of state.now ≡ set }
-    ensures { result ≡ size_of (join_contents (content_of state.now) (of_set rows.now)) }
+    ensures { result ≡ nat_le (size_of (join_contents (content_of state.now) (of_set rows.now))) row_limit }
 {
     match state {
-        State::Set(set) => set.joined_rows(rows),
+        State::Set(set) => rows_fit(set, rows),
         _ => unreachable!(),
     }
 }
@@ -66,7 +66,7 @@ fn join_set(
     if rows.rows() == 0 {
         return Ok(false);
     }
-    if joined_rows(state, &rows) > MOST_ROWS {
+    if !fits_with(state, &rows) {
         return Err(DeliverRefused::TooManyRows(x));
     }
     history.prepare(&rows)?;
@@ -96,7 +96,7 @@ fn join_other(
     if sent.le(state) {
         return Ok(false);
     }
-    if joined_size(state, sent) > MOST_ROWS {
+    if !fits(state, sent) {
         return Err(DeliverRefused::TooManyRows(x));
     }
     let rows = news(alloc, state, sent)?;

@@ -1,9 +1,10 @@
 //! How large a join would be, and what it would change, before it is made.
 
-ghost use Rattle.std.specs.Prelude.{◌≡◌, ◌≢◌, ◌↔◌, IfOk, OnOk, OnErr, IsTrue, IsFalse, length};
-ghost use Rattle.lasp_replica.specs.Prelude.{changed, join_contents, size_of, IsContentAtMost, content_of, news_of, set};
+ghost use Rattle.std.specs.Prelude.{◌≡◌, ◌+◌, ◌↔◌, IfOk, IsTrue, length, nat_le};
+ghost use Rattle.lasp_replica.specs.Prelude.{join_contents, of_set, size_of, row_limit, content_of, news_of, set};
 ghost use Rattle.lasp_state.specs.State.{shape_of};
 
+use super::MOST_ROWS;
 use lasp_logset::{OrSet, changed};
 use lasp_state::{Op, State};
 use std::alloc::{AllocError, Global};
@@ -15,8 +16,25 @@ pub(super) fn is_set(state: &State) -> bool
     matches!(state, State::Set(_))
 }
 
+/// Whether two sets have no more rows together than a variable may have.
+fn are_few(set: &OrSet, more: &OrSet) -> bool
+    ensures { result ≡ nat_le (length set.now + length more.now) row_limit }
+{
+    set.rows() + more.rows() <= MOST_ROWS
+}
+
+/// Whether the join of two sets has no more rows than a variable may have. It costs nothing where they have no more together, else what `OrSet::joined_rows` does.
+pub(super) fn rows_fit(set: &OrSet, more: &OrSet) -> bool
+    ensures { result ≡ nat_le (size_of (join_contents (of_set set.now) (of_set more.now))) row_limit }
+{
+    if are_few(set, more) {
+        return true;
+    }
+    set.joined_rows(more) <= MOST_ROWS
+}
+
 /// How many rows or elements the join of two states of one shape has. It costs a look-up for each row of one of them, of the smaller one where both have tables, and takes no memory where the other one has a table.
-pub(super) fn joined_size(s: &State, t: &State) -> u64
+fn joined_size(s: &State, t: &State) -> u64
     requires { shape_of s.now ≡ shape_of t.now }
     ensures { result ≡ size_of (join_contents (content_of s.now) (content_of t.now)) }
 {
@@ -27,6 +45,17 @@ pub(super) fn joined_size(s: &State, t: &State) -> u64
         (State::Max(_), State::Max(_)) => 0,
         (State::Fold(set, _), State::Fold(rows, _)) => set.joined_rows(rows),
         (_, _) => unreachable!(),
+    }
+}
+
+/// Whether the join of two states of one shape has no more rows or elements than a variable may have. Of two sets it costs what `rows_fit` does, of others what `joined_size` does.
+pub(super) fn fits(s: &State, t: &State) -> bool
+    requires { shape_of s.now ≡ shape_of t.now }
+    ensures { result ≡ nat_le (size_of (join_contents (content_of s.now) (content_of t.now))) row_limit }
+{
+    match (s, t) {
+        (State::Set(set), State::Set(more)) => rows_fit(set, more),
+        (_, _) => joined_size(s, t) <= MOST_ROWS,
     }
 }
 

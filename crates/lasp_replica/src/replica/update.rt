@@ -7,8 +7,8 @@ ghost use Rattle.model_graph.specs.Lawful.{shape_of};
 ghost use Rattle.model_journal.specs.Entry as model;
 ghost use Rattle.lasp_state.specs.State as state;
 
-use super::sizes::{brought, joined_size, news};
-use super::{MOST_ROWS, MOST_UPDATES, Replica};
+use super::sizes::{brought, fits, news};
+use super::{MOST_UPDATES, Replica};
 use crate::entry::{Act, Entry};
 use crate::refused::UpdateRefused;
 use lasp_graph::Kind;
@@ -126,7 +126,7 @@ impl Replica {
         let whole = state.change(self.allocator(), op, self.me, k)?;
         let delta = brought(self.allocator(), state, op, whole)?;
         delta.recall();
-        if joined_size(state, &delta) > MOST_ROWS {
+        if !fits(state, &delta) {
             return Err(UpdateRefused::TooManyRows);
         }
         Ok(delta)

@@ -1,5 +1,5 @@
 use Rattle.std.proofs.Common.{ℕ, ◌≡◌, ◌+◌, Some, slice_get, true, false, arith, sym, ap, subst, ◌∙◌}
-use Rattle.std.proofs.lemmas.Bool.{lt-ltb, le-ltb}
+use Rattle.std.proofs.lemmas.Bool.{leb-true, leb-false, lt-ltb, le-ltb}
 use Rattle.std.specs.Arc.{arc_value}
 use Rattle.model_states.specs.Content.{join_contents}
 use Rattle.model_states.specs.Update.{delta}
@@ -26,16 +26,16 @@ change-requires c =
 pub brought-requires : goal.brought-requires
 brought-requires c = sym c.in_ok-whole.ensures.shape
 
-pub joined_size-requires : goal.joined_size-requires
-joined_size-requires c = sym (c.in_ok-delta.ensures.shape ∙ c.in_ok-whole.ensures.shape)
+pub fits-requires : goal.fits-requires
+fits-requires c = sym (c.in_ok-delta.ensures.shape ∙ c.in_ok-whole.ensures.shape)
 
-pub returns-then-joined_size-gt-MOST_ROWS-clause-answer : goal.returns-then-joined_size-gt-MOST_ROWS-clause-answer
-returns-then-joined_size-gt-MOST_ROWS-clause-answer c =
+pub returns-then-not-fits-clause-answer : goal.returns-then-not-fits-clause-answer
+returns-then-not-fits-clause-answer c =
     let count = count-found c.args.self.now c.at-k.result (subst (λ (i : ℕ). slice_get c.args.self.now.counts i ≡ Some c.at-k.result) c.from.ensures c.at-k.ensures) in
     let found = state-found c.args.self.now.states c.args.var c.from-2.result (arc_value c.at.result.now) c.deref-state.result.now c.from-2.ensures c.at.ensures c.deref-state.ensures in
     refusal c.args.self.now c.args.var c.args.op.now c.deref-state.result.now c.in_ok-delta.delta c.in_ok-check_update.ensures found
     (c.in_ok-delta.ensures.joined ∙ c.in_ok-whole.ensures.content ∙ ap (λ (n : ℕ). join_contents (content_of c.deref-state.result.now) (delta (op_of c.args.op.now) (content_of c.deref-state.result.now) c.args.self.now.me (n + 1))) (sym count)) true
-    (lt-ltb _ _ (let size = c.joined_size.ensures in omega (arith, c.if-joined_size-gt-MOST_ROWS.true, size)))
+    (lt-ltb _ _ (leb-false _ _ (sym c.fits.ensures ∙ c.if-not-fits.true)))
 
 pub returns-clause-ok : goal.returns-clause-ok
 returns-clause-ok c =
@@ -43,7 +43,7 @@ returns-clause-ok c =
     let found = state-found c.args.self.now.states c.args.var c.from-2.result (arc_value c.at.result.now) c.deref-state.result.now c.from-2.ensures c.at.ensures c.deref-state.ensures in
     gained c.args.self.now c.args.var c.args.op.now c.deref-state.result.now c.in_ok-delta.delta c.requires (checked c.args.self.now c.args.var c.args.op.now c.in_ok-check_update.ensures) found
     (c.in_ok-delta.ensures.joined ∙ c.in_ok-whole.ensures.content ∙ ap (λ (n : ℕ). join_contents (content_of c.deref-state.result.now) (delta (op_of c.args.op.now) (content_of c.deref-state.result.now) c.args.self.now.me (n + 1))) (sym count))
-    c.recall.ensures.ordered (c.in_ok-delta.ensures.shape ∙ c.in_ok-whole.ensures.shape) (let size = c.joined_size.ensures in omega (arith, c.if-joined_size-gt-MOST_ROWS.false, size))
+    c.recall.ensures.ordered (c.in_ok-delta.ensures.shape ∙ c.in_ok-whole.ensures.shape) (leb-true _ _ (sym c.fits.ensures ∙ c.if-not-fits.false))
 
 pub returns-clause-answer : goal.returns-clause-answer
 returns-clause-answer c =
@@ -51,4 +51,4 @@ returns-clause-answer c =
     let found = state-found c.args.self.now.states c.args.var c.from-2.result (arc_value c.at.result.now) c.deref-state.result.now c.from-2.ensures c.at.ensures c.deref-state.ensures in
     refusal c.args.self.now c.args.var c.args.op.now c.deref-state.result.now c.in_ok-delta.delta c.in_ok-check_update.ensures found
     (c.in_ok-delta.ensures.joined ∙ c.in_ok-whole.ensures.content ∙ ap (λ (n : ℕ). join_contents (content_of c.deref-state.result.now) (delta (op_of c.args.op.now) (content_of c.deref-state.result.now) c.args.self.now.me (n + 1))) (sym count)) false
-    (le-ltb _ _ (let size = c.joined_size.ensures in omega (arith, c.if-joined_size-gt-MOST_ROWS.false, size)))
+    (le-ltb _ _ (leb-true _ _ (sym c.fits.ensures ∙ c.if-not-fits.false)))
