@@ -1,5 +1,5 @@
 -- What the looks at single growths tell of all, since they ascend.
-use Rattle.std.proofs.Common.{◌≡◌, ℕ, zero, suc, ◌+◌, ◌-◌, ◌≤◌, ◌<◌, max, Bool, true, false, if◌then◌else◌, nat_lt, IsTrue, List, [], ◌∷◌, ◌++◌, length, drop, slice_index_or, slice_get, Option, Some, None, Result, Ok, Err, IsOk, is_ok, ◌↔◌, refl, sym, ap, subst, ◌∙◌, arith}
+use Rattle.std.proofs.Common.{◌≡◌, ℕ, zero, suc, ◌+◌, ◌-◌, ◌≤◌, ◌<◌, max, Bool, true, false, if◌then◌else◌, nat_lt, IsTrue, List, [], ◌∷◌, ◌++◌, length, drop, append-nil, slice_index_or, slice_get, Option, Some, None, Result, Ok, Err, IsOk, is_ok, ◌↔◌, refl, sym, ap, subst, ◌∙◌, arith}
 use Rattle.std.proofs.lemmas.Bool.Decides.{nat_tests}
 use Rattle.std.proofs.lemmas.List.{drop_all}
 use Rattle.model_values.specs.Row.{Row}
@@ -136,3 +136,7 @@ sound-grown n log pending gs up below = ascend-push 0 0 n (length (log ++ pendin
 pub where-ok : {A E X : Type 0} (r : Result A E) (new more old : X) → IsOk r → new ≡ (if is_ok r then more else old) → new ≡ more
 where-ok (Ok a) new more old ok e = e
 where-ok (Err b) new more old ok e = cc
+
+-- a list is all of a pass, once nothing is left of it
+pub listed : (list left all : List Row) → list ++ left ≡ all → left ≡ [] → list ≡ all
+listed list left all is none = sym (append-nil list) ∙ ap (λ (rest : List Row). list ++ rest) (sym none) ∙ is

@@ -1,6 +1,7 @@
 -- The words that the contracts of this library are written in.
 pub use Rattle.model_values.specs.Row.{Row}
 pub use Rattle.model_sets.specs.Equations.{changed}
+pub use Rattle.model_sets.specs.Rises.{AreApart}
 pub use Rattle.model_sets.specs.Rows.{IsAscending, join, of_rows}
 pub use Rattle.model_states.specs.Content.{IsContentAtMost}
 pub use Rattle.model_graph.specs.Graph.{Decl, is_set, kind_at}

@@ -1,7 +1,7 @@
 //! The history of one variable: what it answers, and how it goes on.
 
 ghost use Rattle.std.specs.Prelude.{◌≡◌, ◌≤◌, ◌↔◌, [], Bool, true, false, IfOk, OnOk, OnErr, IsTrue, length, drop};
-ghost use Rattle.lasp_history.specs.Prelude.{of_rows, no_history, grown, version_before, rows_before, AreBelow};
+ghost use Rattle.lasp_history.specs.Prelude.{AreApart, of_rows, no_history, grown, version_before, rows_before, AreBelow};
 
 use super::growth::Growth;
 use super::news::rows_of;
@@ -95,10 +95,11 @@ impl History {
         OrSet::of_rows(alloc, &self.log[first..])
     }
 
-    /// Takes all memory that a growth by these rows needs, which are shared, and sorts them; for a variable that is no set, or that grew without rows, they are none. A growth that was prepared before is forgotten, except on an error.
+    /// Takes all memory that a growth by these rows needs, which are shared, in any order; for a variable that is no set, or that grew without rows, they are none. A growth that was prepared before is forgotten, except on an error.
     pub fn prepare(&mut self, news: &OrSet) -> Result<(), AllocError>
         ensures history { self.new.history ≡ self.old.history }
-        ensures pending { OnOk result (self.new.pending ≡ news.now) }
+        ensures pending { OnOk result (of_rows self.new.pending ≡ news.now) }
+        ensures apart { OnOk result (AreApart self.new.pending) }
         ensures prepared { OnOk result (IsTrue self.new.prepared) }
         ensures err { OnErr result (self.new ≡ self.old) }
     {

@@ -17,7 +17,7 @@ use Rattle.model_messages.specs.Message.{Message, sent_at, source_number, brough
 use Rattle.model_runs.specs.Part.{BringsAsMuch}
 use Rattle.lasp_history.specs.Kept.{Kept}
 use Rattle.lasp_graph.specs.States.{Held, held_at, contents_of}
-use Rattle.lasp_replica.specs.Parts.{news_of}
+use Rattle.lasp_replica.specs.Parts.{news_of, AreRowsOf}
 use Rattle.lasp_replica.specs.Replica.{kept_at, IsOfGraph, IsDelivered}
 use Rattle.lasp_replica.specs.Delivery.{grows_at, IsReady, IsReadyFor, AreJoined, IsRefused}
 use Rattle.lasp_replica.specs.declared.refused.DeliverRefused.{DeliverRefused}
@@ -51,7 +51,7 @@ ready-same h t u grows history up_t up_u e ready = record {
   still = λ no_growth. covered-same h.content t u e (ready.still no_growth);
   grew = λ growth low. ready.grew growth (covered-same h.content u t (sym e) low);
   prepared = ready.prepared;
-  pending = λ growth. ready.pending growth ∙ news-same h.shape h.content t u up_t up_u e;
+  pending = λ growth. subst (λ (news : List Row). AreRowsOf news history.pending) (news-same h.shape h.content t u up_t up_u e) (ready.pending growth);
 }
 
 -- of a variable that gains, if it is a source

@@ -3,6 +3,7 @@ use Rattle.std.proofs.Common.{◌≡◌, ℕ, zero, suc, ◌≤◌, ◌<◌, ◌
 use Rattle.std.specs.Arc.{arc_value}
 use Rattle.std.proofs.lemmas.List.{map-append}
 use Rattle.std.specs.Option.{option_map}
+use Rattle.model_values.specs.Row.{Row}
 use Rattle.model_states.specs.Counts.{larger}
 use Rattle.model_states.specs.Content.{Content, least, size_of, row_limit, IsContentAtMost}
 use Rattle.model_states.proofs.CountLaws.{length-larger}
@@ -30,7 +31,7 @@ use Rattle.model_core.proofs.ValidLaws.{val-small}
 use Rattle.lasp_history.specs.History.{History, grown, AreBelow}
 use Rattle.lasp_history.specs.Kept.{Kept}
 use Rattle.lasp_graph.specs.States.{Held, held_at}
-use Rattle.lasp_replica.specs.Parts.{history_at, news_of, IsKept}
+use Rattle.lasp_replica.specs.Parts.{history_at, news_of, AreRowsOf, IsKept}
 use Rattle.lasp_replica.specs.TakenIn.{AreRecorded, IsTakenIn}
 use Rattle.lasp_replica.proofs.DeliveryLaws.{kept-delivered}
 use Rattle.lasp_replica.proofs.OrderLaws.{message-in-order}
@@ -122,7 +123,7 @@ module _ (old new : Replica) (is : IsReplica old) (by number : ℕ) (m : Message
   histories = record {
     many = long;
     still = λ x low covered. history-after x low ∙ unmoved x (grows_at grow x) (brought (arc_value old.graph) m x) covered (joined.ready x low) ∙ history-before x;
-    grew = λ x low c brings more. history-after x low ∙ moved x (grows_at grow x) c more (subst (λ (o : Option Content). IsReadyFor (held_at old.states x) o (grows_at grow x) (kept_at made x)) brings (joined.ready x low));
+    grew = λ x low c brings more. moved x (grows_at grow x) c more (subst (λ (o : Option Content). IsReadyFor (held_at old.states x) o (grows_at grow x) (kept_at made x)) brings (joined.ready x low)) (history_at (map told new.histories.items) x) (history-after x low);
   } where
     long : length (map told new.histories.items) ≡ length (map told old.histories.items)
     long =
@@ -135,10 +136,10 @@ module _ (old new : Replica) (is : IsReplica old) (by number : ℕ) (m : Message
     unmoved x true None covered ready = absurd (let both : true ≡ false = ready in cc)
     unmoved x true (Some c) covered ready = absurd (ready.grew refl (covered c refl))
 
-    moved : (x : ℕ) (b : Bool) (c : Content) → (IsContentAtMost c (held_at old.states x).content → ⊥) → IsReady (held_at old.states x) c b (kept_at made x)
-        → recorded b (kept_at made x) (length (entries_of old)) ≡ grown (history_at (map told old.histories.items) x) (news_of (held_at old.states x).shape (held_at old.states x).content c) (length (entries_of old))
-    moved x true c more ready = λ i. grown (history-before x i) (ready.pending refl i) (length (entries_of old))
-    moved x false c more ready = absurd (more (ready.still refl))
+    moved : (x : ℕ) (b : Bool) (c : Content) → (IsContentAtMost c (held_at old.states x).content → ⊥) → IsReady (held_at old.states x) c b (kept_at made x) → (h : History) → h ≡ recorded b (kept_at made x) (length (entries_of old))
+        → (rows : List Row) × AreRowsOf (news_of (held_at old.states x).shape (held_at old.states x).content c) rows × (h ≡ grown (history_at (map told old.histories.items) x) rows (length (entries_of old)))
+    moved x true c more ready h after = ((kept_at made x).pending, ready.pending refl, after ∙ ap (λ (t : History). grown t (kept_at made x).pending (length (entries_of old))) (history-before x))
+    moved x false c more ready h after = absurd (more (ready.still refl))
 
   taken : IsTakenIn m (length (entries_of old)) (parts_of old) (parts_of new)
   taken = record {

@@ -46,8 +46,9 @@ delivered-history X h legal e i m act p q is order taken x low = choose (is_sour
       (kept-covered X h legal e p is x low sent (joined source) low-sent)
   test source false more =
       let grew : IsContentAtMost sent (held_at p.states x).content → ⊥ = λ below. (let both : true ≡ false = sym (test-from-at_most sent (held_at p.states x).content below) ∙ more in cc) in
-      subst (IsHistory X (h ++ e ∷ []) x) (sym (taken.histories.grew x low sent (brings true source) grew))
-      (kept-joined X h e p is x low sent (joined source) (order x low sent (brings true source)) grew)
+      let made = taken.histories.grew x low sent (brings true source) grew in
+      subst (IsHistory X (h ++ e ∷ []) x) (sym made.2)
+      (kept-joined X h e p is x low sent (joined source) grew made.0 made.1)
 
   choose : (b : Bool) → is_source (kind_at p.graph x) ≡ b → IsHistory X (h ++ e ∷ []) x (history_at q.histories x)
   choose true source = test source (is_content_at_most sent (held_at p.states x).content) refl

@@ -335,14 +335,14 @@ bind-replica old new by job s grows is of res asked later room bound v items fit
       long : length h ≡ length old.journal.items
       long = map-length _ old.journal.items
 
-      grown_is : grown_at old.histories.items y (length old.journal.items) ≡ grown (history_at p.histories y) (news_of (held_at p.states y).shape (held_at p.states y).content (content_of s)) (length h)
-      grown_is i = grown (sym (at-map told old.histories.items y no_kept) i) (room.pending i) (sym long i)
+      grown_is : grown_at old.histories.items y (length old.journal.items) ≡ grown (history_at p.histories y) (kept_at old.histories.items y).pending (length h)
+      grown_is i = grown (sym (at-map told old.histories.items y no_kept) i) (kept_at old.histories.items y).pending (sym long i)
 
       larger : IsTrue grows → IsKept X (h ++ e ∷ []) (parts_of new)
       larger more = subst (IsKept X (h ++ e ∷ []))
           (λ i. record { graph = sym bound.same.graph i; counts = sym bound.same.counts i; states = sym bound.states i; histories = sym (bound.grew more ∙ ap (slice_set p.histories y) grown_is) i; bases = sym bound.bases i })
           (kept-bound-grown X h is.legal e y job.n refl p is.kept derived early of.within (held_of s) (result-is old job s is of res) (result-shape old job s is of res) number
-          (base_on job.n job.inputs) refl (job-base old job is of asked) (λ low. let stands : IsFalse grows = room.still.1 low in cc))
+          (base_on job.n job.inputs) refl (job-base old job is of asked) (λ low. let stands : IsFalse grows = room.still.1 low in cc) (kept_at old.histories.items y).pending room.pending)
 
       still : IsFalse grows → IsKept X (h ++ e ∷ []) (parts_of new)
       still none = subst (IsKept X (h ++ e ∷ []))

@@ -1,16 +1,16 @@
 -- Kinds one by one: their inputs, their shapes, their processes on the inputs that they read, and the news of a set.
 use Rattle.std.proofs.Common.{◌≡◌, ℕ, pos, ◌⊎◌, inl, inr, true, false, IsTrue, IsFalse, List, [], ◌++◌, refl, sym, subst, ◌∙◌, append-nil}
 use Rattle.model_values.specs.Row.{Row}
-use Rattle.model_sets.specs.Rows.{IsAscending, of_rows, join}
+use Rattle.model_sets.specs.Rows.{of_rows, join}
 use Rattle.model_states.specs.Content.{Content}
 use Rattle.model_states.specs.Threshold.{set}
 use Rattle.model_graph.specs.Graph.{Kind, OrSet, GSet, Counter, MaxReg, Union, Product, Intersection, Map, Filter, Fold, is_source, is_set, IsInput}
 use Rattle.model_graph.specs.Evaluation.{least_of, content_at, equation}
 use Rattle.model_graph.specs.Lawful.{shape_of}
 use Rattle.model_sets.specs.Rises.{AreRises}
-use Rattle.model_sets.proofs.RiseLaws.{log-news, rises-news}
+use Rattle.lasp_replica.proofs.RowsLaws.{log-any, rises-any, none-made}
 use Rattle.lasp_graph.specs.Evaluated.{process, derived_shape, number_by}
-use Rattle.lasp_replica.specs.Parts.{first_input, second_input, news_of}
+use Rattle.lasp_replica.specs.Parts.{first_input, second_input, news_of, AreRowsOf}
 
 -- ---- inputs
 
@@ -111,20 +111,23 @@ pub record AreNews (k : Kind) (log : List Row) (news : List Row) (s c : Content)
   pub rises : AreRises [] (log ++ news)
   pub rows : IsTrue (is_set k) → of_rows (log ++ news) ≡ join s.rows c.rows
 
-set-news : (k : Kind) (log : List Row) (s c : Content) → AreRises [] log → of_rows log ≡ s.rows → IsAscending c.rows → AreNews k log (news_of set s c) s c
-set-news k log s c up is asc = record { rises = rises-news log s.rows c.rows asc up is; rows = λ _. log-news log s.rows c.rows is }
+set-news : (k : Kind) (log : List Row) (s c : Content) (news : List Row) → AreRises [] log → of_rows log ≡ s.rows → AreRowsOf (news_of set s c) news → AreNews k log news s c
+set-news k log s c news up is of = record { rises = rises-any log s.rows c.rows news up is of; rows = λ _. log-any log s.rows c.rows news is of }
 
-other-news : (k : Kind) (log : List Row) (s c : Content) → is_set k ≡ false → AreRises [] log → AreNews k log [] s c
-other-news k log s c no_set up = record { rises = subst (AreRises []) (sym (append-nil log)) up; rows = λ set. absurd (let same : true ≡ false = sym set ∙ no_set in cc) }
+other-news : (k : Kind) (log : List Row) (s c : Content) (news : List Row) → is_set k ≡ false → AreRises [] log → AreRowsOf [] news → AreNews k log news s c
+other-news k log s c news no_set up of = record {
+  rises = subst (λ (rows : List Row). AreRises [] (log ++ rows)) (sym (none-made news of)) (subst (AreRises []) (sym (append-nil log)) up);
+  rows = λ set. absurd (let same : true ≡ false = sym set ∙ no_set in cc);
+}
 
-pub news-join : (nodes : ℕ) (k : Kind) (log : List Row) (s c : Content) → AreRises [] log → (IsTrue (is_set k) → of_rows log ≡ s.rows) → IsAscending c.rows → AreNews k log (news_of (shape_of nodes k) s c) s c
-news-join nodes OrSet log s c up is asc = set-news OrSet log s c up (is refl) asc
-news-join nodes GSet log s c up is asc = other-news GSet log s c refl up
-news-join nodes Counter log s c up is asc = other-news Counter log s c refl up
-news-join nodes MaxReg log s c up is asc = other-news MaxReg log s c refl up
-news-join nodes (Union x y) log s c up is asc = set-news (Union x y) log s c up (is refl) asc
-news-join nodes (Product x y) log s c up is asc = set-news (Product x y) log s c up (is refl) asc
-news-join nodes (Intersection x y) log s c up is asc = set-news (Intersection x y) log s c up (is refl) asc
-news-join nodes (Map x place ops) log s c up is asc = set-news (Map x place ops) log s c up (is refl) asc
-news-join nodes (Filter x place ops) log s c up is asc = set-news (Filter x place ops) log s c up (is refl) asc
-news-join nodes (Fold x op place lift) log s c up is asc = other-news (Fold x op place lift) log s c refl up
+pub news-join : (nodes : ℕ) (k : Kind) (log : List Row) (s c : Content) (news : List Row) → AreRises [] log → (IsTrue (is_set k) → of_rows log ≡ s.rows) → AreRowsOf (news_of (shape_of nodes k) s c) news → AreNews k log news s c
+news-join nodes OrSet log s c news up is of = set-news OrSet log s c news up (is refl) of
+news-join nodes GSet log s c news up is of = other-news GSet log s c news refl up of
+news-join nodes Counter log s c news up is of = other-news Counter log s c news refl up of
+news-join nodes MaxReg log s c news up is of = other-news MaxReg log s c news refl up of
+news-join nodes (Union x y) log s c news up is of = set-news (Union x y) log s c news up (is refl) of
+news-join nodes (Product x y) log s c news up is of = set-news (Product x y) log s c news up (is refl) of
+news-join nodes (Intersection x y) log s c news up is of = set-news (Intersection x y) log s c news up (is refl) of
+news-join nodes (Map x place ops) log s c news up is of = set-news (Map x place ops) log s c news up (is refl) of
+news-join nodes (Filter x place ops) log s c news up is of = set-news (Filter x place ops) log s c news up (is refl) of
+news-join nodes (Fold x op place lift) log s c news up is of = other-news (Fold x op place lift) log s c news refl up of

@@ -1,3 +1,4 @@
+pub mod RowsLaws
 pub mod KindLaws
 pub mod PartLaws
 pub mod OneLaws

@@ -5,7 +5,7 @@ use Rattle.model_values.specs.Row.{Row}
 use Rattle.model_sets.specs.Equations.{changed}
 use Rattle.model_states.specs.Content.{Content, join_contents, of_set, size_of, row_limit, IsOrdered, IsContentAtMost}
 use Rattle.model_states.specs.Threshold.{Shape, set}
-use Rattle.lasp_replica.specs.Parts.{news_of}
+use Rattle.lasp_replica.specs.Parts.{news_of, AreRowsOf}
 use Rattle.lasp_replica.proofs.ReadLaws.{news-none}
 use Rattle.lasp_history.specs.Kept.{Kept}
 use Rattle.model_sets.proofs.RiseLaws.{join-news}
@@ -75,7 +75,7 @@ module _ (old : List Held) (x : ℕ) (now : State) (there : slice_get old x ≡ 
   -- the state grew by the new rows
   pub taken-news : (rows : List Row) → rows ≡ news_of (shape_of now) (content_of now) (content_of sent) → (new : List Held) (history : Kept) (size : ℕ) → x < length old → (length rows ≡ 0 → ⊥)
       → size ≡ size_of (join_contents (content_of now) (of_set rows)) → size ≤ row_limit
-      → IsTrue history.prepared → history.pending ≡ rows → new ≡ slice_set old x (grown (held_at old x) (held_of (state.Set rows))) → IsTaken old x (content_of sent) true new history
+      → IsTrue history.prepared → AreRowsOf rows history.pending → new ≡ slice_set old x (grown (held_at old x) (held_of (state.Set rows))) → IsTaken old x (content_of sent) true new history
   taken-news rows news new history size low some is within prepared pending placed = record {
     joined = joined-set old new x (grown (held_at old x) (held_of (state.Set rows))) (content_of sent) low placed refl
         (subst (λ (h : Held). join_contents h.content (of_set rows) ≡ join_contents h.content (content_of sent)) (sym here) (same-join rows news));
@@ -83,7 +83,7 @@ module _ (old : List Held) (x : ℕ) (now : State) (there : slice_get old x ≡ 
       still = λ t. absurd (let both : true ≡ false = t in cc);
       grew = λ t below. some (ap length (new-rows rows news ∙ (news-none (content_of now) (content_of sent) (set-flat sent kind)).1 (subst (λ (h : Held). IsContentAtMost (content_of sent) h.content) here below)));
       prepared = λ t. prepared;
-      pending = λ t. pending ∙ news ∙ ap (λ (h : Held). news_of h.shape h.content (content_of sent)) (sym here);
+      pending = λ t. subst (λ (z : List Row). AreRowsOf z history.pending) (news ∙ ap (λ (h : Held). news_of h.shape h.content (content_of sent)) (sym here)) pending;
     };
     small = subst (λ (n : ℕ). n ≤ row_limit) (size-news rows news size is) within;
   }

@@ -1,15 +1,15 @@
 -- What a replica keeps where an entry changes one variable: an update, or a bind.
 use Rattle.std.proofs.Common.{◌≡◌, ℕ, pos, ◌+◌, ◌≤◌, ◌<◌, ◌⊎◌, inl, inr, true, false, IsTrue, List, [], ◌∷◌, ◌++◌, length, take, slice_set, Option, Some, None, refl, sym, ap, subst, ◌∙◌, arith}
 pub use Rattle.std.proofs.lemmas.Bool.{cases_eq as same-or-apart}
+use Rattle.model_values.specs.Row.{Row}
 use Rattle.model_states.specs.Counts.{count_at}
-use Rattle.model_states.specs.Content.{Content, least, join_contents, IsContentAtMost, IsOrdered}
+use Rattle.model_states.specs.Content.{Content, least, join_contents, IsContentAtMost}
 use Rattle.model_states.specs.Threshold.{Shape, set}
 use Rattle.model_states.specs.Update.{Op, delta}
 use Rattle.model_graph.specs.Graph.{Decl, is_source, kind_at}
 use Rattle.model_graph.specs.Evaluation.{content_at, equation}
 use Rattle.model_graph.specs.Lawful.{IsDerived, shape_of}
 use Rattle.model_graph.proofs.PlaceLaws.{at-set, set-length}
-use Rattle.model_graph.proofs.EquationLaws.{equation-ordered}
 use Rattle.model_journal.specs.Entry.{Update, Bind, Entry, Frame}
 use Rattle.model_journal.specs.Journal.{graph, vals, val, counts}
 use Rattle.model_journal.specs.Clean.{base}
@@ -19,12 +19,11 @@ use Rattle.model_journal.proofs.CleanLaws.{vals-length}
 use Rattle.model_journal.proofs.EntryLaws.{update-vals, update-counts, bind-vals, bind-counts}
 use Rattle.model_core.proofs.PeerLaws.{graph-updated, graph-bound}
 use Rattle.model_core.proofs.BaseLaws.{base-updated, base-bind, base-apart, bind-later, bind-earlier}
-use Rattle.model_core.proofs.ValidLaws.{was-ordered}
 use Rattle.lasp_history.specs.History.{History, grown, no_history, IsHistory}
 use Rattle.lasp_graph.specs.States as states
 use Rattle.lasp_graph.specs.States.{Held, held_at, contents_of}
 use Rattle.lasp_graph.specs.Evaluated.{number_by}
-use Rattle.lasp_replica.specs.Parts.{Base, Parts, IsBase, IsBaseAt, base_at, history_at, news_of, IsKept}
+use Rattle.lasp_replica.specs.Parts.{Base, Parts, IsBase, IsBaseAt, base_at, history_at, news_of, AreRowsOf, IsKept}
 use Rattle.lasp_replica.proofs.PartLaws.{base-stays, history-joined, history-covered, history-alike, states-long, held-val, contents-set, kept-step}
 
 -- a declared variable is declared after the entries
@@ -85,14 +84,15 @@ history-unset histories y x new low apart = at-set (λ (t : History). t ≡ hist
 
 -- the history of what was joined in, in the words of what is kept
 pub kept-joined : (X : Frame) (h : List Entry) (e : Entry) (p : Parts) → IsKept X h p → (x : ℕ) → x < length p.graph → (c : Content) → val X (h ++ e ∷ []) x ≡ join_contents (val X h x) c
-    → IsOrdered c → (IsContentAtMost c (held_at p.states x).content → ⊥)
-    → IsHistory X (h ++ e ∷ []) x (grown (history_at p.histories x) (news_of (held_at p.states x).shape (held_at p.states x).content c) (length h))
-kept-joined X h e p is x low c joined ordered more =
+    → (IsContentAtMost c (held_at p.states x).content → ⊥) → (news : List Row) → AreRowsOf (news_of (held_at p.states x).shape (held_at p.states x).content c) news
+    → IsHistory X (h ++ e ∷ []) x (grown (history_at p.histories x) news (length h))
+kept-joined X h e p is x low c joined more news of =
     let same : (held_at p.states x).content ≡ val X h x = held-val X h p is x in
     let shape : (held_at p.states x).shape ≡ shape_of X.nodes (kind_at (graph X h) x) = is.shapes x low ∙ ap (λ (g : List Decl). shape_of X.nodes (kind_at g x)) is.graph in
-    subst (λ (t : Shape). IsHistory X (h ++ e ∷ []) x (grown (history_at p.histories x) (news_of t (held_at p.states x).content c) (length h))) (sym shape)
-    (subst (λ (s : Content). IsHistory X (h ++ e ∷ []) x (grown (history_at p.histories x) (news_of (shape_of X.nodes (kind_at (graph X h) x)) s c) (length h))) (sym same)
-    (history-joined X h e x (history_at p.histories x) (is.histories x low) (declared-there X h p is x low) c joined ordered (λ below. more (subst (λ (s : Content). IsContentAtMost c s) (sym same) below))))
+    let known : AreRowsOf (news_of (shape_of X.nodes (kind_at (graph X h) x)) (val X h x) c) news =
+    subst (λ (s : Content). AreRowsOf (news_of (shape_of X.nodes (kind_at (graph X h) x)) s c) news) same
+    (subst (λ (t : Shape). AreRowsOf (news_of t (held_at p.states x).content c) news) shape of) in
+    history-joined X h e x (history_at p.histories x) (is.histories x low) (declared-there X h p is x low) c joined (λ below. more (subst (λ (s : Content). IsContentAtMost c s) (sym same) below)) news known
 
 pub kept-covered : (X : Frame) (h : List Entry) → IsLegal X h → (e : Entry) (p : Parts) → IsKept X h p → (x : ℕ) → x < length p.graph → (c : Content) → val X (h ++ e ∷ []) x ≡ join_contents (val X h x) c
     → IsContentAtMost c (held_at p.states x).content → IsHistory X (h ++ e ∷ []) x (history_at p.histories x)
@@ -131,19 +131,20 @@ kept-updated-still X h legal e y op act p is low source d joins covered =
 
 -- an update by which its source grows
 pub kept-updated-grown : (X : Frame) (h : List Entry) → IsLegal X h → (e : Entry) (y : ℕ) (op : Op) → e.act ≡ Update y op → (p : Parts) → IsKept X h p → y < length p.graph → IsTrue (is_source (kind_at p.graph y))
-    → (d : Held) → join_contents (val X h y) d.content ≡ join_contents (val X h y) (delta op (val X h y) X.replica (count_at (counts X h) X.replica + 1)) → IsOrdered d.content → (IsContentAtMost d.content (held_at p.states y).content → ⊥)
+    → (d : Held) → join_contents (val X h y) d.content ≡ join_contents (val X h y) (delta op (val X h y) X.replica (count_at (counts X h) X.replica + 1)) → (IsContentAtMost d.content (held_at p.states y).content → ⊥)
+    → (news : List Row) → AreRowsOf (news_of (held_at p.states y).shape (held_at p.states y).content d.content) news
     → IsKept X (h ++ e ∷ []) (record {
       graph = p.graph;
       counts = slice_set p.counts X.replica (count_at p.counts X.replica + 1);
       states = slice_set p.states y (states.grown (held_at p.states y) d);
-      histories = slice_set p.histories y (grown (history_at p.histories y) (news_of (held_at p.states y).shape (held_at p.states y).content d.content) (length h));
+      histories = slice_set p.histories y (grown (history_at p.histories y) news (length h));
       bases = p.bases;
     })
-kept-updated-grown X h legal e y op act p is low source d joins ordered more =
-    let new : History = grown (history_at p.histories y) (news_of (held_at p.states y).shape (held_at p.states y).content d.content) (length h) in
+kept-updated-grown X h legal e y op act p is low source d joins more news of =
+    let new : History = grown (history_at p.histories y) news (length h) in
     updated X h legal e y op act p is low source d joins (slice_set p.histories y new) (set-length p.histories y new)
     (subst (IsHistory X (h ++ e ∷ []) y) (sym (history-set p.histories y new (omega (arith, low, is.histories_many))))
-    (kept-joined X h e p is y low d.content (updated-own X h legal e y op act p is low d joins) ordered more))
+    (kept-joined X h e p is y low d.content (updated-own X h legal e y op act p is low d joins) more news of))
     (λ x there apart. history-unset p.histories y x new (omega (arith, there, is.histories_many)) apart)
 
 -- ---- binds
@@ -202,17 +203,17 @@ kept-bound-still X h legal e y n act p is derived early within s content shape n
 pub kept-bound-grown : (X : Frame) (h : List Entry) → IsLegal X h → (e : Entry) (y n : ℕ) → e.act ≡ Bind y n → (p : Parts) → IsKept X h p → IsDerived p.graph y → base X h y ≤ n → n ≤ length h
     → (s : Held) → s.content ≡ equation (kind_at p.graph y) (vals X (take n h)) → s.shape ≡ (held_at p.states y).shape → s.number ≡ number_by (kind_at p.graph y) s.content
     → (b : Base) → b.entries ≡ n → IsBase (kind_at p.graph y) (vals X (take n h)) b → (IsContentAtMost s.content (held_at p.states y).content → ⊥)
+    → (news : List Row) → AreRowsOf (news_of (held_at p.states y).shape (held_at p.states y).content s.content) news
     → IsKept X (h ++ e ∷ []) (record {
       graph = p.graph;
       counts = p.counts;
       states = slice_set p.states y s;
-      histories = slice_set p.histories y (grown (history_at p.histories y) (news_of (held_at p.states y).shape (held_at p.states y).content s.content) (length h));
+      histories = slice_set p.histories y (grown (history_at p.histories y) news (length h));
       bases = slice_set p.bases y (Some b);
     })
-kept-bound-grown X h legal e y n act p is derived early within s content shape number b entries basis more =
-    let new : History = grown (history_at p.histories y) (news_of (held_at p.states y).shape (held_at p.states y).content s.content) (length h) in
-    let ordered : IsOrdered s.content = subst IsOrdered (sym content) (equation-ordered (kind_at p.graph y) (vals X (take n h)) (λ x i. was-ordered X h legal n x)) in
+kept-bound-grown X h legal e y n act p is derived early within s content shape number b entries basis more news of =
+    let new : History = grown (history_at p.histories y) news (length h) in
     bound X h legal e y n act p is derived early within s content shape number b entries basis (slice_set p.histories y new) (set-length p.histories y new)
     (subst (IsHistory X (h ++ e ∷ []) y) (sym (history-set p.histories y new (omega (arith, derived.declared, is.histories_many))))
-    (kept-joined X h e p is y derived.declared s.content (bound-own X h legal e y n act p is derived s content) ordered more))
+    (kept-joined X h e p is y derived.declared s.content (bound-own X h legal e y n act p is derived s content) more news of))
     (λ x there apart. history-unset p.histories y x new (omega (arith, there, is.histories_many)) apart)

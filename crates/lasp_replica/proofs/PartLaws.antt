@@ -3,7 +3,7 @@ use Rattle.std.proofs.Common.{◌≡◌, ℕ, pos, zero, suc, ◌<◌, List, [],
 use Rattle.model_values.specs.Row.{Row}
 use Rattle.model_sets.proofs.RowLaws as rows
 use Rattle.model_states.specs.Threshold.{set}
-use Rattle.model_states.specs.Content.{Content, least, join_contents, IsContentAtMost, IsOrdered, at_row}
+use Rattle.model_states.specs.Content.{Content, least, join_contents, IsContentAtMost, at_row}
 use Rattle.model_states.proofs.ContentLaws.{at_most-itself, at_most-chain, at_most-same, join-right, join-least}
 use Rattle.model_graph.specs.Graph.{Decl, Kind, kind_at}
 use Rattle.model_graph.specs.Evaluation.{content_at}
@@ -21,7 +21,7 @@ use Rattle.lasp_history.specs.History.{History, grown, IsHistory}
 use Rattle.lasp_history.proofs.HistoryLaws.{history-rows, history-still, history-grown}
 use Rattle.lasp_graph.specs.States.{Held, held_at, contents_of}
 use Rattle.lasp_graph.specs.Evaluated.{number_by}
-use Rattle.lasp_replica.specs.Parts.{Base, Parts, IsBase, IsBaseAt, base_at, history_at, news_of, IsKept}
+use Rattle.lasp_replica.specs.Parts.{Base, Parts, IsBase, IsBaseAt, base_at, history_at, news_of, AreRowsOf, IsKept}
 use Rattle.lasp_replica.proofs.KindLaws.{AreNews, news-join}
 use Rattle.lasp_graph.proofs.Evaluation.{length-contents}
 
@@ -37,18 +37,12 @@ base-stays X h legal e k y (Some b) same is =
 
 -- after an entry that joined in more
 pub history-joined : (X : Frame) (h : List Entry) (e : Entry) (x : ℕ) (hist : History) → IsHistory X h x hist → x < length (graph X h) → (c : Content) → val X (h ++ e ∷ []) x ≡ join_contents (val X h x) c
-    → IsOrdered c → (IsContentAtMost c (val X h x) → ⊥) → IsHistory X (h ++ e ∷ []) x (grown hist (news_of (shape_of X.nodes (kind_at (graph X h) x)) (val X h x) c) (length h))
-history-joined X h e x hist is low c joined ordered more = history-grown X h x hist is e low
+    → (IsContentAtMost c (val X h x) → ⊥) → (news : List Row) → AreRowsOf (news_of (shape_of X.nodes (kind_at (graph X h) x)) (val X h x) c) news → IsHistory X (h ++ e ∷ []) x (grown hist news (length h))
+history-joined X h e x hist is low c joined more news of = history-grown X h x hist is e low
     (λ below. more (at_most-chain c (join_contents (val X h x) c) (val X h x) (join-right (val X h x) c) (subst (λ (s : Content). IsContentAtMost s (val X h x)) joined below)))
     news (λ set. all.rows set ∙ ap (λ (s : Content). s.rows) (sym joined)) all.rises where
-      k : Kind
-      k = kind_at (graph X h) x
-
-      news : List Row
-      news = news_of (shape_of X.nodes k) (val X h x) c
-
-      all : AreNews k hist.log news (val X h x) c
-      all = news-join X.nodes k hist.log (val X h x) c is.rises (λ set. sym (history-rows X h x hist is set)) ordered.rows
+      all : AreNews (kind_at (graph X h) x) hist.log news (val X h x) c
+      all = news-join X.nodes (kind_at (graph X h) x) hist.log (val X h x) c news is.rises (λ set. sym (history-rows X h x hist is set)) of
 
 -- after an entry that joined in no more
 pub history-covered : (X : Frame) (h : List Entry) → IsLegal X h → (e : Entry) (x : ℕ) (hist : History) → IsHistory X h x hist → x < length (graph X h) → (c : Content) → val X (h ++ e ∷ []) x ≡ join_contents (val X h x) c

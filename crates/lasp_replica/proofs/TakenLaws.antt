@@ -31,7 +31,7 @@ use Rattle.lasp_wire.specs.Sent.{kind_of, held_in}
 use Rattle.lasp_wire.specs.Sent as sent
 use Rattle.lasp_history.specs.History.{History}
 use Rattle.lasp_history.specs.Kept.{Kept}
-use Rattle.lasp_replica.specs.Parts.{news_of}
+use Rattle.lasp_replica.specs.Parts.{news_of, AreRowsOf}
 use Rattle.lasp_replica.specs.declared.refused.DeliverRefused.{DeliverRefused}
 use Rattle.lasp_replica.specs.declared.refused.DeliverRefused.TheVariants as refusal
 use Rattle.lasp_replica.specs.Replica.{told, no_kept, kept_at}
@@ -108,14 +108,14 @@ module _ (old : List Held) (x : ℕ) (now : State) (there : slice_get old x ≡ 
   -- the state grew
   pub taken-grown : (s : State) (new : List Held) (history : Kept) (rows : List Row) (size : ℕ) → x < length old → (IsContentAtMost (content_of s) (content_of now) → ⊥)
       → size ≡ size_of (join_contents (content_of now) (content_of s)) → size ≤ row_limit → rows ≡ news_of (shape now) (content_of now) (content_of s)
-      → IsTrue history.prepared → history.pending ≡ rows → new ≡ slice_set old x (grown (held_at old x) (held_of s)) → IsTaken old x (content_of s) true new history
+      → IsTrue history.prepared → AreRowsOf rows history.pending → new ≡ slice_set old x (grown (held_at old x) (held_of s)) → IsTaken old x (content_of s) true new history
   taken-grown s new history rows size low more is within news prepared pending placed = record {
     joined = joined-set old new x (grown (held_at old x) (held_of s)) (content_of s) low placed refl refl;
     ready = record {
       still = λ t. absurd (let both : true ≡ false = t in cc);
       grew = λ t below. more (subst (λ (h : Held). IsContentAtMost (content_of s) h.content) held-here below);
       prepared = λ t. prepared;
-      pending = λ t. pending ∙ news ∙ ap (λ (h : Held). news_of h.shape h.content (content_of s)) (sym held-here);
+      pending = λ t. subst (λ (z : List Row). AreRowsOf z history.pending) (news ∙ ap (λ (h : Held). news_of h.shape h.content (content_of s)) (sym held-here)) pending;
     };
     small = subst (λ (n : ℕ). n ≤ row_limit) (size-here (content_of s) size is) within;
   }

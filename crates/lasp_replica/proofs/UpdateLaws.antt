@@ -25,7 +25,8 @@ use Rattle.model_journal.specs.Entry.{Frame}
 use Rattle.model_journal.specs.Journal as journal
 use Rattle.model_journal.specs.Journal.{val}
 use Rattle.model_journal.specs.Legal.{IsLegal}
-use Rattle.lasp_replica.specs.Parts.{Parts, IsKept, history_at, news_of}
+use Rattle.lasp_replica.specs.Parts.{Parts, IsKept, history_at, news_of, AreRowsOf}
+use Rattle.lasp_replica.proofs.RowsLaws.{ready-rows}
 use Rattle.lasp_replica.proofs.PartLaws.{held-val}
 use Rattle.lasp_replica.proofs.OneLaws.{kept-updated-still, kept-updated-grown}
 use Rattle.lasp_state.specs.declared.state.State.{State}
@@ -231,7 +232,7 @@ refusal r x o s d fits found joined large size =
 -- what a state joined in leaves, with the memory to write it down
 pub prepared : (x y : ℕ) (old new : Replica) (s t d : State) (covered : Bool) → y ≡ x → held_at old.states x ≡ held_of s → held_at old.states x ≡ held_of t → (IsTrue covered ↔ IsContentAtMost (content_of d) (content_of s))
     → IsReplica old → x < length (arc_value old.graph) → (before after : Kept) → before ≡ get_or old.histories.items x before → after.history ≡ before.history → IsTrue after.prepared
-    → after.pending ≡ news_of (state.shape_of t) (content_of t) (content_of d) → new.histories.items ≡ slice_set old.histories.items x after → arc_value new.graph ≡ arc_value old.graph → new.opening ≡ old.opening → new.me ≡ old.me
+    → AreRowsOf (news_of (state.shape_of t) (content_of t) (content_of d)) after.pending → new.histories.items ≡ slice_set old.histories.items x after → arc_value new.graph ≡ arc_value old.graph → new.opening ≡ old.opening → new.me ≡ old.me
     → new.counts ≡ old.counts → new.processes.items ≡ old.processes.items → new.journal.items ≡ old.journal.items → vec_len new.journal < vec_capacity new.journal
     → new.states ≡ slice_set old.states y (grown (held_at old.states y) (held_of d)) → IsPrepared x (held_of d) (not covered) old new
 prepared x y old new s t d covered place found again order is low before after there same ready pending histories graph opening me counts processes entries room states = record {
@@ -245,7 +246,7 @@ prepared x y old new s t d covered place found again order is low before after t
   states = states ∙ ap (λ (i : ℕ). slice_set old.states i (grown (held_at old.states i) (held_of d))) place;
   histories = ap (λ (hs : List Kept). map told hs) histories ∙ told-set old.histories.items x before after there same;
   ready = ap (λ (h : Kept). h.prepared) own ∙ ready;
-  pending = ap (λ (h : Kept). h.pending) own ∙ pending ∙ sym (ap (λ (h : Held). news_of h.shape h.content (content_of d)) again);
+  pending = ready-rows _ _ _ own (pending.made ∙ sym (ap (λ (h : Held). news_of h.shape h.content (content_of d)) again)) pending.apart;
   grows_is = subst (λ (h : Held). IsFalse (not covered) ↔ IsContentAtMost (content_of d) h.content) (sym found) (flipped covered (IsContentAtMost (content_of d) (content_of s)) order);
 } where
   own : kept_at new.histories.items x ≡ after
@@ -408,11 +409,12 @@ updated old mid new by x entry o d grows is within format gain ready graph openi
       subst (λ (p : Parts). IsKept X h' p) (parts (map told old.histories.items) (told_is ∙ ready.histories))
       (kept-updated-still X h is.legal e x (op_of o) refl (parts_of old) is.kept gain.declared gain.source (held_of d) brought (f.0 refl))
   choose true f told_is =
+      let news = (kept_at mid.histories.items x).pending in
       subst (λ (p : Parts). IsKept X h' p)
-      (parts (slice_set (map told old.histories.items) x (history.grown (history_at (map told old.histories.items) x) (news_of (held_at old.states x).shape (held_at old.states x).content (content_of d)) (length h)))
-      (told_is ∙ (λ i. slice_set (ready.histories i) x (history.grown (own i) (ready.pending i) (here i)))))
-      (kept-updated-grown X h is.legal e x (op_of o) refl (parts_of old) is.kept gain.declared gain.source (held_of d) brought gain.ordered
-      (λ covered. let p : true ≡ false = f.1 covered in cc))
+      (parts (slice_set (map told old.histories.items) x (history.grown (history_at (map told old.histories.items) x) news (length h)))
+      (told_is ∙ (λ i. slice_set (ready.histories i) x (history.grown (own i) news (here i)))))
+      (kept-updated-grown X h is.legal e x (op_of o) refl (parts_of old) is.kept gain.declared gain.source (held_of d) brought
+      (λ covered. let p : true ≡ false = f.1 covered in cc) news ready.pending)
 
   kept' : IsKept X h' (parts_of new)
   kept' = choose grows ready.grows_is histories

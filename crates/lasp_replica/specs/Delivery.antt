@@ -9,7 +9,7 @@ use Rattle.lasp_graph.specs.States.{Held, held_at, contents_of}
 use Rattle.lasp_history.specs.History.{History, grown, AreBelow}
 use Rattle.lasp_history.specs.Kept.{Kept}
 use Rattle.lasp_replica.specs.Replica.{kept_at}
-use Rattle.lasp_replica.specs.Parts.{news_of}
+use Rattle.lasp_replica.specs.Parts.{news_of, AreRowsOf}
 use Rattle.lasp_replica.specs.declared.refused.DeliverRefused.{DeliverRefused}
 use Rattle.lasp_replica.specs.declared.refused.DeliverRefused.TheVariants.{WrongGraph, TooManyRows, Memory}
 
@@ -37,7 +37,7 @@ pub record IsReady (h : Held) (c : Content) (grows : Bool) (history : Kept) : Ty
   pub still : IsFalse grows → IsContentAtMost c h.content
   pub grew : IsTrue grows → IsContentAtMost c h.content → ⊥
   pub prepared : IsTrue grows → IsTrue history.prepared
-  pub pending : IsTrue grows → history.pending ≡ news_of h.shape h.content c
+  pub pending : IsTrue grows → AreRowsOf (news_of h.shape h.content c) history.pending
 
 -- a content was joined into the state at a place, which is within the limit with it, and its history is ready
 pub record IsTaken (old : List Held) (x : ℕ) (c : Content) (grows : Bool) (new : List Held) (history : Kept) : Type 0 where

@@ -11,7 +11,7 @@ use Rattle.lasp_graph.specs.Evaluated.{second_of}
 use Rattle.lasp_graph.specs.declared.inputs.Inputs.{Inputs}
 use Rattle.lasp_history.specs.History.{History, grown}
 use Rattle.lasp_history.specs.Kept.{Kept}
-use Rattle.lasp_replica.specs.Parts.{Base, news_of}
+use Rattle.lasp_replica.specs.Parts.{Base, news_of, AreRowsOf}
 use Rattle.lasp_replica.specs.Replica.{told, kept_at}
 use Rattle.lasp_replica.specs.declared.replica.Replica.{Replica}
 
@@ -52,4 +52,4 @@ pub record HasRoom (y : ℕ) (s : State) (grows : Bool) (r : Replica) : Type 0 w
   pub entry : vec_len r.journal < vec_capacity r.journal
   pub still : IsFalse grows ↔ IsContentAtMost (state.content_of s) (held_at r.states y).content
   pub prepared : IsTrue (kept_at r.histories.items y).prepared
-  pub pending : (kept_at r.histories.items y).pending ≡ news_of (held_at r.states y).shape (held_at r.states y).content (state.content_of s)
+  pub pending : AreRowsOf (news_of (held_at r.states y).shape (held_at r.states y).content (state.content_of s)) (kept_at r.histories.items y).pending

@@ -1,7 +1,9 @@
 -- What a replica keeps beside its journal, as plain data, and when it is what the journal says.
 use Rattle.std.specs.Prelude.{◌≡◌, ℕ, pos, ◌<◌, if◌then◌else◌, Bool, List, [], length, take, slice_index_or, Option, Some, None, IsTrue, IsFalse}
 use Rattle.model_values.specs.Row.{Row}
+use Rattle.model_sets.specs.Rows.{of_rows}
 use Rattle.model_sets.specs.Equations.{changed}
+use Rattle.model_sets.specs.Rises.{AreApart}
 use Rattle.model_states.specs.Content.{Content, least}
 use Rattle.model_states.specs.Threshold.{Shape, set}
 use Rattle.model_graph.specs.Graph.{Kind, Decl, is_source, kind_at}
@@ -79,6 +81,11 @@ fresh_state nodes d = record { shape = shape_of nodes d.kind; content = least_of
 abbrev pub news_of : Shape → Content → Content → List Row
 news_of set s t = changed s.rows t.rows
 news_of _ s t = []
+
+-- rows in any order, each key once, that make these
+pub record AreRowsOf (news rows : List Row) : Type 0 where
+  pub made : of_rows rows ≡ news
+  pub apart : AreApart rows
 
 -- what a replica keeps is what its journal says
 pub record IsKept (X : Frame) (entries : List Entry) (p : Parts) : Type 0 where

@@ -16,7 +16,7 @@ use Rattle.lasp_graph.specs.States.{Held, held_of, held_at, grown, AreJoinable}
 use Rattle.lasp_history.specs.History as history
 use Rattle.lasp_history.specs.History.{History}
 use Rattle.lasp_history.specs.Kept.{Kept}
-use Rattle.lasp_replica.specs.Parts.{news_of}
+use Rattle.lasp_replica.specs.Parts.{news_of, AreRowsOf}
 use Rattle.lasp_replica.specs.Replica.{told, is_for, kept_at}
 use Rattle.lasp_replica.specs.declared.replica.Replica.{Replica}
 
@@ -52,7 +52,7 @@ pub record IsPrepared (x : ℕ) (d : Held) (grows : Bool) (old new : Replica) : 
   pub states : new.states ≡ slice_set old.states x (grown (held_at old.states x) d)
   pub histories : map told new.histories.items ≡ map told old.histories.items
   pub ready : IsTrue (kept_at new.histories.items x).prepared
-  pub pending : (kept_at new.histories.items x).pending ≡ news_of (held_at old.states x).shape (held_at old.states x).content d.content
+  pub pending : AreRowsOf (news_of (held_at old.states x).shape (held_at old.states x).content d.content) (kept_at new.histories.items x).pending
   pub grows_is : IsFalse grows ↔ IsContentAtMost d.content (held_at old.states x).content
 
 -- the histories after variable x grew or not at an entry by the rows that it has made ready

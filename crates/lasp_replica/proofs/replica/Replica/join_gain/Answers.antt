@@ -41,5 +41,5 @@ returns-clause-ok c =
     (state-found c.args.self.now.states c.args.var c.from-x.result (arc_value c.at.result.now) c.deref.result.now c.from-x.ensures c.at.ensures c.deref.ensures)
     (state-found c.args.self.now.states c.args.var c.from-x.result (arc_value c.at-2.result.now) c.deref-2.result.now c.from-x.ensures c.at-2.ensures c.deref-2.ensures)
     c.le-grows.ensures c.requires.replica c.requires.within
-    c.index_mut.result.now c.prepare.new.self c.index_mut.ensures.value c.prepare.ensures.history c.in_ok-prepare.ensures.prepared (c.in_ok-prepare.ensures.pending ∙ c.in_ok-rows.ensures) refl
+    c.index_mut.result.now c.prepare.new.self c.index_mut.ensures.value c.prepare.ensures.history c.in_ok-prepare.ensures.prepared (record { made = c.in_ok-prepare.ensures.pending ∙ c.in_ok-rows.ensures; apart = c.in_ok-prepare.ensures.apart }) refl
     refl refl refl refl refl c.reserve.ensures.items (omega (arith, c.in_ok-reserve.ensures.ok)) c.in_ok-join_at.ensures.ok

@@ -3,6 +3,7 @@ use Rattle.std.proofs.Math.Seq.{map-set_same}
 use Rattle.std.proofs.lemmas.List.{get_or-set_same}
 use Rattle.lasp_history.specs.Kept.{Kept}
 use Rattle.lasp_replica.specs.Replica.{told, no_kept, kept_at}
+use Rattle.lasp_replica.proofs.RowsLaws.{ready-rows}
 use Rattle.lasp_replica.proofs.FinishLaws.{job-derived, history-there}
 use Rattle.lasp_replica.proofs.replica.Replica.ready.Goals as goal
 
@@ -68,5 +69,5 @@ returns-clause-room c =
       entry = omega (arith, c.in_ok-reserve.ensures.ok);
       still = c.in_ok-grows.ensures.still;
       prepared = subst (λ (k : Kept). IsTrue k.prepared) (sym here) c.in_ok-prepare.ensures.prepared;
-      pending = ap (λ (k : Kept). k.pending) here ∙ c.in_ok-prepare.ensures.pending ∙ c.in_ok-grows.ensures.rows_are;
+      pending = ready-rows _ (kept_at (slice_set c.args.self.now.histories.items y c.prepare.new.self) y) c.prepare.new.self here (c.in_ok-prepare.ensures.pending ∙ c.in_ok-grows.ensures.rows_are) c.in_ok-prepare.ensures.apart;
     }

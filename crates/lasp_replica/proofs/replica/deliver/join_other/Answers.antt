@@ -35,4 +35,4 @@ returns-clause-ok c =
     let there : slice_get c.args.states.now c.args.x ≡ Some (held_of c.deref-state.result.now) = c.at.ensures ∙ ap (λ (s : State). Some (held_of s)) (sym c.deref-state.ensures) in
     let size = size_of (join_contents (content_of c.deref-state.result.now) (content_of c.args.sent.now)) in
     taken-grown c.args.states.now c.args.x c.deref-state.result.now there c.args.sent.now c.join_at.new.self c.prepare.new.self c.in_ok-rows.rows size c.requires.within
-    (λ below. let t = c.le.ensures.1 below in absurd (search rules)) refl (leb-true size row_limit (sym c.fits.ensures ∙ c.if-not-fits.false)) c.in_ok-rows.ensures c.in_ok-prepare.ensures.prepared (c.in_ok-prepare.ensures.pending ∙ search rules) c.in_ok-join_at.ensures.ok
+    (λ below. let t = c.le.ensures.1 below in absurd (search rules)) refl (leb-true size row_limit (sym c.fits.ensures ∙ c.if-not-fits.false)) c.in_ok-rows.ensures c.in_ok-prepare.ensures.prepared (record { made = c.in_ok-prepare.ensures.pending ∙ search rules; apart = c.in_ok-prepare.ensures.apart }) c.in_ok-join_at.ensures.ok

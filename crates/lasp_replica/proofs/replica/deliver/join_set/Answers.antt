@@ -29,4 +29,4 @@ returns-clause-ok c =
     let size = size_of (join_contents (content_of c.deref-state.result.now) (of_set c.in_ok-rows.rows)) in
     taken-news c.args.states.now c.args.x c.deref-state.result.now there c.args.sent.now c.requires.joinable.shape c.requires.kind
     c.in_ok-rows.rows c.in_ok-rows.ensures c.join_at.new.self c.prepare.new.self size c.requires.within
-    (λ none. omega (arith, none, c.rows-2.ensures.exact, c.if-rows-eq0.false)) refl (leb-true size row_limit (sym c.fits_with.ensures ∙ c.if-not-fits_with.false)) c.in_ok-prepare.ensures.prepared (c.in_ok-prepare.ensures.pending ∙ search rules) c.in_ok-join_at.ensures.ok
+    (λ none. omega (arith, none, c.rows-2.ensures.exact, c.if-rows-eq0.false)) refl (leb-true size row_limit (sym c.fits_with.ensures ∙ c.if-not-fits_with.false)) c.in_ok-prepare.ensures.prepared (record { made = c.in_ok-prepare.ensures.pending ∙ search rules; apart = c.in_ok-prepare.ensures.apart }) c.in_ok-join_at.ensures.ok
