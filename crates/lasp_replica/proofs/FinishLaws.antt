@@ -177,7 +177,7 @@ news-of-other fold s t apart = refl
 some-counted : (n : ℕ) → 0 < n → IsTrue (nat_lt 0 n)
 some-counted n more = grind (arith, nat_tests)
 
-none-counted : (rows : List Row) (n : ℕ) → n ≡ length rows → IsFalse (nat_lt 0 n) ↔ (rows ≡ [])
+pub none-counted : (rows : List Row) (n : ℕ) → n ≡ length rows → IsFalse (nat_lt 0 n) ↔ (rows ≡ [])
 none-counted [] n e = (λ _. refl, λ _. subst (λ (m : ℕ). IsFalse (nat_lt 0 m)) (sym e) refl)
 none-counted (r ∷ rows) n e = (λ none. let more : IsTrue (nat_lt 0 n) = some-counted n (omega (arith, e)) in cc, λ none. cc)
 

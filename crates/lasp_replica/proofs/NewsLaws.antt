@@ -1,5 +1,5 @@
 -- The new rows of a set alone, joined into a state, make of it what the whole set makes of it.
-use Rattle.std.proofs.Common.{◌≡◌, ℕ, ◌≤◌, ◌<◌, true, false, IsTrue, List, [], ◌∷◌, Some, length, slice_set, refl, sym, ap, subst, ◌∙◌, arith}
+use Rattle.std.proofs.Common.{◌≡◌, ℕ, ◌≤◌, ◌<◌, ◌↔◌, nat_lt, true, false, IsTrue, IsFalse, List, [], ◌∷◌, Some, length, slice_set, refl, sym, ap, subst, ◌∙◌, arith}
 use Rattle.std.specs.Prelude.{slice_get}
 use Rattle.model_values.specs.Row.{Row}
 use Rattle.model_sets.specs.Equations.{changed}
@@ -7,6 +7,7 @@ use Rattle.model_states.specs.Content.{Content, join_contents, of_set, size_of, 
 use Rattle.model_states.specs.Threshold.{Shape, set}
 use Rattle.lasp_replica.specs.Parts.{news_of, AreRowsOf}
 use Rattle.lasp_replica.proofs.ReadLaws.{news-none}
+use Rattle.lasp_replica.proofs.FinishLaws.{none-counted}
 use Rattle.lasp_history.specs.Kept.{Kept}
 use Rattle.model_sets.proofs.RiseLaws.{join-news}
 use Rattle.lasp_state.specs.declared.state.State.{State}
@@ -87,3 +88,16 @@ module _ (old : List Held) (x : ℕ) (now : State) (there : slice_get old x ≡ 
     };
     small = subst (λ (n : ℕ). n ≤ row_limit) (size-news rows news size is) within;
   }
+
+-- of a set there is something new exactly where the other one isn't at most it
+pub news-tell : (s t : State) (rows : List Row) (n : ℕ) → shape_of t ≡ set → shape_of s ≡ shape_of t → rows ≡ news_of (shape_of s) (content_of s) (content_of t) → n ≡ length rows
+    → IsFalse (nat_lt 0 n) ↔ IsContentAtMost (content_of t) (content_of s)
+news-tell s t rows n kind alike news many = (
+  λ still. none.0 (sym brings ∙ (none-counted rows n many).0 still),
+  λ low. (none-counted rows n many).1 (brings ∙ none.1 low),
+) where
+  brings : rows ≡ changed (content_of s).rows (content_of t).rows
+  brings = news ∙ ap (λ (shape : Shape). news_of shape (content_of s) (content_of t)) (alike ∙ kind)
+
+  none : (changed (content_of s).rows (content_of t).rows ≡ []) ↔ IsContentAtMost (content_of t) (content_of s)
+  none = news-none (content_of s) (content_of t) (set-flat t kind)

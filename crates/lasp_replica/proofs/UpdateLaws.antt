@@ -230,12 +230,12 @@ refusal r x o s d fits found joined large size =
       own = at-map (λ (h : Held). h.content) r.states x (record { shape = set; content = least; number = pos 0 }) ∙ ap (λ (h : Held). h.content) found
 
 -- what a state joined in leaves, with the memory to write it down
-pub prepared : (x y : ℕ) (old new : Replica) (s t d : State) (covered : Bool) → y ≡ x → held_at old.states x ≡ held_of s → held_at old.states x ≡ held_of t → (IsTrue covered ↔ IsContentAtMost (content_of d) (content_of s))
+pub prepared : (x y : ℕ) (old new : Replica) (s d : State) (grows : Bool) → y ≡ x → held_at old.states x ≡ held_of s → (IsFalse grows ↔ IsContentAtMost (content_of d) (content_of s))
     → IsReplica old → x < length (arc_value old.graph) → (before after : Kept) → before ≡ get_or old.histories.items x before → after.history ≡ before.history → IsTrue after.prepared
-    → AreRowsOf (news_of (state.shape_of t) (content_of t) (content_of d)) after.pending → new.histories.items ≡ slice_set old.histories.items x after → arc_value new.graph ≡ arc_value old.graph → new.opening ≡ old.opening → new.me ≡ old.me
+    → AreRowsOf (news_of (state.shape_of s) (content_of s) (content_of d)) after.pending → new.histories.items ≡ slice_set old.histories.items x after → arc_value new.graph ≡ arc_value old.graph → new.opening ≡ old.opening → new.me ≡ old.me
     → new.counts ≡ old.counts → new.processes.items ≡ old.processes.items → new.journal.items ≡ old.journal.items → vec_len new.journal < vec_capacity new.journal
-    → new.states ≡ slice_set old.states y (grown (held_at old.states y) (held_of d)) → IsPrepared x (held_of d) (not covered) old new
-prepared x y old new s t d covered place found again order is low before after there same ready pending histories graph opening me counts processes entries room states = record {
+    → new.states ≡ slice_set old.states y (grown (held_at old.states y) (held_of d)) → IsPrepared x (held_of d) grows old new
+prepared x y old new s d grows place found order is low before after there same ready pending histories graph opening me counts processes entries room states = record {
   graph = graph;
   opening = opening;
   me = me;
@@ -246,8 +246,8 @@ prepared x y old new s t d covered place found again order is low before after t
   states = states ∙ ap (λ (i : ℕ). slice_set old.states i (grown (held_at old.states i) (held_of d))) place;
   histories = ap (λ (hs : List Kept). map told hs) histories ∙ told-set old.histories.items x before after there same;
   ready = ap (λ (h : Kept). h.prepared) own ∙ ready;
-  pending = ready-rows _ _ _ own (pending.made ∙ sym (ap (λ (h : Held). news_of h.shape h.content (content_of d)) again)) pending.apart;
-  grows_is = subst (λ (h : Held). IsFalse (not covered) ↔ IsContentAtMost (content_of d) h.content) (sym found) (flipped covered (IsContentAtMost (content_of d) (content_of s)) order);
+  pending = ready-rows _ (kept_at new.histories.items x) after own (pending.made ∙ sym (ap (λ (h : Held). news_of h.shape h.content (content_of d)) found)) pending.apart;
+  grows_is = subst (λ (h : Held). IsFalse grows ↔ IsContentAtMost (content_of d) h.content) (sym found) order;
 } where
   own : kept_at new.histories.items x ≡ after
   own = ap (λ (hs : List Kept). kept_at hs x) histories ∙ kept-set old.histories.items x after (history-there old is x low)

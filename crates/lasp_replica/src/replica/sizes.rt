@@ -1,7 +1,7 @@
 //! How large a join would be, and what it would change, before it is made.
 
-ghost use Rattle.std.specs.Prelude.{◌≡◌, ◌+◌, ◌↔◌, IfOk, IsTrue, length, nat_le};
-ghost use Rattle.lasp_replica.specs.Prelude.{join_contents, of_set, size_of, row_limit, content_of, news_of, set};
+ghost use Rattle.std.specs.Prelude.{◌≡◌, ◌+◌, ◌↔◌, IfOk, IsTrue, IsFalse, length, nat_le};
+ghost use Rattle.lasp_replica.specs.Prelude.{join_contents, of_set, size_of, row_limit, IsContentAtMost, content_of, news_of, set};
 ghost use Rattle.lasp_state.specs.State.{shape_of};
 
 use super::MOST_ROWS;
@@ -93,4 +93,17 @@ fn new_part(alloc: Global, s: &State, change: State) -> Result<State, AllocError
     }
     let rows = news(alloc, s, &change)?;
     Ok(State::Set(rows))
+}
+
+/// Whether a state grows by another one, of which these rows are the news. Of a set it costs nothing, of others what `State::le` does.
+pub(super) fn grows_by(s: &State, t: &State, rows: &OrSet) -> bool
+    requires shape { shape_of s.now ≡ shape_of t.now }
+    requires rows { rows.now ≡ news_of (shape_of s.now) (content_of s.now) (content_of t.now) }
+    ensures { IsFalse result ↔ IsContentAtMost (content_of t.now) (content_of s.now) }
+{
+    let is_new = rows.rows() > 0;
+    if is_set(t) {
+        return is_new;
+    }
+    !t.le(s)
 }

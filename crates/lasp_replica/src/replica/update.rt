@@ -7,7 +7,7 @@ ghost use Rattle.model_graph.specs.Lawful.{shape_of};
 ghost use Rattle.model_journal.specs.Entry as model;
 ghost use Rattle.lasp_state.specs.State as state;
 
-use super::sizes::{brought, fits, news};
+use super::sizes::{brought, fits, grows_by, news};
 use super::{MOST_UPDATES, Replica};
 use crate::entry::{Act, Entry};
 use crate::refused::UpdateRefused;
@@ -142,8 +142,9 @@ impl Replica {
     {
         let alloc = self.allocator();
         let x = u64::from(var);
-        let grows = !delta.le(self.states.at(x));
-        let rows = news(alloc, self.states.at(x), delta)?;
+        let state: &State = self.states.at(x);
+        let rows = news(alloc, state, delta)?;
+        let grows = grows_by(state, delta, &rows);
         self.histories[var as usize].prepare(&rows)?;
         self.journal.reserve(1)?;
         self.states.join_at(alloc, x, delta)?;

@@ -9,17 +9,14 @@ use Rattle.lasp_replica.proofs.TakenLaws.{told-set}
 pub at-requires : goal.at-requires
 at-requires c = states-at c.args.self.now c.requires.replica c.args.var c.from-x.result c.from-x.ensures c.requires.within
 
-pub le-grows-requires : goal.le-grows-requires
-le-grows-requires c =
-    sym c.requires.joinable.shape
-    ∙ ap (λ (h : Held). h.shape) (state-found c.args.self.now.states c.args.var c.from-x.result (arc_value c.at.result.now) c.deref.result.now c.from-x.ensures c.at.ensures c.deref.ensures)
-
-pub at-requires-2 : goal.at-requires-2
-at-requires-2 c = states-at c.args.self.now c.requires.replica c.args.var c.from-x.result c.from-x.ensures c.requires.within
-
 pub news-requires : goal.news-requires
 news-requires c =
-    sym (ap (λ (h : Held). h.shape) (state-found c.args.self.now.states c.args.var c.from-x.result (arc_value c.at-2.result.now) c.deref-2.result.now c.from-x.ensures c.at-2.ensures c.deref-2.ensures))
+    sym (ap (λ (h : Held). h.shape) (state-found c.args.self.now.states c.args.var c.from-x.result (arc_value c.at.result.now) c.deref-state.result.now c.from-x.ensures c.at.ensures c.deref-state.ensures))
+    ∙ c.requires.joinable.shape
+
+pub grows_by-grows-requires-clause-shape : goal.grows_by-grows-requires-clause-shape
+grows_by-grows-requires-clause-shape c =
+    sym (ap (λ (h : Held). h.shape) (state-found c.args.self.now.states c.args.var c.from-x.result (arc_value c.at.result.now) c.deref-state.result.now c.from-x.ensures c.at.ensures c.deref-state.ensures))
     ∙ c.requires.joinable.shape
 
 pub returns-in_err-reserve-clause-err : goal.returns-in_err-reserve-clause-err
@@ -37,9 +34,8 @@ returns-in_err-join_at-clause-err c =
 
 pub returns-clause-ok : goal.returns-clause-ok
 returns-clause-ok c =
-    prepared c.args.var c.from-x.result c.args.self.now _ c.deref.result.now c.deref-2.result.now c.args.delta.now c.le-grows.result c.from-x.ensures
-    (state-found c.args.self.now.states c.args.var c.from-x.result (arc_value c.at.result.now) c.deref.result.now c.from-x.ensures c.at.ensures c.deref.ensures)
-    (state-found c.args.self.now.states c.args.var c.from-x.result (arc_value c.at-2.result.now) c.deref-2.result.now c.from-x.ensures c.at-2.ensures c.deref-2.ensures)
-    c.le-grows.ensures c.requires.replica c.requires.within
+    prepared c.args.var c.from-x.result c.args.self.now _ c.deref-state.result.now c.args.delta.now c.grows_by-grows.result c.from-x.ensures
+    (state-found c.args.self.now.states c.args.var c.from-x.result (arc_value c.at.result.now) c.deref-state.result.now c.from-x.ensures c.at.ensures c.deref-state.ensures)
+    c.grows_by-grows.ensures c.requires.replica c.requires.within
     c.index_mut.result.now c.prepare.new.self c.index_mut.ensures.value c.prepare.ensures.history c.in_ok-prepare.ensures.prepared (record { made = c.in_ok-prepare.ensures.pending ∙ c.in_ok-rows.ensures; apart = c.in_ok-prepare.ensures.apart }) refl
     refl refl refl refl refl c.reserve.ensures.items (omega (arith, c.in_ok-reserve.ensures.ok)) c.in_ok-join_at.ensures.ok
