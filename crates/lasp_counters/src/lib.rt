@@ -12,4 +12,5 @@ mod register;
 pub use counter::{COUNT_MAX, GCount};
 pub use elements::Elements;
 pub use gset::GSet;
+pub use raise::are_at_most;
 pub use register::MaxReg;

@@ -20,7 +20,7 @@ pub(crate) fn raise(counts: &mut [u64], others: &[u64]) -> bool
 }
 
 /// Whether no count is larger than the other one.
-pub(crate) fn are_at_most(counts: &[u64], others: &[u64]) -> bool
+pub fn are_at_most(counts: &[u64], others: &[u64]) -> bool
     requires { HaveSameNodes counts.now others.now }
     ensures { IsTrue result ↔ AreAtMost counts.now others.now }
 {

@@ -1,7 +1,6 @@
 //! The delta between two messages.
 
 ghost use Rattle.std.specs.Prelude.{◌≡◌, ◌<◌, ◌↔◌, IfOk, IsTrue, Some, length, slice_get};
-ghost use Rattle.model_states.specs.Counts.{AreCountsAtMost};
 ghost use Rattle.model_states.specs.Content.{IsContentAtMost};
 ghost use Rattle.model_messages.specs.Message.{Sent};
 ghost use Rattle.model_deltas.specs.Delta.{changed_sources, delta_of, carried};
@@ -73,21 +72,8 @@ pub fn is_before(before: &Message, after: &Message) -> bool
     ensures { IsTrue result ↔ IsBefore before.now after.now }
 {
     before.counts().len() == after.counts().len()
-        && are_at_most(before.counts(), after.counts())
+        && before.counts().is_at_most(after.counts())
         && are_sources_before(before, after)
-}
-
-/// Whether no count is above the other one.
-fn are_at_most(counts: &Counts, others: &Counts) -> bool
-    requires { length counts.now ≡ length others.now }
-    ensures { IsTrue result ↔ AreCountsAtMost counts.now others.now }
-{
-    for i in 0..counts.len() {
-        if counts.at(i) > others.at(i) {
-            return false;
-        }
-    }
-    true
 }
 
 /// Whether the sources of the first message are the first of the second one's, and hold no more there.

@@ -1,7 +1,9 @@
 //! How many updates of each replica a message knows.
 
-ghost use Rattle.std.specs.Prelude.{◌≡◌, ◌<◌, ◌++◌, ◌∷◌, [], Some, IfOk, OnOk, OnErr, length, slice_get, slice_set};
+ghost use Rattle.std.specs.Prelude.{◌≡◌, ◌<◌, ◌↔◌, ◌++◌, ◌∷◌, [], IsTrue, Some, IfOk, OnOk, OnErr, length, slice_get, slice_set};
+ghost use Rattle.model_states.specs.Counts.{AreCountsAtMost};
 
+use lasp_counters::are_at_most;
 use std::alloc::{AllocError, Global};
 use std::marker::Model;
 
@@ -82,5 +84,13 @@ impl Counts {
         ensures { result.now ≡ self.now }
     {
         self.items.as_slice()
+    }
+
+    /// Whether no count is above the other one.
+    pub fn is_at_most(&self, others: &Counts) -> bool
+        requires { length self.now ≡ length others.now }
+        ensures { IsTrue result ↔ AreCountsAtMost self.now others.now }
+    {
+        are_at_most(self.items.as_slice(), others.items.as_slice())
     }
 }
