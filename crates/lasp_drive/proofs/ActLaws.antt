@@ -82,10 +82,6 @@ stops-still c d a why nodes same h = record { halts = halts-one c (run_of d) a w
 pub stops-at : (c p : ℕ) (d : DriverView) (a : Act) (why : Halt) (n new : NodeView) → slice_get d.nodes p ≡ Some n → new.calls ≡ n.calls → Halts (act c (run_of d) a) why → StopsWithin c d (a ∷ []) why (slice_set d.nodes p new)
 stops-at c p d a why n new at same h = stops-still c d a why (slice_set d.nodes p new) (same-set (λ (n : NodeView). n.calls) d.nodes p n new at same) h
 
--- memory was wanting behind a node that was asked
-pub stops-asked : (c p : ℕ) (d : DriverView) (all : List Act) (n new : NodeView) → slice_get d.nodes p ≡ Some n → new.calls ≡ n.calls → StopsWithin c d all halt.Memory (slice_set d.nodes p new)
-stops-asked c p d all n new at same = record { halts = tt; calls = within-none d.nodes (slice_set d.nodes p new) (λ q. calls_of_acts c (run_of d) q all) (same-set (λ (n : NodeView). n.calls) d.nodes p n new at same) }
-
 -- memory was wanting, and no node was called
 pub stops-early : (c : ℕ) (d : DriverView) (all : List Act) → StopsWithin c d all halt.Memory d.nodes
 stops-early c d all = record { halts = tt; calls = within-none d.nodes d.nodes (λ q. calls_of_acts c (run_of d) q all) refl }

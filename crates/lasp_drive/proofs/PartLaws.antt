@@ -1,20 +1,18 @@
 -- What stands for a message that a node needn't look at.
-use Rattle.std.proofs.Common.{◌≡◌, ℕ, ◌<◌, IsTrue, List, [], length, Ok, refl, sym, ap, subst, ◌∙◌}
+use Rattle.std.proofs.Common.{◌≡◌, ℕ, ◌<◌, List, [], length, refl, sym, ap, subst, ◌∙◌}
 use Rattle.model_states.specs.Counts.{AreCountsAtMost}
-use Rattle.model_states.specs.Content.{Content, join_contents, IsOrdered}
+use Rattle.model_states.specs.Content.{join_contents, IsOrdered}
 use Rattle.model_states.proofs.ContentLaws.{join-nothing}
-use Rattle.model_graph.specs.Graph.{is_source, kind_at}
 use Rattle.model_graph.specs.Evaluation.{content_at}
 use Rattle.model_graph.specs.Lawful.{sources_among}
 use Rattle.model_messages.specs.Message.{Message, Sent, source_number, sent_at}
 use Rattle.model_world.specs.Lawful.{Stage}
-use Rattle.model_world.specs.World.{Run, peer_at, sent_number, each}
+use Rattle.model_world.specs.World.{Run, peer_at, sent_number}
 use Rattle.model_known.proofs.VariableLaws.{known-ordered}
 use Rattle.model_known.proofs.KnowsLaws.{known-covered}
 use Rattle.model_runs.specs.Sound.{IsSound}
 use Rattle.model_runs.specs.Part.{IsBeginning, BringsAsMuch}
-use Rattle.lasp_drive.specs.Driver.{DriverView, run_of, IsRunKnown}
-use Rattle.lasp_drive.specs.Acts.{Acted}
+use Rattle.lasp_drive.specs.Driver.{IsRunKnown}
 
 -- a message without sources, where all counts of the message are counted
 pub brings-nothing : (many : ℕ) (run : Run) → IsRunKnown many run → (p i : ℕ) → p < many → AreCountsAtMost (sent_number run.sent i).counts (peer_at run.peers p).counts
@@ -27,12 +25,6 @@ brings-nothing many run k p i member counted nothing none wide = record {
       ∙ join-nothing (content_at (peer_at run.peers p).contents x) (subst IsOrdered (sym ((k.1.holds p member).knows x low)) (known-ordered run.graph many k.0 (peer_at run.peers p).counts x))
       ∙ sym (known-covered many run.graph run.peers run.sent k.0 k.1 p i x member low source counted);
 }
-
--- a driver that was only asked has come to the same run
-pub run-asked : (c : ℕ) (d e : DriverView) → Acted c c d [] e → run_of d ≡ run_of e
-run-asked c d e asked = of (run_of d) (run_of e) asked.run where
-  of : (x y : Run) → each c x [] ≡ Ok y → x ≡ y
-  of x y h = cc
 
 -- a message of a run has a count for each node
 pub counted-wide : (many c i p : ℕ) (s : Stage) (run : Run) → IsSound many c s run → i < length run.sent → p < many → length (sent_number run.sent i).counts ≡ length (peer_at run.peers p).counts

@@ -1,6 +1,7 @@
 -- The words that the contracts of a node are written in.
 pub use Rattle.std.specs.Arc.{arc_value}
 pub use Rattle.model_graph.specs.Graph.{Decl, is_source, kind_at}
+pub use Rattle.model_states.specs.Counts.{AreCountsAtMost}
 pub use Rattle.model_states.specs.Threshold.{meets}
 pub use Rattle.model_graph.specs.Evaluation.{content_at, first_large}
 pub use Rattle.model_world.specs.World.{updated, delivered, shown_at, message_at}

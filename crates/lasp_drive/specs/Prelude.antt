@@ -1,7 +1,6 @@
 -- The words that the contracts of acts, commands and reports are written in.
 pub use Rattle.std.specs.List.{range_with_len}
 pub use Rattle.std.specs.Arc.{arc_value}
-pub use Rattle.model_states.specs.Counts.{AreCountsAtMost}
 pub use Rattle.model_states.specs.Threshold.{meets}
 pub use Rattle.model_graph.specs.Graph.{kind_at}
 pub use Rattle.model_graph.specs.Evaluation.{content_at}

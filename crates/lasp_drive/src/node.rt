@@ -1,7 +1,7 @@
 //! What the driver asks of one node, whatever engine keeps its states.
 
 ghost use Rattle.std.specs.Prelude.{◌≡◌, ◌<◌, ◌≤◌, ◌++◌, ◌∷◌, [], ℕ, IfOk, OnOk, OnErr, IsTrue, length};
-ghost use Rattle.lasp_drive.specs.NodePrelude.{arc_value, Decl, is_source, kind_at, meets, content_at, first_large, updated, delivered, shown_at, message_at, FitsAll, Read, IsSentTo, BringsAsMuch, IsMessage, op_of, threshold_of, library_of, NodeView, IsFresh, ShowsNoMore, HoldsLittle, IsSettled, MayUpdate, MayRead, Updates, Delivers, Settles, Learns, LearnsAnd, OnlyLearns, TakesIn, Extends, OnlyGrew, Holds, Shows, Polls, IsNextRead, opens_next, closes_one, looks_once};
+ghost use Rattle.lasp_drive.specs.NodePrelude.{arc_value, AreCountsAtMost, Decl, is_source, kind_at, meets, content_at, first_large, updated, delivered, shown_at, message_at, FitsAll, Read, IsSentTo, BringsAsMuch, IsMessage, op_of, threshold_of, library_of, NodeView, IsFresh, ShowsNoMore, HoldsLittle, IsSettled, MayUpdate, MayRead, Updates, Delivers, Settles, Learns, LearnsAnd, OnlyLearns, TakesIn, Extends, OnlyGrew, Holds, Shows, Polls, IsNextRead, opens_next, closes_one, looks_once};
 ghost use Rattle.model_journal.specs.Entry as model;
 
 use lasp_fns::Library;
@@ -155,6 +155,11 @@ pub trait Node: Drop + Sized {
         ensures counts { IfOk result (λ counts. counts ≡ (view self.old).peer.counts) }
         ensures learns { OnlyLearns (view self.old) (view self.new) }
         ensures place { place self.new ≡ place self.old };
+
+    /// Whether it counts all that these counts do: then a message of these counts brings it no update. It takes no memory and waits for nobody, and `false` tells nothing.
+    fn has_counted(&self, counts: &Counts) -> bool
+        requires { length counts.now ≡ length (view self.now).peer.counts }
+        ensures { IsTrue result → AreCountsAtMost counts.now (view self.now).peer.counts };
 }
 
 /// A node that needs nothing but its graph to begin with.

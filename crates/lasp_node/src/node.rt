@@ -135,6 +135,10 @@ impl Node for CoreNode {
         self.core.recall();
         Counts::from_slice(alloc, self.core.counts().as_slice())
     }
+
+    fn has_counted(&self, counts: &Counts) -> bool {
+        counts.is_at_most(self.core.counts())
+    }
 }
 
 impl FreshNode for CoreNode {

@@ -259,4 +259,9 @@ impl<R: Wait + RandomSource + AllocGlobal> Node for StoreNode<'_, R> {
         let message = self.sent(alloc)?;
         Counts::from_slice(alloc, message.counts().as_slice())
     }
+
+    // it looks at whole messages, so there is nothing to tell yet
+    fn has_counted(&self, _counts: &Counts) -> bool {
+        false
+    }
 }

@@ -1,7 +1,7 @@
 //! Messages: a node sends, and a node takes what was sent.
 
-ghost use Rattle.std.specs.Prelude.{◌≡◌, ◌<◌, ◌↔◌, ◌∷◌, [], IsTrue, IfOk, Some, length, map, slice_get};
-ghost use Rattle.lasp_drive.specs.Prelude.{arc_value, AreCountsAtMost, peer_at, peers_of, BringsAsMuch, Post, Take, IsReady, MayAct, Passes};
+ghost use Rattle.std.specs.Prelude.{◌≡◌, ◌∷◌, [], IfOk, Some, map, slice_get};
+ghost use Rattle.lasp_drive.specs.Prelude.{arc_value, peer_at, peers_of, BringsAsMuch, Post, Take, MayAct, Passes};
 
 use crate::driver::Driver;
 use crate::halt::Halt;
@@ -49,71 +49,18 @@ impl<N: Node> Driver<N> {
         }
     }
 
-    /// How many updates of each replica node p knows.
-    fn counts_at(&mut self, alloc: Global, c: u32, p: u8) -> Result<Counts, Halt>
-        requires ready { IsReady N.view N.read c self.old }
-        requires node { p < length self.old.nodes.items }
-        ensures counts { IfOk result (λ counts. counts ≡ (peer_at (peers_of (map N.view self.old.nodes.items)) p).counts) }
-        ensures asked { Passes N.view N.read N.place c self.old [] result self.new }
-    {
-        let counts = self.nodes[p as usize].counts(alloc)?;
-        Ok(counts)
-    }
-
-    /// Node p, which knows so many updates of each replica, takes message i.
-    fn take_by(
-        &mut self,
-        alloc: Global,
-        c: u32,
-        p: u8,
-        i: u32,
-        message: &Arc<Message>,
-        known: &Counts,
-    ) -> Result<(), Halt>
-        requires may { MayAct N.view N.read c self.old (Take p i) }
-        requires message { slice_get self.old.network.sent i ≡ Some (arc_value message.now) }
-        requires known { known.now ≡ (peer_at (peers_of (map N.view self.old.nodes.items)) p).counts }
-        ensures { Passes N.view N.read N.place c self.old (Take p i ∷ []) result self.new }
-    {
-        if is_counted(message, known) {
-            let nothing = without_sources(alloc, message)?;
-            return self.hand(alloc, c, p, i, message, &nothing);
-        }
-        self.hand(alloc, c, p, i, message, message)
-    }
-
-    /// Node p takes message i. It costs the message's rows, or nothing but its counts where the node has counted them all.
+    /// Node p takes message i. Where the node counts all that the message does, a message without sources goes along, so that an engine may look at that alone.
     pub fn take(&mut self, alloc: Global, c: u32, p: u8, i: u32) -> Result<(), Halt>
         requires { MayAct N.view N.read c self.old (Take p i) }
         ensures { Passes N.view N.read N.place c self.old (Take p i ∷ []) result self.new }
     {
         let message = self.network.receive(i)?;
-        match self.counts_at(alloc, c, p) {
-            Ok(known) => self.take_by(alloc, c, p, i, &message, &known),
-            Err(halt) => Err(halt),
+        if self.nodes[p as usize].has_counted(message.counts()) {
+            let nothing = without_sources(alloc, &message)?;
+            return self.hand(alloc, c, p, i, &message, &nothing);
         }
+        self.hand(alloc, c, p, i, &message, &message)
     }
-}
-
-/// Whether no count is above the other one.
-fn are_counted(counts: &[u64], known: &[u64]) -> bool
-    requires { length counts.now ≡ length known.now }
-    ensures { IsTrue result ↔ AreCountsAtMost counts.now known.now }
-{
-    for q in 0..counts.len() {
-        if known[q] < counts[q] {
-            return false;
-        }
-    }
-    true
-}
-
-/// Whether a message brings no update that isn't known.
-fn is_counted(message: &Message, known: &Counts) -> bool
-    requires { length message.now.counts ≡ length known.now }
-    ensures { IsTrue result ↔ AreCountsAtMost message.now.counts known.now }
-{
-    are_counted(message.counts().as_slice(), known.as_slice())
 }
 
 /// A message of the same counts without a source.

@@ -1,14 +1,16 @@
-use Rattle.std.proofs.Common.{◌≡◌, ◌<◌, ◌∷◌, [], List, ℕ, length, sym, ap, subst, ◌∙◌, refl}
-use Rattle.std.specs.Prelude.{Some, slice_get}
-use Rattle.std.specs.Arc.{arc_value}
+use Rattle.std.proofs.Common.{◌≡◌, ◌∷◌, [], List, ℕ, length, sym, ap, subst, ◌∙◌, refl}
 use Rattle.std.proofs.lemmas.Result.{err_from_is_err_and}
+use Rattle.std.specs.Arc.{arc_value}
+use Rattle.model_states.specs.Counts.{AreCountsAtMost}
 use Rattle.model_messages.specs.Message.{Message}
-use Rattle.model_world.specs.World.{Peer, Run, Take, peer_at}
+use Rattle.model_world.specs.World.{Peer, Take, peer_at, sent_number}
+use Rattle.model_runs.specs.Part.{BringsAsMuch}
+use Rattle.model_runs.proofs.PartLaws.{brings-itself}
 use Rattle.lasp_drive.specs.Nodes.{peers_of}
-use Rattle.lasp_drive.specs.Driver.{seen}
-use Rattle.lasp_drive.proofs.NodeLaws.{seen-low}
-use Rattle.lasp_drive.proofs.ActLaws.{stops-early, stops-before, acts-then, ok-then}
-use Rattle.lasp_drive.proofs.PartLaws.{run-asked}
+use Rattle.lasp_drive.specs.Driver.{seen, run_of, stage_of}
+use Rattle.lasp_drive.proofs.NodeLaws.{seen-at, seen-low, peer-here, sent-read}
+use Rattle.lasp_drive.proofs.ActLaws.{stops-early}
+use Rattle.lasp_drive.proofs.PartLaws.{brings-nothing, counted-wide}
 use Rattle.lasp_drive.proofs.driver.Driver.take.Goals as goal
 
 pub returns-in_err-message : goal.returns-in_err-message
@@ -16,48 +18,42 @@ returns-in_err-message g c =
     let p = err_from_is_err_and c.from_residual.result c.from_residual.ensures.1 in
     rw (p.1, p.2) (record { acts = stops-early c.args.c (seen g.N.Node.view g.N.Node.read c.args.self.now) (Take c.args.p c.args.i ∷ []); reads = tt; in_place = refl })
 
-pub counts_at-requires-clause-node : goal.counts_at-requires-clause-node
-counts_at-requires-clause-node g c = seen-low g.N.Node.view c.args.self.now.nodes.items c.args.p c.requires.lawful.0
-
-pub take_by-requires-clause-may : goal.take_by-requires-clause-may
-take_by-requires-clause-may g c =
+pub has_counted-requires : goal.has_counted-requires
+has_counted-requires g c =
     let d = seen g.N.Node.view g.N.Node.read c.args.self.now in
-    let e = seen g.N.Node.view g.N.Node.read c.counts_at.new.self in
-    let same = run-asked c.args.c d e c.in-Ok.ensures.asked.acts in
-    record {
-      ready = c.in-Ok.ensures.asked.acts.ready;
-      lawful = (subst (λ (n : ℕ). c.args.p < n) (sym c.in-Ok.ensures.asked.acts.size) c.requires.lawful.0, subst (λ (ms : List Message). c.args.i < length ms) (ap (λ (run : Run). run.sent) same) c.requires.lawful.1);
-    }
+    let nodes = c.args.self.now.nodes.items in
+    let n = g.N.Node.view c.index.result.now in
+    let at = seen-at g.N.Node.view nodes c.args.p c.index.result.now (seen-low g.N.Node.view nodes c.args.p c.requires.lawful.0) c.index.ensures in
+    let is = sent-read d.sent c.args.i (arc_value c.in_ok-message.message) c.in_ok-message.ensures.message in
+    ap (λ (ns : List ℕ). length ns) c.counts.ensures
+    ∙ ap (λ (m : Message). length m.counts) (c.deref.ensures ∙ is)
+    ∙ counted-wide (length d.nodes) c.args.c c.args.i c.args.p (stage_of d) (run_of d) c.requires.ready.sound c.requires.lawful.1 c.requires.lawful.0
+    ∙ ap (λ (r : Peer). length r.counts) (peer-here d.nodes c.args.p n at)
 
-pub take_by-requires-clause-message : goal.take_by-requires-clause-message
-take_by-requires-clause-message g c =
+pub hand-requires-clause-part : goal.hand-requires-clause-part
+hand-requires-clause-part g c =
     let d = seen g.N.Node.view g.N.Node.read c.args.self.now in
-    let e = seen g.N.Node.view g.N.Node.read c.counts_at.new.self in
-    subst (λ (ms : List Message). slice_get ms c.args.i ≡ Some (arc_value c.in_ok-message.message)) (ap (λ (run : Run). run.sent) (run-asked c.args.c d e c.in-Ok.ensures.asked.acts)) c.in_ok-message.ensures.message
+    let nodes = c.args.self.now.nodes.items in
+    let n = g.N.Node.view c.index.result.now in
+    let m = arc_value c.in_ok-message.message in
+    let at = seen-at g.N.Node.view nodes c.args.p c.index.result.now (seen-low g.N.Node.view nodes c.args.p c.requires.lawful.0) c.index.ensures in
+    let is : m ≡ sent_number d.sent c.args.i = sent-read d.sent c.args.i m c.in_ok-message.ensures.message in
+    let nothing = c.in_ok-nothing.nothing in
+    let bare : nothing ≡ record { counts = m.counts; sources = [] } = c.in_ok-nothing.ensures ∙ ap (λ (k : Message). record { counts = k.counts; sources = [] }) c.deref-then-has_counted.ensures in
+    let counted : AreCountsAtMost (sent_number d.sent c.args.i).counts (peer_at (peers_of d.nodes) c.args.p).counts =
+    subst (λ (r : Peer). AreCountsAtMost (sent_number d.sent c.args.i).counts r.counts) (sym (peer-here d.nodes c.args.p n at))
+    (subst (λ (ns : List ℕ). AreCountsAtMost ns n.peer.counts) (c.counts.ensures ∙ ap (λ (k : Message). k.counts) (c.deref.ensures ∙ is)) (c.has_counted.ensures c.if-has_counted.true)) in
+    subst (λ (k : Message). BringsAsMuch d.graph (peer_at (peers_of d.nodes) c.args.p).contents k nothing) (sym is)
+    (brings-nothing (length d.nodes) (run_of d) c.requires.ready.known c.args.p c.args.i c.requires.lawful.0 counted nothing (ap (λ (k : Message). k.sources) bare) (ap (λ (k : Message). length k.counts) (bare ∙ ap (λ (k : Message). record { counts = k.counts; sources = [] }) is)))
 
-pub take_by-requires-clause-known : goal.take_by-requires-clause-known
-take_by-requires-clause-known g c =
+pub hand-requires-2-clause-part : goal.hand-requires-2-clause-part
+hand-requires-2-clause-part g c =
     let d = seen g.N.Node.view g.N.Node.read c.args.self.now in
-    let e = seen g.N.Node.view g.N.Node.read c.counts_at.new.self in
-    c.in-Ok.ensures.counts ∙ ap (λ (run : Run). (peer_at run.peers c.args.p).counts) (run-asked c.args.c d e c.in-Ok.ensures.asked.acts)
+    let m = arc_value c.in_ok-message.message in
+    let contents = (peer_at (peers_of d.nodes) c.args.p).contents in
+    subst (BringsAsMuch d.graph contents m) (sym c.deref-2.ensures) (brings-itself d.graph contents m)
 
-pub returns-in-Ok : goal.returns-in-Ok
-returns-in-Ok g c =
-    let d = seen g.N.Node.view g.N.Node.read c.args.self.now in
-    let e = seen g.N.Node.view g.N.Node.read c.counts_at.new.self in
-    let f = seen g.N.Node.view g.N.Node.read c.take_by.new.self in
-    record {
-      acts = acts-then c.args.c c.args.c c.args.c d e f [] (Take c.args.p c.args.i ∷ []) c.take_by.result c.in-Ok.ensures.asked.acts c.take_by.ensures.acts;
-      reads = ok-then c.take_by.result c.args.self.now.reads c.counts_at.new.self.reads c.take_by.new.self.reads c.in-Ok.ensures.asked.reads c.take_by.ensures.reads;
-      in_place = c.take_by.ensures.in_place ∙ c.in-Ok.ensures.asked.in_place;
-    }
-
-pub returns : goal.returns
-returns g c =
-    let d = seen g.N.Node.view g.N.Node.read c.args.self.now in
-    let e = seen g.N.Node.view g.N.Node.read c.counts_at.new.self in
-    record {
-      acts = stops-before c.args.c d [] (Take c.args.p c.args.i ∷ []) c.in-Err.halt e.nodes c.in-Err.ensures.asked.acts;
-      reads = tt;
-      in_place = c.in-Err.ensures.asked.in_place;
-    }
+pub returns-in_err-nothing : goal.returns-in_err-nothing
+returns-in_err-nothing g c =
+    let p = err_from_is_err_and c.from_residual-in_err-nothing.result c.from_residual-in_err-nothing.ensures.1 in
+    rw (p.1, p.2) (record { acts = stops-early c.args.c (seen g.N.Node.view g.N.Node.read c.args.self.now) (Take c.args.p c.args.i ∷ []); reads = tt; in_place = refl })
