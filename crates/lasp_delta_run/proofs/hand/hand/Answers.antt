@@ -1,8 +1,7 @@
-use Rattle.std.proofs.Common.{◌∷◌, [], length, sym, subst}
+use Rattle.std.proofs.Common.{◌∷◌, [], length}
 use Rattle.std.specs.Arc.{arc_value}
 use Rattle.model_world.specs.World.{Take, delivered}
-use Rattle.model_runs.specs.Part.{BringsAsMuch}
-use Rattle.model_runs.proofs.PartLaws.{brings-itself}
+use Rattle.model_runs.proofs.PartLaws.{brings-equal}
 use Rattle.lasp_drive.specs.Driver.{seen}
 use Rattle.lasp_drive.proofs.NodeLaws.{seen-at, seen-low, seen-set, held-here, sent-here, stopped-delivery}
 use Rattle.lasp_drive.proofs.StepLaws.{with_nodes}
@@ -27,10 +26,7 @@ deliver-requires-clause-sent g c =
     sent-here d.graph (length d.nodes) c.args.p n (arc_value c.args.message.now) (c.requires.may.ready.nodes c.args.p n at) c.requires.brings.sent
 
 pub deliver-requires-clause-part : goal.deliver-requires-clause-part
-deliver-requires-clause-part g c =
-    let n = g.N.Node.view c.index_mut.result.now in
-    let m = arc_value c.args.message.now in
-    subst (BringsAsMuch n.decls n.peer.contents m) (sym c.deref.ensures) (brings-itself n.decls n.peer.contents m)
+deliver-requires-clause-part g c = brings-equal c.deref.ensures
 
 pub returns-in-Ok : goal.returns-in-Ok
 returns-in-Ok g c =

@@ -1,9 +1,8 @@
-use Rattle.std.proofs.Common.{◌≡◌, Some, Err, sym, subst}
+use Rattle.std.proofs.Common.{◌≡◌, Some, Err, subst}
 use Rattle.std.specs.Arc.{arc_value}
 use Rattle.model_graph.specs.Evaluation.{first_large}
 use Rattle.model_world.specs.World.{delivered}
-use Rattle.model_runs.specs.Part.{BringsAsMuch}
-use Rattle.model_runs.proofs.PartLaws.{brings-itself}
+use Rattle.model_runs.proofs.PartLaws.{brings-equal}
 use Rattle.lasp_drive.specs.Node.{Delivers}
 use Rattle.lasp_drive.specs.declared.node.NodeStop.{NodeStop}
 use Rattle.lasp_site.proofs.NodeLaws.{node-sent, node-taken, taken-low}
@@ -14,10 +13,7 @@ deliver-requires-clause-sent g c =
     node-sent c.args.me c.args.graph.now (g.N.Node.view c.args.node) (arc_value c.args.message.now) c.requires.node c.requires.taken c.requires.message
 
 pub deliver-requires-clause-part : goal.deliver-requires-clause-part
-deliver-requires-clause-part g c =
-    let n = g.N.Node.view c.args.node in
-    let m = arc_value c.args.message.now in
-    subst (BringsAsMuch n.decls n.peer.contents m) (sym c.deref.ensures) (brings-itself n.decls n.peer.contents m)
+deliver-requires-clause-part g c = brings-equal c.deref.ensures
 
 pub returns-in-Ok-clause-node : goal.returns-in-Ok-clause-node
 returns-in-Ok-clause-node g c =

@@ -5,7 +5,7 @@ use Rattle.model_states.specs.Counts.{AreCountsAtMost}
 use Rattle.model_messages.specs.Message.{Message}
 use Rattle.model_world.specs.World.{Peer, Take, peer_at, sent_number}
 use Rattle.model_runs.specs.Part.{BringsAsMuch}
-use Rattle.model_runs.proofs.PartLaws.{brings-itself}
+use Rattle.model_runs.proofs.PartLaws.{brings-equal}
 use Rattle.lasp_drive.specs.Nodes.{peers_of}
 use Rattle.lasp_drive.specs.Driver.{seen, run_of, stage_of}
 use Rattle.lasp_drive.proofs.NodeLaws.{seen-at, seen-low, peer-here, sent-read}
@@ -47,11 +47,7 @@ hand-requires-clause-part g c =
     (brings-nothing (length d.nodes) (run_of d) c.requires.ready.known c.args.p c.args.i c.requires.lawful.0 counted nothing (ap (λ (k : Message). k.sources) bare) (ap (λ (k : Message). length k.counts) (bare ∙ ap (λ (k : Message). record { counts = k.counts; sources = [] }) is)))
 
 pub hand-requires-2-clause-part : goal.hand-requires-2-clause-part
-hand-requires-2-clause-part g c =
-    let d = seen g.N.Node.view g.N.Node.read c.args.self.now in
-    let m = arc_value c.in_ok-message.message in
-    let contents = (peer_at (peers_of d.nodes) c.args.p).contents in
-    subst (BringsAsMuch d.graph contents m) (sym c.deref-2.ensures) (brings-itself d.graph contents m)
+hand-requires-2-clause-part g c = brings-equal c.deref-2.ensures
 
 pub returns-in_err-nothing : goal.returns-in_err-nothing
 returns-in_err-nothing g c =
