@@ -209,21 +209,6 @@ impl Replica {
         message.counts().len() == self.counts.len() && begins(&self.graph, message)
     }
 
-    /// Joins a message in. All memory is taken before anything changes. It costs a look-up for each row of the message.
-    pub fn deliver(
-        &mut self,
-        by: u64,
-        number: u32,
-        message: &Arc<Message>,
-    ) -> Result<(), DeliverRefused>
-        requires { IsReplica self.old }
-        ensures ok { OnOk result (Goes (entry by (model.Deliver number (arc_value message.now))) self.old self.new) }
-        ensures err { OnErr result (Stays self.old self.new) }
-        ensures answer { IsDelivered (length self.old.counts) (arc_value self.old.graph) (contents_of self.old.states) (arc_value message.now) result }
-    {
-        self.deliver_part(by, number, message, message)
-    }
-
     /// Joins a message in by one that brings as much to what is there. All memory is taken before anything changes. It costs a look-up for each row of the other one.
     pub fn deliver_part(
         &mut self,
