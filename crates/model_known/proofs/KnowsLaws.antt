@@ -1,5 +1,5 @@
 -- Everybody holds what is known of the counts, by any deltas that join in as the updates did: kept by each act.
-use Rattle.std.proofs.Common.{◌≡◌, ℕ, zero, suc, ◌+◌, ◌≤◌, ◌<◌, max, ◌⊎◌, inl, inr, IsTrue, List, [], ◌∷◌, ◌++◌, length, map, take, drop, slice_set, replicate, refl, sym, ap, subst, ◌∙◌, arith}
+use Rattle.std.proofs.Common.{◌≡◌, ℕ, zero, suc, ◌+◌, ◌≤◌, ◌<◌, ◌⊎◌, inl, inr, IsTrue, List, [], ◌∷◌, ◌++◌, length, map, slice_set, replicate, refl, sym, ap, subst, ◌∙◌, arith}
 use Rattle.model_states.specs.Counts.{count_at, larger, zeros, AreCountsAtMost}
 use Rattle.model_states.specs.Content.{Content, least, join_contents, IsOrdered}
 use Rattle.model_states.proofs.CountLaws.{count_at-zeros, length-zeros, count_at-larger, larger-commutative, larger-at_most}
@@ -10,10 +10,10 @@ use Rattle.model_graph.proofs.PlaceLaws.{below-or-not, at-past, at-push, at-set,
 use Rattle.model_graph.proofs.LeastLaws.{least_of-ordered}
 use Rattle.model_messages.specs.Message.{Message, source_number, sent_at, sent_from}
 use Rattle.model_world.specs.World.{Peer, fresh_peer, no_peer, peer_at, delivered, extended, message_at, no_message, sent_number}
-use Rattle.model_known.specs.Delta.{Delta, deltas_at, first_deltas, brought_to, join_all, known}
+use Rattle.model_known.specs.Delta.{Delta, deltas_at, first_deltas, brought_to, join_all}
 use Rattle.model_known.specs.Holds.{Holds, Carries}
-use Rattle.model_known.specs.Known.{Each, IsOfSource, IsKnown, later_deltas, later}
-use Rattle.model_known.proofs.MeasureLaws.{IsMeasure, same_from_measures, measure-all, total, total-more, total-append, total-larger, each-push}
+use Rattle.model_known.specs.Known.{Each, IsOfSource, IsKnown}
+use Rattle.model_known.proofs.MeasureLaws.{same_from_measures, measure-all, total, total-larger, each-push}
 use Rattle.model_known.proofs.VariableLaws.{known-ordered}
 use Rattle.model_known.proofs.UpdateLaws.{holds-kept, carries-kept, own-holds, own-all}
 use Rattle.model_known.proofs.HoldLaws.{sends-known, takes-known, extends-known, carries-longer, sources-longer}
@@ -154,36 +154,7 @@ module _ (nodes : ℕ) (g : List Decl) (peers : List Peer) (sent : List Message)
     at : (p : ℕ) → p < nodes → peer_at (map (extended (length peers) d) peers) p ≡ extended (length peers) d (peer_at peers p)
     at p low = at-map-low (extended (length peers) d) peers p no_peer no_peer (omega (arith, low, s.many))
 
--- ---- what a message brings that isn't known yet
-
-module _ (μ : Content → ℕ) (measure : IsMeasure μ) (x : ℕ) where
-  -- the first d deltas are among the first c, or those behind these
-  behind : (c d : ℕ) (deltas : List Delta) → max (total μ measure x (take c deltas)) (total μ measure x (take d deltas)) ≡ max (total μ measure x (take c deltas)) (total μ measure x (drop c (take d deltas)))
-  behind zero d deltas = refl
-  behind (suc c) zero deltas = refl
-  behind (suc c) (suc d) [] = refl
-  behind (suc c) (suc d) (e ∷ deltas) =
-      omega (arith, total-more μ measure x e (take c deltas), total-more μ measure x e (take d deltas), behind c d deltas)
-
-  total-none : (all : List (List Delta)) → total μ measure x (first_deltas all []) ≡ 0
-  total-none [] = refl
-  total-none (deltas ∷ all) = refl
-
-  total-later : (all : List (List Delta)) (cs ds : List ℕ) → max (total μ measure x (first_deltas all cs)) (total μ measure x (first_deltas all ds)) ≡ max (total μ measure x (first_deltas all cs)) (total μ measure x (later_deltas all cs ds))
-  total-later [] cs ds = refl
-  total-later (deltas ∷ all) [] [] = refl
-  total-later (deltas ∷ all) (c ∷ cs) [] = refl
-  total-later (deltas ∷ all) [] (d ∷ ds) =
-      omega (arith, total-append μ measure x (take d deltas) (first_deltas all ds), total-append μ measure x (take d deltas) (later_deltas all [] ds), total-none all, total-later all [] ds)
-  total-later (deltas ∷ all) (c ∷ cs) (d ∷ ds) =
-      omega (
-        arith,
-        total-append μ measure x (take c deltas) (first_deltas all cs),
-        total-append μ measure x (take d deltas) (first_deltas all ds),
-        total-append μ measure x (drop c (take d deltas)) (later_deltas all cs ds),
-        behind c d deltas,
-        total-later all cs ds,
-      )
+-- ---- messages that bring nothing
 
 module _ (nodes : ℕ) (g : List Decl) (peers : List Peer) (sent : List Message) (all : List (List Delta)) (s : IsKnown nodes g peers sent all) where
   abbrev mine : ℕ → Peer
@@ -191,36 +162,6 @@ module _ (nodes : ℕ) (g : List Decl) (peers : List Peer) (sent : List Message)
 
   abbrev came : ℕ → Message
   came i = sent_number sent i
-
-  -- joined with what a message has of a source, a replica has what joins with the deltas that it didn't know
-  pub known-later : (p i x : ℕ) → p < nodes → x < length g → IsTrue (is_source (kind_at g x))
-      → join_contents (content_at (mine p).contents x) (sent_at (came i).sources (source_number g x)) ≡ join_contents (content_at (mine p).contents x) (later g nodes all (mine p).counts (came i).counts x)
-  known-later p i x member low source =
-      same_from_measures (join_contents here there) (join_contents here rest) (ordered-join here there) (ordered-join here rest)
-      (λ μ measure. omega (
-        arith,
-        measure here there,
-        measure here rest,
-        measure l there,
-        ap μ ((s.holds p member).knows x low),
-        ap μ ((s.carries i).knows x low source),
-        measure-all μ measure l (brought_to x (first_deltas all (mine p).counts)),
-        measure-all μ measure l (brought_to x (first_deltas all (came i).counts)),
-        measure-all μ measure l (brought_to x (later_deltas all (mine p).counts (came i).counts)),
-        total-later μ measure x all (mine p).counts (came i).counts,
-      ))
-    where
-      l : Content
-      l = least_of nodes (kind_at g x)
-
-      here : Content
-      here = content_at (peer_at peers p).contents x
-
-      there : Content
-      there = sent_at (sent_number sent i).sources (source_number g x)
-
-      rest : Content
-      rest = later g nodes all (peer_at peers p).counts (sent_number sent i).counts x
 
   -- where the message's counts are all counted, it brings nothing
   pub known-covered : (p i x : ℕ) → p < nodes → x < length g → IsTrue (is_source (kind_at g x)) → AreCountsAtMost (came i).counts (mine p).counts

@@ -1,12 +1,10 @@
 -- Replicas and messages of which everything is known by some deltas, whatever these brought, as long as it joined in as the updates did.
-use Rattle.std.specs.Prelude.{◌≡◌, ℕ, ◌<◌, IsTrue, List, [], ◌∷◌, ◌++◌, length, take, drop}
+use Rattle.std.specs.Prelude.{◌≡◌, ℕ, ◌<◌, IsTrue, List, [], ◌∷◌, length}
 use Rattle.model_states.specs.Counts.{count_at}
-use Rattle.model_states.specs.Content.{Content}
 use Rattle.model_graph.specs.Graph.{Decl, is_source, kind_at}
-use Rattle.model_graph.specs.Evaluation.{least_of}
 use Rattle.model_messages.specs.Message.{Message}
 use Rattle.model_world.specs.World.{Peer, peer_at, sent_number}
-use Rattle.model_known.specs.Delta.{Delta, deltas_at, brought_to, join_all}
+use Rattle.model_known.specs.Delta.{Delta, deltas_at}
 use Rattle.model_known.specs.Holds.{Holds, Carries}
 
 -- each delta of a replica
@@ -31,14 +29,3 @@ pub record IsKnown (nodes : ℕ) (g : List Decl) (peers : List Peer) (sent : Lis
   pub holds : (p : ℕ) → p < nodes → Holds g nodes all (peer_at peers p).contents (peer_at peers p).counts
   pub own : (p : ℕ) → p < nodes → count_at (peer_at peers p).counts p ≡ length (deltas_at all p)
   pub carries : (i : ℕ) → Carries g nodes all (sent_number sent i)
-
--- the deltas that the second counts know and the first ones don't, replica by replica
-abbrev pub later_deltas : List (List Delta) → List ℕ → List ℕ → List Delta
-later_deltas [] cs ds = []
-later_deltas (deltas ∷ all) cs [] = []
-later_deltas (deltas ∷ all) [] (d ∷ ds) = take d deltas ++ later_deltas all [] ds
-later_deltas (deltas ∷ all) (c ∷ cs) (d ∷ ds) = drop c (take d deltas) ++ later_deltas all cs ds
-
--- what they brought to variable x
-abbrev pub later : List Decl → ℕ → List (List Delta) → List ℕ → List ℕ → ℕ → Content
-later g nodes all cs ds x = join_all (least_of nodes (kind_at g x)) (brought_to x (later_deltas all cs ds))

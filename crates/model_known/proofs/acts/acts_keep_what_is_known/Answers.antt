@@ -1,4 +1,4 @@
-use Rattle.model_known.proofs.KnowsLaws.{known-begin, known-later, known-covered}
+use Rattle.model_known.proofs.KnowsLaws.{known-begin, known-covered}
 use Rattle.model_known.proofs.ActLaws.{acts-update, acts-others}
 use Rattle.model_known.proofs.acts.acts_keep_what_is_known.Goals as goal
 
@@ -10,9 +10,6 @@ returns-clause-update c = acts-update
 
 pub returns-clause-others : goal.returns-clause-others
 returns-clause-others c = acts-others
-
-pub returns-clause-later : goal.returns-clause-later
-returns-clause-later c = known-later
 
 pub returns-clause-covered : goal.returns-clause-covered
 returns-clause-covered c = known-covered
