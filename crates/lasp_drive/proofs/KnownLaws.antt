@@ -1,5 +1,5 @@
 -- What is known of a run, act by act.
-use Rattle.std.proofs.Common.{◌≡◌, ℕ, ◌<◌, List, [], length, slice_set, replicate, Ok, refl}
+use Rattle.std.proofs.Common.{◌≡◌, ℕ, ◌<◌, List, [], length, replicate, Ok, refl}
 use Rattle.model_graph.specs.Graph.{Decl}
 use Rattle.model_states.specs.Update.{Op}
 use Rattle.model_world.specs.Command.{Until}

@@ -9,10 +9,10 @@ use Rattle.model_states.specs.Threshold.{Shape, set, grow, counter, register, is
 use Rattle.model_states.specs.Update as plain
 use Rattle.model_values.specs.Size.{IsOfWidth}
 use Rattle.model_values.specs.Row.{Row}
-use Rattle.model_messages.specs.Message.{Message, Sent, brought, gained}
+use Rattle.model_messages.specs.Message.{Message, brought, gained}
 use Rattle.model_graph.specs.Graph.{Decl, Kind, is_source, kind_at}
 use Rattle.model_graph.specs.Evaluation.{content_at, first_large}
-use Rattle.model_graph.specs.Lawful.{shape_of, sources_among}
+use Rattle.model_graph.specs.Lawful.{shape_of}
 use Rattle.model_wire.specs.Lawful.{IsSource}
 use Rattle.model_runs.specs.Held.{IsHeld}
 pub use Rattle.model_runs.specs.Part.{IsBeginning}

@@ -1,14 +1,13 @@
 -- What is known, act by act.
-use Rattle.std.proofs.Common.{◌≡◌, ℕ, ◌+◌, ◌<◌, IsTrue, List, [], ◌∷◌, ◌++◌, length, slice_set, replicate, Ok, refl, sym, ap, subst, ◌∙◌}
+use Rattle.std.proofs.Common.{◌≡◌, ℕ, ◌+◌, ◌<◌, IsTrue, List, [], ◌∷◌, ◌++◌, length, slice_set, Ok, refl, sym, ap, subst, ◌∙◌}
 use Rattle.model_states.specs.Counts.{count_at}
 use Rattle.model_states.specs.Content.{Content, join_contents}
 use Rattle.model_states.specs.Update.{Op, delta}
-use Rattle.model_graph.specs.Graph.{Decl, is_source, kind_at}
+use Rattle.model_graph.specs.Graph.{is_source, kind_at}
 use Rattle.model_graph.specs.Evaluation.{content_at}
-use Rattle.model_messages.specs.Message.{Message}
 use Rattle.model_world.specs.World.{Peer, Run, Act, Update, Keep, Post, Take, Point, Show, Open, Reach, Extend, peer_at, updated, act}
 use Rattle.model_known.specs.Delta.{Delta, deltas_at}
-use Rattle.model_known.specs.Known.{IsOfSource, IsKnown}
+use Rattle.model_known.specs.Known.{IsKnown}
 use Rattle.model_known.proofs.EffectLaws.{effect, act-effect}
 use Rattle.model_known.proofs.KnowsLaws.{known-update, known-post, known-take, known-extend}
 

@@ -1,25 +1,22 @@
 -- At each place of a lawful run everybody holds what is known of the counts: one record, kept by each act.
-use Rattle.std.proofs.Common.{◌≡◌, ℕ, zero, suc, ◌≤◌, ◌<◌, ◌⊎◌, inl, inr, IsTrue, List, [], ◌∷◌, ◌++◌, length, map, slice_index_or, slice_set, replicate, refl, sym, ap, subst, ◌∙◌, arith}
-use Rattle.model_states.specs.Counts.{count_at, zeros}
-use Rattle.model_states.specs.Content.{Content, least}
+use Rattle.std.proofs.Common.{◌≡◌, ℕ, ◌≤◌, ◌<◌, ◌⊎◌, inl, inr, IsTrue, List, [], ◌∷◌, ◌++◌, length, map, slice_index_or, slice_set, replicate, refl, sym, ap, subst, ◌∙◌, arith}
+use Rattle.model_states.specs.Counts.{count_at}
+use Rattle.model_states.specs.Content.{Content}
 use Rattle.model_states.specs.Update.{Op, Join}
-use Rattle.model_states.proofs.CountLaws.{count_at-zeros, length-zeros, count_at-larger}
-use Rattle.model_states.proofs.ContentLaws.{join-nothing}
-use Rattle.model_graph.specs.Graph.{Decl, is_source, no_decl, kind_at}
-use Rattle.model_graph.specs.Evaluation.{content_at, least_of}
-use Rattle.model_graph.proofs.PlaceLaws.{below-or-not, at-append, at-last, at-past, at-push, at-set, at-map-low, at-replicate, length-replicate, length-push, set-length, map-length}
-use Rattle.model_graph.proofs.LeastLaws.{least_of-ordered}
-use Rattle.model_messages.specs.Message.{Message, sent_from}
-use Rattle.model_world.specs.World.{Peer, Marked, Act, Update, Keep, Post, Take, Point, Show, Open, Reach, Extend, fresh_peer, no_peer, peer_at, updated, delivered, extended, message_at, no_message, sent_number, no_mark, mark_at}
-use Rattle.model_known.specs.Delta.{Delta, deltas_at, first_deltas, brought_to, join_all}
+use Rattle.model_graph.specs.Graph.{Decl, is_source, kind_at}
+use Rattle.model_graph.specs.Evaluation.{content_at}
+use Rattle.model_graph.proofs.PlaceLaws.{below-or-not, at-append, at-last, length-push}
+use Rattle.model_messages.specs.Message.{Message}
+use Rattle.model_world.specs.World.{Peer, Marked, Act, Update, Keep, Post, Take, Point, Show, Open, Reach, Extend, fresh_peer, peer_at, updated, delivered, extended, message_at, sent_number, no_mark, mark_at}
+use Rattle.model_known.specs.Delta.{Delta, deltas_at}
 use Rattle.model_known.specs.Follow.{Followed, delta_of, begin}
 use Rattle.model_known.specs.Holds.{Holds, Carries, Keeps}
 use Rattle.model_known.specs.Owner.{AreOwned}
 use Rattle.model_known.specs.Known.{Each, IsOfSource, IsKnown}
 use Rattle.model_known.proofs.MeasureLaws.{each-push, each-weaker}
 use Rattle.model_known.proofs.EffectLaws.{followed}
-use Rattle.model_known.proofs.UpdateLaws.{holds-kept, carries-kept, keeps-kept, own-holds, own-all}
-use Rattle.model_known.proofs.HoldLaws.{sends-known, takes-known, extends-known, carries-longer, keeps-longer, sources-longer}
+use Rattle.model_known.proofs.UpdateLaws.{keeps-kept}
+use Rattle.model_known.proofs.HoldLaws.{keeps-longer}
 use Rattle.model_known.proofs.KnowsLaws.{each-empty, known-begin, known-update, known-post, known-take, known-extend}
 use Rattle.model_known.proofs.TokenLaws.{AreAllOwned, owned-kept, delta-owned, known-owned}
 

@@ -1,5 +1,5 @@
 -- Of which variables something is known, and that more declarations change none of it.
-use Rattle.std.proofs.Common.{◌≡◌, ℕ, ◌<◌, Bool, true, false, ◌==◌, IsTrue, IsFalse, List, [], ◌∷◌, ◌++◌, length, refl, ap, subst, arith}
+use Rattle.std.proofs.Common.{◌≡◌, ℕ, ◌<◌, Bool, true, false, ◌==◌, IsFalse, List, [], ◌∷◌, ◌++◌, length, refl, ap, subst, arith}
 use Rattle.model_states.specs.Content.{Content, IsOrdered}
 use Rattle.model_graph.specs.Graph.{Kind, Decl, is_source, no_decl, kind_at}
 use Rattle.model_graph.specs.Evaluation.{least_of}
