@@ -104,7 +104,7 @@ impl Core {
         self.deliver_part(by, number, message, message)
     }
 
-    /// Joins a message in by one that brings as much to what is there: it costs what the other one has.
+    /// Joins a message in by one that brings as much to what is there, and is looked at for rows in its place: it costs what the other one has. The message itself is such a one. So is one of its counts without sources, where both are of one run and the core counts all that the message counts.
     pub fn deliver_part(
         &mut self,
         by: u64,

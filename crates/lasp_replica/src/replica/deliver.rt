@@ -209,7 +209,7 @@ impl Replica {
         message.counts().len() == self.counts.len() && begins(&self.graph, message)
     }
 
-    /// Joins a message in by one that brings as much to what is there. All memory is taken before anything changes. It costs a look-up for each row of the other one.
+    /// Joins a message in by one that brings as much to what is there, and is looked at for rows in its place. The message itself is such a one. So is one of its counts without sources, where both are of one run and the replica counts all that the message counts. All memory is taken before anything changes. It costs a look-up for each row of the other one.
     pub fn deliver_part(
         &mut self,
         by: u64,
