@@ -10,10 +10,10 @@ use Rattle.model_states.proofs.CountLaws.{length-larger}
 use Rattle.model_graph.specs.Graph.{Decl, is_source, kind_at}
 use Rattle.model_graph.specs.Evaluation.{first_large}
 use Rattle.model_graph.specs.Limit.{AreWithinLimit}
-use Rattle.model_graph.specs.Lawful.{sources_among, shape_of}
+use Rattle.model_graph.specs.Lawful.{shape_of}
 use Rattle.model_graph.proofs.LimitLaws.{small-words}
 use Rattle.model_graph.proofs.PlaceLaws.{below-or-not, at-map, at-past, map-length}
-use Rattle.model_messages.specs.Message.{Message, Sent, brought, gained}
+use Rattle.model_messages.specs.Message.{Message, brought, gained}
 use Rattle.model_wire.specs.Lawful.{IsMessage}
 use Rattle.model_world.specs.World.{delivered}
 use Rattle.model_runs.specs.Held.{IsHeld, IsSentTo}
@@ -155,7 +155,7 @@ module _ (old new : Replica) (is : IsReplica old) (by number : ℕ) (m : Message
   kept-after : IsKept (frame_of old) (entries_of old ++ entry by (Deliver number m) ∷ []) (parts_of new)
   kept-after = kept-delivered (frame_of old) (entries_of old) is.legal (entry by (Deliver number m)) number m refl (parts_of old) (parts_of new) is.kept (message-in-order m (parts_of old) message) taken
 
-  first : (more : List Decl) × (map (λ (s : Sent). s.decl) m.sources ++ more ≡ sources_among (graph (frame_of old) (entries_of old)))
+  first : IsBeginning m (graph (frame_of old) (entries_of old))
   first = subst (IsBeginning m) is.kept.graph begins
 
   small : first_large 0 (delivered (graph (frame_of old) (entries_of old)) m (peer_of (frame_of old) (entries_of old))).contents ≡ None
