@@ -1,53 +1,29 @@
 -- Messages of one graph: whose sources begin those of whom, and what joining them leaves.
-use Rattle.std.proofs.Common.{◌≡◌, ℕ, zero, suc, ◌+◌, ◌<◌, Bool, true, false, if◌then◌else◌, List, [], ◌∷◌, ◌++◌, length, map, take, drop, Some, None, refl, sym, ap, subst, ◌∙◌, arith}
+use Rattle.std.proofs.Common.{◌≡◌, ℕ, zero, suc, ◌+◌, ◌<◌, Bool, true, false, if◌then◌else◌, IsTrue, List, [], ◌∷◌, ◌++◌, length, map, take, drop, Some, None, refl, sym, ap, subst, ◌∙◌, arith}
 use Rattle.model_states.specs.Counts.{zeros, larger}
-use Rattle.model_states.specs.Content.{Content, least, join_contents, IsContentAtMost, IsOrdered}
-use Rattle.model_states.proofs.CountLaws.{count_at-zeros, length-zeros, larger-associative, larger-idempotent}
-use Rattle.model_states.proofs.ContentLaws.{join-nothing, join-idempotent, join-associative}
+use Rattle.model_states.specs.Content.{Content, least, join_contents, IsOrdered}
+use Rattle.model_states.proofs.CountLaws.{length-zeros, larger-associative, larger-idempotent}
+use Rattle.model_states.proofs.ContentLaws.{join-idempotent, join-associative}
 use Rattle.model_graph.specs.Graph.{Decl, is_source, kind_at}
-use Rattle.model_graph.specs.Evaluation.{content_at, least_of}
+use Rattle.model_graph.specs.Evaluation.{content_at}
 use Rattle.model_graph.specs.Lawful.{sources_among}
-use Rattle.model_graph.proofs.LeastLaws.{least_of-ordered}
 use Rattle.model_graph.proofs.PlaceLaws.{same-lists, from-nothing}
 use Rattle.model_messages.specs.Message.{Sent, Message, source_number, sent_at, brought, with_gain, gained}
 use Rattle.model_messages.proofs.MessageLaws.{sent-is, sent-among, among-append, gained-length, gained-at}
-use Rattle.model_world.specs.World.{Peer, message_at, delivered}
+use Rattle.model_world.specs.Command.{Command}
+use Rattle.model_world.specs.World.{Peer, peer_at, message_at, delivered}
 use Rattle.model_runs.specs.Held.{IsHeld, IsSentTo}
 use Rattle.model_runs.proofs.SourceLaws.{source-ordered}
-use Rattle.model_known.specs.Delta as known
-use Rattle.model_known.specs.Holds.{Carries}
+use Rattle.model_known.specs.Holds.{IsPlaceOf}
+use Rattle.model_known.specs.Follow.{Followed}
+use Rattle.model_known.proofs.KnownLaws.{replica-holds}
+use Rattle.model_known.proofs.VariableLaws.{known-ordered}
 use Rattle.model_wire.specs.Lawful.{IsNodes, AreAtMost, IsMessage}
 use Rattle.model_deltas.specs.Delta.{changed_sources}
 use Rattle.model_deltas.specs.Applied.{joined_sources, joined}
-use Rattle.model_deltas.specs.Before.{AreSourcesBefore, AreSourcesAlike}
+use Rattle.model_deltas.proofs.BeginLaws.{decls_of, BeginsBy, tail-of}
 use Rattle.model_deltas.proofs.JoinedLaws.{joined-source}
 use Rattle.model_delta_runs.specs.Gossip.{nothing_told}
-
-abbrev pub decls_of : List Sent → List Decl
-decls_of sources = map (λ s. s.decl) sources
-
--- the sources of the second are the first ones of the first, or the same
-abbrev pub BeginsBy : List Sent → List Sent → Type 0
-BeginsBy ss ts = (more : List Decl) × (decls_of ts ++ more ≡ decls_of ss)
-
-head-of : {A : Type 0} (x y : A) (xs ys : List A) → x ∷ xs ≡ y ∷ ys → x ≡ y
-head-of x y xs ys e = cc
-
-tail-of : {A : Type 0} (x y : A) (xs ys : List A) → x ∷ xs ≡ y ∷ ys → xs ≡ ys
-tail-of x y xs ys e = cc
-
-pub alike-from : (ss ts : List Sent) → BeginsBy ss ts → AreSourcesAlike ss ts
-alike-from [] ts h = tt
-alike-from (s ∷ ss) [] h = tt
-alike-from (s ∷ ss) (t ∷ ts) h = (sym (head-of t.decl s.decl (decls_of ts ++ h.0) (decls_of ss) h.1), alike-from ss ts (h.0, tail-of t.decl s.decl (decls_of ts ++ h.0) (decls_of ss) h.1))
-
-pub before-from : (bs ts : List Sent) → BeginsBy ts bs → ((j : ℕ) → IsContentAtMost (sent_at bs j) (sent_at ts j)) → AreSourcesBefore bs ts
-before-from [] ts h low = tt
-before-from (b ∷ bs) [] h low = absurd (none b.decl (decls_of bs ++ h.0) h.1) where
-  none : (d : Decl) (ds : List Decl) → d ∷ ds ≡ [] → ⊥
-  none d ds e = cc
-before-from (b ∷ bs) (t ∷ ts) h low =
-    (head-of b.decl t.decl (decls_of bs ++ h.0) (decls_of ts) h.1, low 0, before-from bs ts (h.0, tail-of b.decl t.decl (decls_of bs ++ h.0) (decls_of ts) h.1) (λ j. low (suc j)))
 
 pub decls-changed : (before : List Sent) (i : ℕ) (after : List Sent) → decls_of (changed_sources before i after) ≡ decls_of after
 decls-changed before i [] = refl
@@ -81,8 +57,9 @@ begins-by nodes g r m long sent = (
 joins-twice : (a b : Content) → IsOrdered a → join_contents a (join_contents a b) ≡ join_contents a b
 joins-twice a b h = sym (join-associative a a b) ∙ ap (λ (c : Content). join_contents c b) (join-idempotent a h)
 
-pub taken-twice : (nodes : ℕ) (g : List Decl) (r : Peer) (m : Message) → IsHeld nodes g r → IsMessage (message_at g r) → IsMessage m → delivered g (joined (message_at g r) m) r ≡ delivered g m r
-taken-twice nodes g r m held present lawful = λ i. record { contents = contents i; counts = counts i } where
+pub taken-again : (g : List Decl) (r : Peer) (m : Message) → length r.contents ≡ length g → ((x : ℕ) → x < length g → IsTrue (is_source (kind_at g x)) → IsOrdered (content_at r.contents x)) → IsMessage (message_at g r) → IsMessage m
+    → delivered g (joined (message_at g r) m) r ≡ delivered g m r
+taken-again g r m long ordered present lawful = λ i. record { contents = contents i; counts = counts i } where
   both : Message
   both = joined (message_at g r) m
 
@@ -93,10 +70,10 @@ taken-twice nodes g r m held present lawful = λ i. record { contents = contents
   gain x low true e =
       let n = source_number g x in
       let here : sent_at both.sources n ≡ join_contents (content_at r.contents x) (sent_at m.sources n) =
-      joined-source (message_at g r) m n present lawful ∙ ap (λ (c : Content). join_contents c (sent_at m.sources n)) (sent-is g r.contents x low held.long e) in
+      joined-source (message_at g r) m n present lawful ∙ ap (λ (c : Content). join_contents c (sent_at m.sources n)) (sent-is g r.contents x low long e) in
       ap (λ (b : Bool). with_gain (content_at r.contents x) (if b then Some (sent_at both.sources n) else None)) e
       ∙ ap (λ (c : Content). join_contents (content_at r.contents x) c) here
-      ∙ joins-twice (content_at r.contents x) (sent_at m.sources n) (source-ordered nodes (kind_at g x) (content_at r.contents x) (held.sources x low e))
+      ∙ joins-twice (content_at r.contents x) (sent_at m.sources n) (ordered x low e)
       ∙ ap (λ (b : Bool). with_gain (content_at r.contents x) (if b then Some (sent_at m.sources n) else None)) (sym e)
   gain x low false e =
       let n = source_number g x in
@@ -109,9 +86,19 @@ taken-twice nodes g r m held present lawful = λ i. record { contents = contents
       let within : x < length r.contents = omega (arith, low, gained-length (brought g both) 0 r.contents) in
       gained-at (brought g both) 0 r.contents x within
       ∙ ap (λ (i : ℕ). with_gain (content_at r.contents x) (brought g both i)) (sym (from-nothing x))
-      ∙ gain x (omega (arith, within, held.long)) (is_source (kind_at g x)) refl
+      ∙ gain x (omega (arith, within, long)) (is_source (kind_at g x)) refl
       ∙ ap (λ (i : ℕ). with_gain (content_at r.contents x) (brought g m i)) (from-nothing x)
       ∙ sym (gained-at (brought g m) 0 r.contents x within))
+
+pub taken-twice : (nodes : ℕ) (g : List Decl) (r : Peer) (m : Message) → IsHeld nodes g r → IsMessage (message_at g r) → IsMessage m → delivered g (joined (message_at g r) m) r ≡ delivered g m r
+taken-twice nodes g r m held present lawful = taken-again g r m held.long (λ x low source. source-ordered nodes (kind_at g x) (content_at r.contents x) (held.sources x low source)) present lawful
+
+-- so it is at each place of a lawful run
+pub taken-there : (g : List Decl) (nodes : ℕ) (commands : List Command) (f : Followed) → IsPlaceOf g nodes commands f → (p : ℕ) (m : Message) → p < nodes → IsMessage (message_at f.run.graph (peer_at f.run.peers p)) → IsMessage m
+    → delivered f.run.graph (joined (message_at f.run.graph (peer_at f.run.peers p)) m) (peer_at f.run.peers p) ≡ delivered f.run.graph m (peer_at f.run.peers p)
+taken-there g nodes commands f place p m member present lawful =
+    let h = replica-holds g nodes commands f place p member in
+    taken-again f.run.graph (peer_at f.run.peers p) m h.long (λ x low source. subst IsOrdered (sym (h.knows x low)) (known-ordered f.run.graph nodes f.deltas (peer_at f.run.peers p).counts x)) present lawful
 
 -- ---- before a node told anything
 
@@ -120,18 +107,3 @@ nothing-lawful nodes h = record { nodes = subst IsNodes (sym (length-zeros nodes
   each : (n : ℕ) → AreAtMost 100000 (zeros n)
   each zero = tt
   each (suc n) = (omega arith, each n)
-
-first-zeros : (all : List (List known.Delta)) (nodes : ℕ) → known.first_deltas all (zeros nodes) ≡ []
-first-zeros [] nodes = refl
-first-zeros (deltas ∷ all) zero = refl
-first-zeros (deltas ∷ all) (suc nodes) = first-zeros all nodes
-
-pub nothing-carries : (g : List Decl) (nodes : ℕ) (all : List (List known.Delta)) → Carries g nodes all (nothing_told nodes)
-nothing-carries g nodes all = record {
-  narrow = omega (arith, length-zeros nodes);
-  few = omega arith;
-  made = λ q. omega (arith, count_at-zeros nodes q);
-  knows = λ x low source.
-      join-nothing (least_of nodes (kind_at g x)) (least_of-ordered nodes (kind_at g x))
-      ∙ ap (λ (ds : List known.Delta). known.join_all (least_of nodes (kind_at g x)) (known.brought_to x ds)) (sym (first-zeros all nodes));
-}

@@ -1,16 +1,16 @@
 -- Each act keeps what holds at a place: what nodes told last, and the deltas as which messages travel.
-use Rattle.std.proofs.Common.{◌≡◌, ℕ, zero, suc, ◌+◌, ◌≤◌, ◌<◌, ◌⊎◌, inl, inr, List, [], ◌∷◌, ◌++◌, length, Option, Some, None, Result, Ok, Err, refl, sym, ap, subst, ◌∙◌, arith, slice_index_or, slice_set}
+use Rattle.std.proofs.Common.{◌≡◌, ℕ, zero, suc, ◌≤◌, ◌<◌, ◌⊎◌, inl, inr, List, [], ◌∷◌, ◌++◌, length, Option, Some, None, Result, Ok, Err, refl, sym, ap, subst, ◌∙◌, arith, slice_index_or, slice_set}
 use Rattle.std.specs.Prelude.{IfSome, replicate}
-use Rattle.model_states.specs.Counts.{count_at, AreCountsAtMost}
-use Rattle.model_states.proofs.CountLaws.{count_at-zeros, count_at-larger}
+use Rattle.model_states.specs.Counts.{AreCountsAtMost}
+use Rattle.model_states.proofs.CountLaws.{count_at-zeros}
 use Rattle.model_graph.specs.Chain.{◌>>=◌}
 use Rattle.model_graph.specs.Graph.{Decl}
-use Rattle.model_graph.proofs.PlaceLaws.{below-or-not, at-append, at-last, at-set, at-map-low, length-replicate, length-push, map-length, set-length}
+use Rattle.model_graph.proofs.PlaceLaws.{below-or-not, at-append, at-last, at-set, length-replicate, length-push, set-length}
 use Rattle.model_messages.specs.Message.{Message}
 use Rattle.model_world.specs.Command.{Command}
 use Rattle.model_world.specs.Command as command
 use Rattle.model_world.specs.Lawful.{Stage, opening_stage, stage_after, MayBeDone}
-use Rattle.model_world.specs.World.{Peer, fresh_peer, Run, Act, Update, Keep, Post, Take, Point, Show, Open, Reach, Extend, no_peer, peer_at, start, message_at, sent_number, no_message, updated, delivered, extended, act, acts, each}
+use Rattle.model_world.specs.World.{fresh_peer, Run, Act, Update, Keep, Post, Take, Point, Show, Open, Reach, Extend, peer_at, start, message_at, sent_number, no_message, act, acts, each}
 use Rattle.model_world.specs.declared.stop.Stop.{Stop}
 use Rattle.model_known.specs.Follow.{Followed, begin}
 use Rattle.model_known.specs.Holds.{Holds, Carries}
@@ -24,54 +24,12 @@ use Rattle.model_wire.specs.Lawful.{IsMessage}
 use Rattle.model_deltas.specs.Delta.{Delta, delta_of, carried}
 use Rattle.model_deltas.specs.Applied.{first_gap, joined, limited, unless, applied}
 use Rattle.model_deltas.specs.Before.{IsBefore, AreAlike}
+use Rattle.model_deltas.proofs.BeginLaws.{alike-from, before-from, nothing-carries}
+use Rattle.model_deltas.proofs.RiseLaws.{counts-itself, counts-rise, peers-stay}
 use Rattle.model_deltas.proofs.WorldLaws.{delta-known, holds-more}
 use Rattle.model_delta_runs.specs.Gossip.{Gossip, nothing_told, told_in, told_by, last_told, no_delta, delta_number, gossip_after, gossip_each, gossip_start}
 use Rattle.model_delta_runs.specs.Going.{IsSentNumber, IsTold, IsDeltaTo, Travels, IsGoing}
-use Rattle.model_delta_runs.proofs.SourceLaws.{alike-from, before-from, decls-changed, begins-by, nothing-carries}
-
--- ---- counts rise
-
-counts-itself : (cs : List ℕ) → AreCountsAtMost cs cs
-counts-itself cs q = omega arith
-
-counts-raised : (cs : List ℕ) (p : ℕ) → AreCountsAtMost cs (slice_set cs p (count_at cs p + 1))
-counts-raised [] p q = omega arith
-counts-raised (c ∷ cs) zero zero = omega arith
-counts-raised (c ∷ cs) zero (suc q) = omega arith
-counts-raised (c ∷ cs) (suc p) zero = omega arith
-counts-raised (c ∷ cs) (suc p) (suc q) = counts-raised cs p q
-
--- no count of a replica falls by an act
-peer-set : (peers : List Peer) (p : ℕ) (r : Peer) → AreCountsAtMost (peer_at peers p).counts r.counts → (q : ℕ) → q < length peers → AreCountsAtMost (peer_at peers q).counts (peer_at (slice_set peers p r) q).counts
-peer-set peers p r more q low =
-    at-set (λ (s : Peer). AreCountsAtMost (peer_at peers q).counts s.counts) peers p r no_peer q low
-    (λ e. subst (λ (i : ℕ). AreCountsAtMost (peer_at peers i).counts r.counts) (sym e) more)
-    (λ n. counts-itself (peer_at peers q).counts)
-
-pub counts-rise : (run : Run) (a : Act) (q : ℕ) → q < length run.peers → AreCountsAtMost (peer_at run.peers q).counts (peer_at (effect run a).peers q).counts
-counts-rise run (Update p x op) q low = peer-set run.peers p (updated p x op (peer_at run.peers p)) (counts-raised (peer_at run.peers p).counts p) q low
-counts-rise run (Take p i) q low =
-    peer-set run.peers p (delivered run.graph (sent_number run.sent i) (peer_at run.peers p))
-    (λ node. omega (arith, count_at-larger (peer_at run.peers p).counts (sent_number run.sent i).counts node)) q low
-counts-rise run (Extend d) q low =
-    subst (λ (r : Peer). AreCountsAtMost (peer_at run.peers q).counts r.counts) (sym (at-map-low (extended (length run.peers) d) run.peers q no_peer no_peer low)) (counts-itself (peer_at run.peers q).counts)
-counts-rise run (Keep p x) q low = counts-itself (peer_at run.peers q).counts
-counts-rise run (Post p) q low = counts-itself (peer_at run.peers q).counts
-counts-rise run Point q low = counts-itself (peer_at run.peers q).counts
-counts-rise run (Show p x) q low = counts-itself (peer_at run.peers q).counts
-counts-rise run (Open p x until) q low = counts-itself (peer_at run.peers q).counts
-counts-rise run (Reach p x until) q low = counts-itself (peer_at run.peers q).counts
-
-pub peers-stay : (run : Run) (a : Act) → length (effect run a).peers ≡ length run.peers
-peers-stay run (Update p x op) = set-length run.peers p (updated p x op (peer_at run.peers p))
-peers-stay run (Take p i) = set-length run.peers p (delivered run.graph (sent_number run.sent i) (peer_at run.peers p))
-peers-stay run (Extend d) = map-length (extended (length run.peers) d) run.peers
-peers-stay run (Keep p x) = refl
-peers-stay run (Post p) = refl
-peers-stay run Point = refl
-peers-stay run (Show p x) = refl
-peers-stay run (Open p x until) = refl
-peers-stay run (Reach p x until) = refl
+use Rattle.model_delta_runs.proofs.SourceLaws.{decls-changed, begins-by}
 
 -- ---- acts that send nothing
 
@@ -245,6 +203,22 @@ going-take nodes c p i stage s next going e =
       travels = record { nodes = on.nodes; told = on.told; many = on.many; deltas = on.deltas };
     }
 
+-- an act by which nothing is sent
+pub travels-else : (c : ℕ) (s : Gossip) (a : Act) (next : Run) → Travels s → ((p : ℕ) → a ≡ Post p → ⊥) → act c s.run a ≡ Ok next → Travels (gossip_after s a next)
+travels-else c s a next t none e = subst (λ (r : Run). Travels (gossip_after s a r)) (sym (act-effect c s.run next a e)) (on a none) where
+  on : (b : Act) → ((p : ℕ) → b ≡ Post p → ⊥) → Travels (gossip_after s b (effect s.run b))
+  on (Post p) no = absurd (no p refl)
+  on (Take p i) no =
+      let way : Travels (with_later s (effect s.run (Take p i))) = travels-on s (effect s.run (Take p i)) t refl (peers-stay s.run (Take p i)) (counts-rise s.run (Take p i)) in
+      record { nodes = way.nodes; told = way.told; many = way.many; deltas = way.deltas }
+  on (Update p x op) no = quiet-one s (Update p x op) tt t
+  on (Keep p x) no = quiet-one s (Keep p x) tt t
+  on Point no = quiet-one s Point tt t
+  on (Show p x) no = quiet-one s (Show p x) tt t
+  on (Open p x until) no = quiet-one s (Open p x until) tt t
+  on (Reach p x until) no = quiet-one s (Reach p x until) tt t
+  on (Extend d) no = quiet-one s (Extend d) tt t
+
 -- ---- a send
 
 -- what a node told is told of a run with one message more
@@ -256,7 +230,7 @@ number-more : (run : Run) (m : Message) (number : Option ℕ) → IsSentNumber r
 number-more run m None h = tt
 number-more run m (Some i) h = omega (arith, h, length-push run.sent m)
 
-module _ (nodes c p : ℕ) (stage : Stage) (s : Gossip) (going : IsGoing nodes stage s) (member : p < length s.run.peers) where
+module _ (s : Gossip) (p : ℕ) (travels : Travels s) (member : p < length s.run.peers) where
   abbrev message : Message
   message = message_at s.run.graph (peer_at s.run.peers p)
 
@@ -266,35 +240,16 @@ module _ (nodes c p : ℕ) (stage : Stage) (s : Gossip) (going : IsGoing nodes s
   abbrev number : Option ℕ
   number = slice_index_or s.last p None
 
-  -- what it told last it holds still, so there is a delta from it
-  pub tells-more : Holds s.run.graph nodes going.followed.deltas (peer_at s.run.peers p).contents (peer_at s.run.peers p).counts → IsSentTo nodes s.run.graph (last_told s p) → IsBefore (last_told s p) message
-  tells-more holds to = record {
-    nodes = to.wide ∙ sym holds.wide;
-    counts = (going.travels.told p member).counted;
-    sources = before-from (last_told s p).sources message.sources (begins-by nodes s.run.graph (peer_at s.run.peers p) (last_told s p) holds.long to)
-        (holds-more s.run.graph nodes going.followed.deltas (last_told s p) message (carries number refl) (sends-known s.run.graph nodes going.followed.deltas (peer_at s.run.peers p).contents (peer_at s.run.peers p).counts holds)
-        (omega (arith, to.wide, holds.wide)) (going.travels.told p member).counted);
-  } where
-    carries : (o : Option ℕ) → number ≡ o → Carries s.run.graph nodes going.followed.deltas (told_by s.run number)
-    carries None e =
-        subst (λ (o : Option ℕ). Carries s.run.graph nodes going.followed.deltas (told_by s.run o)) (sym e)
-        (subst (λ (n : ℕ). Carries s.run.graph nodes going.followed.deltas (nothing_told n)) (sym many) (nothing-carries s.run.graph nodes going.followed.deltas)) where
-          many : length s.run.peers ≡ nodes
-          many = ap (λ (r : Run). length r.peers) (sym going.run) ∙ going.at.sound.many
-    carries (Some i) e =
-        subst (λ (o : Option ℕ). Carries s.run.graph nodes going.followed.deltas (told_by s.run o)) (sym e)
-        (subst (λ (r : Run). Carries r.graph nodes going.followed.deltas (sent_number r.sent i)) going.run (going.at.sound.carries i))
-
   new-last : (q : ℕ) → q < length s.run.peers → IsTold sent q (slice_index_or (slice_set s.last p (Some (length s.run.sent))) q None)
   new-last q low =
-      at-set (λ (o : Option ℕ). IsTold sent q o) s.last p (Some (length s.run.sent)) None q (omega (arith, low, going.travels.nodes))
+      at-set (λ (o : Option ℕ). IsTold sent q o) s.last p (Some (length s.run.sent)) None q (omega (arith, low, travels.nodes))
       (λ e. record {
         there = omega (arith, length-push s.run.sent message);
         counted = subst (λ (m : Message). AreCountsAtMost m.counts (peer_at s.run.peers q).counts) (sym (at-last s.run.sent message no_message))
             (subst (λ (k : ℕ). AreCountsAtMost message.counts (peer_at s.run.peers k).counts) (sym e) (counts-itself message.counts));
       })
       (λ n.
-      let h = going.travels.told q low in
+      let h = travels.told q low in
       let o = slice_index_or s.last q None in
       record { there = number-more s.run message o h.there; counted = subst (λ (m : Message). AreCountsAtMost m.counts (peer_at s.run.peers q).counts) (told-more s.run message o h.there) h.counted })
 
@@ -305,10 +260,10 @@ module _ (nodes c p : ℕ) (stage : Stage) (s : Gossip) (going : IsGoing nodes s
   new-delta lawful whole earlier i low = choose (below-or-not i (length s.run.sent)) where
     choose : (i < length s.run.sent) ⊎ (length s.run.sent ≤ i) → IsDeltaTo sent (sent_number sent.sent i) (slice_index_or new_deltas i no_delta)
     choose (inl h) =
-        let d = going.travels.deltas i h in
+        let d = travels.deltas i h in
         let same = told-more s.run message d.number d.there in
         let here : sent_number s.run.sent i ≡ sent_number sent.sent i = sym (at-append s.run.sent (message ∷ []) i no_message h) in
-        let there : delta_number s i ≡ slice_index_or new_deltas i no_delta = sym (at-append s.deltas (delta_of (last_told s p) message ∷ []) i no_delta (omega (arith, h, going.travels.many))) in
+        let there : delta_number s i ≡ slice_index_or new_deltas i no_delta = sym (at-append s.deltas (delta_of (last_told s p) message ∷ []) i no_delta (omega (arith, h, travels.many))) in
         record {
           number = d.number;
           there = number-more s.run message d.number d.there;
@@ -319,10 +274,10 @@ module _ (nodes c p : ℕ) (stage : Stage) (s : Gossip) (going : IsGoing nodes s
         }
     choose (inr h) =
         let last : length s.run.sent ≡ i = omega (arith, h, low, length-push s.run.sent message) in
-        let told = (going.travels.told p member).there in
+        let told = (travels.told p member).there in
         let same = told-more s.run message number told in
         let here : message ≡ sent_number sent.sent i = sym (at-last s.run.sent message no_message) ∙ ap (λ (k : ℕ). sent_number sent.sent k) last in
-        let there : delta_of (last_told s p) message ≡ slice_index_or new_deltas i no_delta = sym (at-last s.deltas (delta_of (last_told s p) message) no_delta) ∙ ap (λ (k : ℕ). slice_index_or new_deltas k no_delta) (going.travels.many ∙ last) in
+        let there : delta_of (last_told s p) message ≡ slice_index_or new_deltas i no_delta = sym (at-last s.deltas (delta_of (last_told s p) message) no_delta) ∙ ap (λ (k : ℕ). slice_index_or new_deltas k no_delta) (travels.many ∙ last) in
         record {
           number = number;
           there = number-more s.run message number told;
@@ -332,7 +287,37 @@ module _ (nodes c p : ℕ) (stage : Stage) (s : Gossip) (going : IsGoing nodes s
           delta = sym there ∙ (λ k. delta_of (same k) (here k));
         }
 
-  pub going-post : (next : Run) → IsMessage (last_told s p) → IsMessage message → IsBefore (last_told s p) message → act c s.run (Post p) ≡ Ok next → IsGoing nodes (stage_after nodes stage (command.Send p)) (gossip_after s (Post p) next)
+  -- the message has its delta, from what the node told last
+  pub travels-post : IsMessage (last_told s p) → IsMessage message → IsBefore (last_told s p) message → Travels (gossip_after s (Post p) sent)
+  travels-post lawful whole earlier = record {
+    nodes = set-length s.last p (Some (length s.run.sent)) ∙ travels.nodes;
+    told = new-last;
+    many = omega (arith, length-push s.deltas (delta_of (last_told s p) message), length-push s.run.sent message, travels.many);
+    deltas = new-delta lawful whole earlier;
+  }
+
+module _ (nodes c p : ℕ) (stage : Stage) (s : Gossip) (going : IsGoing nodes stage s) (member : p < length s.run.peers) where
+  -- what it told last it holds still, so there is a delta from it
+  pub tells-more : Holds s.run.graph nodes going.followed.deltas (peer_at s.run.peers p).contents (peer_at s.run.peers p).counts → IsSentTo nodes s.run.graph (last_told s p) → IsBefore (last_told s p) (message_at s.run.graph (peer_at s.run.peers p))
+  tells-more holds to = record {
+    nodes = to.wide ∙ sym holds.wide;
+    counts = (going.travels.told p member).counted;
+    sources = before-from (last_told s p).sources (message_at s.run.graph (peer_at s.run.peers p)).sources (begins-by nodes s.run.graph (peer_at s.run.peers p) (last_told s p) holds.long to)
+        (holds-more s.run.graph nodes going.followed.deltas (last_told s p) (message_at s.run.graph (peer_at s.run.peers p)) (carries (slice_index_or s.last p None) refl) (sends-known s.run.graph nodes going.followed.deltas (peer_at s.run.peers p).contents (peer_at s.run.peers p).counts holds)
+        (omega (arith, to.wide, holds.wide)) (going.travels.told p member).counted);
+  } where
+    carries : (o : Option ℕ) → slice_index_or s.last p None ≡ o → Carries s.run.graph nodes going.followed.deltas (told_by s.run (slice_index_or s.last p None))
+    carries None e =
+        subst (λ (o : Option ℕ). Carries s.run.graph nodes going.followed.deltas (told_by s.run o)) (sym e)
+        (subst (λ (n : ℕ). Carries s.run.graph nodes going.followed.deltas (nothing_told n)) (sym many) (nothing-carries s.run.graph nodes going.followed.deltas)) where
+          many : length s.run.peers ≡ nodes
+          many = ap (λ (r : Run). length r.peers) (sym going.run) ∙ going.at.sound.many
+    carries (Some i) e =
+        subst (λ (o : Option ℕ). Carries s.run.graph nodes going.followed.deltas (told_by s.run o)) (sym e)
+        (subst (λ (r : Run). Carries r.graph nodes going.followed.deltas (sent_number r.sent i)) going.run (going.at.sound.carries i))
+
+  pub going-post : (next : Run) → IsMessage (last_told s p) → IsMessage (message_at s.run.graph (peer_at s.run.peers p)) → IsBefore (last_told s p) (message_at s.run.graph (peer_at s.run.peers p)) → act c s.run (Post p) ≡ Ok next
+      → IsGoing nodes (stage_after nodes stage (command.Send p)) (gossip_after s (Post p) next)
   going-post next lawful whole earlier e =
       subst (λ (r : Run). IsGoing nodes (stage_after nodes stage (command.Send p)) (gossip_after s (Post p) r)) (sym (act-effect c s.run next (Post p) e))
       (record {
@@ -343,12 +328,7 @@ module _ (nodes c p : ℕ) (stage : Stage) (s : Gossip) (going : IsGoing nodes s
           stands = ap (λ (z : Stage). stage_after nodes z (command.Send p)) going.at.stands
               ∙ (λ i. record { graph = going.followed.run.graph; marked = going.followed.marked; sent = (sym (length-push going.followed.run.sent (message_at going.followed.run.graph (peer_at going.followed.run.peers p)))) i });
         };
-        travels = record {
-          nodes = set-length s.last p (Some (length s.run.sent)) ∙ going.travels.nodes;
-          told = new-last;
-          many = omega (arith, length-push s.deltas (delta_of (last_told s p) message), length-push s.run.sent message, going.travels.many);
-          deltas = new-delta lawful whole earlier;
-        };
+        travels = travels-post s p going.travels member lawful whole earlier;
       })
 
 -- ---- what a delivery by a delta brings

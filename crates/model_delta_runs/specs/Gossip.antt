@@ -1,7 +1,6 @@
 -- A run whose messages travel as deltas: a machine beside the run, which changes nothing of it.
 use Rattle.std.specs.Prelude.{ℕ, ◌+◌, List, [], ◌∷◌, ◌++◌, length, map, sum, codes, if◌then◌else◌, Option, Some, None, is_some, Result, Ok, slice_index_or, slice_set, replicate}
 use Rattle.std.specs.Fmt.{decimal}
-use Rattle.model_states.specs.Counts.{zeros}
 use Rattle.model_graph.specs.Chain.{◌>>=◌}
 use Rattle.model_graph.specs.Graph.{Decl}
 use Rattle.model_messages.specs.Message.{Message}
@@ -13,6 +12,7 @@ use Rattle.model_world.specs.declared.stop.Stop.{Stop}
 use Rattle.model_deltas.specs.Delta.{Delta, delta_of}
 use Rattle.model_deltas.specs.Applied.{first_gap}
 use Rattle.model_deltas.specs.Spelling.{spelled_delta}
+pub use Rattle.model_deltas.specs.World.{nothing_told}
 
 -- a run, of each node the number of the message that it sent last, the delta as which each message travels, how many deliveries there were, and at how many of them the receiver knew too little for the delta
 pub record Gossip : Type 0 where
@@ -21,10 +21,6 @@ pub record Gossip : Type 0 where
   pub deltas : List Delta
   pub deliveries : ℕ
   pub gaps : ℕ
-
--- before it sent anything a node told of no update and of no source
-abbrev pub nothing_told : ℕ → Message
-nothing_told nodes = record { counts = zeros nodes; sources = [] }
 
 -- the message with a number, or nothing
 abbrev pub told_in : ℕ → List Message → Option ℕ → Message

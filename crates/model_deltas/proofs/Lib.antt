@@ -3,6 +3,10 @@ pub mod DeltaLaws
 pub mod AppliedLaws
 pub mod JoinedLaws
 pub mod WorldLaws
+pub mod BeginLaws
+pub mod RiseLaws
+pub mod WayLaws
+pub mod TellLaws
 pub mod CodecLaws
 pub mod PlaceLaws
 pub mod CountFails

@@ -12,19 +12,14 @@ use Rattle.model_graph.specs.Lawful.{shape_of}
 use Rattle.model_graph.proofs.PlaceLaws.{below-or-not}
 use Rattle.model_messages.specs.Message.{Sent, Message, source_number, sent_at}
 use Rattle.model_messages.proofs.MessageLaws.{sent-past}
-use Rattle.model_world.specs.Command.{Command}
-use Rattle.model_world.specs.World.{peer_at}
 use Rattle.model_known.specs.Delta as known
-use Rattle.model_known.specs.Follow.{Followed}
-use Rattle.model_known.specs.Holds.{IsPlaceOf, Carries}
-use Rattle.model_known.proofs.HoldLaws.{sends-known}
-use Rattle.model_known.proofs.KnownLaws.{known-larger, replica-holds, message-carries}
+use Rattle.model_known.specs.Holds.{Carries}
+use Rattle.model_known.proofs.KnownLaws.{known-larger}
 use Rattle.model_runs.proofs.SourceLaws.{source-shape, source-ordered}
 use Rattle.model_wire.specs.Lawful.{IsSource, IsSent, IsMessage}
 use Rattle.model_deltas.specs.Delta.{changed_content, changed_sources, delta_of, carried}
 use Rattle.model_deltas.specs.Applied.{Cause, first_gap, joined_sources, joined, limited, unless, applied}
 use Rattle.model_deltas.specs.Before.{AreSourcesBefore, IsBefore, AreAlike}
-use Rattle.model_deltas.specs.World.{IsMessageIn}
 use Rattle.model_deltas.proofs.ChangeLaws.{changed-onto, changed-from_nothing}
 use Rattle.model_deltas.proofs.AppliedLaws.{no-gap}
 use Rattle.model_world.proofs.StopLaws.{shifted}
@@ -165,16 +160,3 @@ module _ (g : List Decl) (nodes : ℕ) (all : List (List known.Delta)) where
 pub delta-known : (g : List Decl) (nodes : ℕ) (all : List (List known.Delta)) (before after m : Message) → Carries g nodes all before → Carries g nodes all m
     → IsMessage before → IsMessage after → IsMessage m → IsBefore before after → AreAlike m after → applied m (delta_of before after) ≡ unless (first_gap 0 m.counts before.counts) (limited (joined m after))
 delta-known g nodes all = known-delta g nodes all
-
--- ---- messages of a run
-
-carries-in : (g : List Decl) (nodes : ℕ) (commands : List Command) (f : Followed) → IsPlaceOf g nodes commands f → (m : Message) → IsMessageIn nodes f.run m → Carries f.run.graph nodes f.deltas m
-carries-in g nodes commands f place m (inl sent) = subst (Carries f.run.graph nodes f.deltas) (sym sent.1) (message-carries g nodes commands f place sent.0)
-carries-in g nodes commands f place m (inr node) =
-    subst (Carries f.run.graph nodes f.deltas) (sym node.2)
-    (sends-known f.run.graph nodes f.deltas (peer_at f.run.peers node.0).contents (peer_at f.run.peers node.0).counts (replica-holds g nodes commands f place node.0 node.1))
-
-pub delta-run : (g : List Decl) (nodes : ℕ) (commands : List Command) (f : Followed) → IsPlaceOf g nodes commands f → (before after m : Message) → IsMessageIn nodes f.run before → IsMessageIn nodes f.run m
-    → IsMessage before → IsMessage after → IsMessage m → IsBefore before after → AreAlike m after → applied m (delta_of before after) ≡ unless (first_gap 0 m.counts before.counts) (limited (joined m after))
-delta-run g nodes commands f place before after m b c =
-    known-delta f.run.graph nodes f.deltas before after m (carries-in g nodes commands f place before b) (carries-in g nodes commands f place m c)

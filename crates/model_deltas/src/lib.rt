@@ -14,4 +14,4 @@ pub use bytes::{
 };
 pub use changes::{changes_make_up_the_difference, deltas_are_within_the_format};
 pub use stuck::bytes_are_no_delta_where_they_are_stuck;
-pub use worlds::deltas_stand_for_their_messages;
+pub use worlds::{deltas_stand_for_their_messages, messages_of_a_world_go_together};
