@@ -1,3 +1,4 @@
 pub mod SourceLaws
 pub mod TravelLaws
+pub mod PlaceLaws
 pub mod RunLaws

@@ -1,5 +1,5 @@
 -- Messages of one graph: whose sources begin those of whom, and what joining them leaves.
-use Rattle.std.proofs.Common.{◌≡◌, ℕ, zero, suc, ◌+◌, ◌<◌, Bool, true, false, if◌then◌else◌, IsTrue, List, [], ◌∷◌, ◌++◌, length, map, take, drop, Some, None, refl, sym, ap, subst, ◌∙◌, arith}
+use Rattle.std.proofs.Common.{◌≡◌, ℕ, zero, suc, ◌+◌, ◌<◌, Bool, true, false, if◌then◌else◌, IsTrue, List, [], ◌∷◌, ◌++◌, length, take, drop, Some, None, refl, sym, ap, subst, ◌∙◌, arith}
 use Rattle.model_states.specs.Counts.{zeros, larger}
 use Rattle.model_states.specs.Content.{Content, least, join_contents, IsOrdered}
 use Rattle.model_states.proofs.CountLaws.{length-zeros, larger-associative, larger-idempotent}

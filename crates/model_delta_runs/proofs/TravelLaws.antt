@@ -207,17 +207,17 @@ going-take nodes c p i stage s next going e =
 pub travels-else : (c : ℕ) (s : Gossip) (a : Act) (next : Run) → Travels s → ((p : ℕ) → a ≡ Post p → ⊥) → act c s.run a ≡ Ok next → Travels (gossip_after s a next)
 travels-else c s a next t none e = subst (λ (r : Run). Travels (gossip_after s a r)) (sym (act-effect c s.run next a e)) (on a none) where
   on : (b : Act) → ((p : ℕ) → b ≡ Post p → ⊥) → Travels (gossip_after s b (effect s.run b))
-  on (Post p) no = absurd (no p refl)
-  on (Take p i) no =
+  on (Post p) never = absurd (never p refl)
+  on (Take p i) never =
       let way : Travels (with_later s (effect s.run (Take p i))) = travels-on s (effect s.run (Take p i)) t refl (peers-stay s.run (Take p i)) (counts-rise s.run (Take p i)) in
       record { nodes = way.nodes; told = way.told; many = way.many; deltas = way.deltas }
-  on (Update p x op) no = quiet-one s (Update p x op) tt t
-  on (Keep p x) no = quiet-one s (Keep p x) tt t
-  on Point no = quiet-one s Point tt t
-  on (Show p x) no = quiet-one s (Show p x) tt t
-  on (Open p x until) no = quiet-one s (Open p x until) tt t
-  on (Reach p x until) no = quiet-one s (Reach p x until) tt t
-  on (Extend d) no = quiet-one s (Extend d) tt t
+  on (Update p x op) never = quiet-one s (Update p x op) tt t
+  on (Keep p x) never = quiet-one s (Keep p x) tt t
+  on Point never = quiet-one s Point tt t
+  on (Show p x) never = quiet-one s (Show p x) tt t
+  on (Open p x until) never = quiet-one s (Open p x until) tt t
+  on (Reach p x until) never = quiet-one s (Reach p x until) tt t
+  on (Extend d) never = quiet-one s (Extend d) tt t
 
 -- ---- a send
 

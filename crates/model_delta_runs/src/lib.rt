@@ -3,4 +3,7 @@
 
 mod runs;
 
-pub use runs::{deliveries_by_deltas_bring_the_message, deltas_change_nothing_of_a_run};
+pub use runs::{
+    deliveries_by_deltas_bring_the_message, deltas_change_nothing_of_a_run,
+    messages_travel_as_deltas,
+};

@@ -3,15 +3,16 @@
 ghost use Rattle.std.specs.Prelude.{◌≡◌, ℕ, ◌<◌, ◌↔◌, List, length, Ok, Err};
 ghost use Rattle.model_graph.specs.Graph.{Decl};
 ghost use Rattle.model_messages.specs.Message.{Message};
-ghost use Rattle.model_world.specs.Command.{Script};
-ghost use Rattle.model_world.specs.Lawful.{Stage};
-ghost use Rattle.model_world.specs.World.{Run, ended, peer_at, message_at, sent_number, delivered};
+ghost use Rattle.model_world.specs.Command.{Command, Script};
+ghost use Rattle.model_world.specs.World.{Run, Act, Post, act, ended, peer_at, message_at, sent_number, delivered};
 ghost use Rattle.model_world.specs.declared.stop.Stop.{Stop};
-ghost use Rattle.model_runs.specs.Held.{IsHeld, IsSentTo};
+ghost use Rattle.model_known.specs.Follow.{Followed};
+ghost use Rattle.model_known.specs.Holds.{IsPlaceOf};
 ghost use Rattle.model_wire.specs.Lawful.{IsMessage};
 ghost use Rattle.model_deltas.specs.Applied.{first_gap, joined, limited, unless, applied};
-ghost use Rattle.model_delta_runs.specs.Gossip.{Gossip, delta_number, gossiped};
-ghost use Rattle.model_delta_runs.specs.Going.{IsGoing};
+ghost use Rattle.model_deltas.specs.Before.{IsBefore};
+ghost use Rattle.model_delta_runs.specs.Gossip.{Gossip, last_told, delta_number, gossip_after, gossip_start, gossiped};
+ghost use Rattle.model_delta_runs.specs.Going.{Travels};
 
 /// The run by deltas of a script is the script's run: it ends in the same world, or stops where that stops.
 pub fn deltas_change_nothing_of_a_run()
@@ -19,12 +20,19 @@ pub fn deltas_change_nothing_of_a_run()
     ensures stops { (g : List Decl) (script : Script) (stop : Stop) → gossiped g script ≡ Err stop ↔ ended g script ≡ Err stop }
 {}
 
-/// At each place of a lawful run the delta of a message, applied to what a node would send, is what both have together, unless there is a gap or a source would be too large; and a node that takes this holds what it would hold by the message.
+/// Each message travels as the delta from what its sender told last, or from nothing, so it is at the start, and after each act that could be done. Only a send asks for more: that what the node told last and what it tells now are within the ranges of the format, and that the one goes before the other.
+pub fn messages_travel_as_deltas()
+    ensures start { (g : List Decl) (nodes : ℕ) → Travels (gossip_start g nodes) }
+    ensures post { (c p : ℕ) (s : Gossip) (next : Run) → Travels s → p < length s.run.peers → IsMessage (last_told s p) → IsMessage (message_at s.run.graph (peer_at s.run.peers p)) → IsBefore (last_told s p) (message_at s.run.graph (peer_at s.run.peers p))
+        → act c s.run (Post p) ≡ Ok next → Travels (gossip_after s (Post p) next) }
+    ensures others { (c : ℕ) (s : Gossip) (a : Act) (next : Run) → Travels s → ((p : ℕ) → a ≡ Post p → ⊥) → act c s.run a ≡ Ok next → Travels (gossip_after s a next) }
+{}
+
+/// At each place of a lawful run the delta of a message, applied to what a node would send, is what both have together, unless there is a gap or a source would be too large; and a node that takes what it has together with a message holds what it would hold by the message.
 pub fn deliveries_by_deltas_bring_the_message()
-    ensures applied { (nodes : ℕ) (stage : Stage) (s : Gossip) (p i : ℕ) → IsGoing nodes stage s → p < nodes → i < length s.run.sent
-        → IsSentTo nodes s.run.graph (sent_number s.run.sent i)
+    ensures applied { (g : List Decl) (nodes : ℕ) (commands : List Command) (f : Followed) (s : Gossip) → IsPlaceOf g nodes commands f → f.run ≡ s.run → Travels s → (p i : ℕ) → p < nodes → i < length s.run.sent
         → IsMessage (message_at s.run.graph (peer_at s.run.peers p))
         → applied (message_at s.run.graph (peer_at s.run.peers p)) (delta_number s i) ≡ unless (first_gap 0 (peer_at s.run.peers p).counts (delta_number s i).from) (limited (joined (message_at s.run.graph (peer_at s.run.peers p)) (sent_number s.run.sent i))) }
-    ensures taken { (nodes : ℕ) (s : Gossip) (p i : ℕ) → IsHeld nodes s.run.graph (peer_at s.run.peers p) → IsMessage (message_at s.run.graph (peer_at s.run.peers p)) → IsMessage (sent_number s.run.sent i)
-        → delivered s.run.graph (joined (message_at s.run.graph (peer_at s.run.peers p)) (sent_number s.run.sent i)) (peer_at s.run.peers p) ≡ delivered s.run.graph (sent_number s.run.sent i) (peer_at s.run.peers p) }
+    ensures taken { (g : List Decl) (nodes : ℕ) (commands : List Command) (f : Followed) → IsPlaceOf g nodes commands f → (p : ℕ) (m : Message) → p < nodes → IsMessage (message_at f.run.graph (peer_at f.run.peers p)) → IsMessage m
+        → delivered f.run.graph (joined (message_at f.run.graph (peer_at f.run.peers p)) m) (peer_at f.run.peers p) ≡ delivered f.run.graph m (peer_at f.run.peers p) }
 {}

@@ -1,0 +1,57 @@
+-- What the messages of a lawful run bring as deltas, at each place.
+use Rattle.std.proofs.Common.{◌≡◌, ℕ, ◌<◌, inl, inr, List, [], length, Option, Some, None, Ok, refl, sym, ap, subst, ◌∙◌, append-nil}
+use Rattle.model_graph.specs.Graph.{Decl}
+use Rattle.model_messages.specs.Message.{Message}
+use Rattle.model_world.specs.Command.{Command}
+use Rattle.model_world.specs.World.{Run, Post, peer_at, message_at, sent_number, act}
+use Rattle.model_known.specs.Follow.{Followed}
+use Rattle.model_known.specs.Holds.{IsPlaceOf}
+use Rattle.model_known.proofs.EffectLaws.{act-effect}
+use Rattle.model_known.proofs.PlayLaws.{place-sound}
+use Rattle.model_wire.specs.Lawful.{IsMessage}
+use Rattle.model_deltas.specs.Delta.{Delta}
+use Rattle.model_deltas.specs.Applied.{first_gap, joined, limited, unless, applied}
+use Rattle.model_deltas.specs.Before.{IsBefore}
+use Rattle.model_deltas.specs.World.{IsToldAmong, IsMessageIn}
+use Rattle.model_deltas.proofs.TellLaws.{delta-world}
+use Rattle.model_deltas.proofs.WayLaws.{sent-told}
+use Rattle.model_delta_runs.specs.Gossip.{Gossip, nothing_told, told_by, last_told, delta_number, gossip_after, gossip_start}
+use Rattle.model_delta_runs.specs.Going.{IsSentNumber, Travels}
+use Rattle.model_delta_runs.proofs.TravelLaws.{travels-post, going-start}
+
+-- ---- act by act
+
+pub travels-begin : (g : List Decl) (nodes : ℕ) → Travels (gossip_start g nodes)
+travels-begin g nodes = (going-start g nodes).travels
+
+pub travels-sent : (c p : ℕ) (s : Gossip) (next : Run) → Travels s → p < length s.run.peers → IsMessage (last_told s p) → IsMessage (message_at s.run.graph (peer_at s.run.peers p)) → IsBefore (last_told s p) (message_at s.run.graph (peer_at s.run.peers p))
+    → act c s.run (Post p) ≡ Ok next → Travels (gossip_after s (Post p) next)
+travels-sent c p s next travels member lawful whole earlier e =
+    subst (λ (r : Run). Travels (gossip_after s (Post p) r)) (sym (act-effect c s.run next (Post p) e)) (travels-post s p travels member lawful whole earlier)
+
+-- ---- at a place
+
+module _ (g : List Decl) (nodes : ℕ) (commands : List Command) (f : Followed) (s : Gossip) (place : IsPlaceOf g nodes commands f) (same : f.run ≡ s.run) where
+  sent-in : (j : ℕ) → j < length s.run.sent → IsMessageIn g nodes commands (sent_number s.run.sent j)
+  sent-in j low =
+      inr (subst (λ (r : Run). IsToldAmong g nodes commands (sent_number r.sent j)) same (sent-told g nodes commands f place j (subst (λ (r : Run). j < length r.sent) (sym same) low)))
+
+  told-in : (o : Option ℕ) → IsSentNumber s.run o → IsMessageIn g nodes commands (told_by s.run o)
+  told-in None h = inl (ap nothing_told (ap (λ (r : Run). length r.peers) (sym same) ∙ (place-sound g nodes commands f place).many))
+  told-in (Some j) h = sent-in j h
+
+  abbrev mine : ℕ → Message
+  mine p = message_at s.run.graph (peer_at s.run.peers p)
+
+  mine-in : (p : ℕ) → p < nodes → IsMessageIn g nodes commands (mine p)
+  mine-in p member =
+      inr (subst (λ (r : Run). IsToldAmong g nodes commands (message_at r.graph (peer_at r.peers p))) same
+      (record { done = commands; rest = []; all = append-nil commands; at = f; place = place; node = p; member = member; is = refl }))
+
+  pub applied-place : Travels s → (p i : ℕ) → p < nodes → i < length s.run.sent → IsMessage (mine p)
+      → applied (mine p) (delta_number s i) ≡ unless (first_gap 0 (peer_at s.run.peers p).counts (delta_number s i).from) (limited (joined (mine p) (sent_number s.run.sent i)))
+  applied-place travels p i member within present =
+      let d = travels.deltas i within in
+      let by = delta-world (told_by s.run d.number) (sent_number s.run.sent i) (mine p)
+      (record { graph = g; nodes = nodes; commands = commands; at = f; place = place; earlier = told-in d.number d.there; later = sent-in i within; third = mine-in p member }) d.lawful d.whole present d.earlier in
+      subst (λ (e : Delta). applied (mine p) e ≡ unless (first_gap 0 (peer_at s.run.peers p).counts e.from) (limited (joined (mine p) (sent_number s.run.sent i)))) (sym d.delta) by
