@@ -4,3 +4,4 @@ pub mod ChangedLaws
 pub mod BegunLaws
 pub mod JoinLaws
 pub mod ReadLaws
+pub mod WorldLaws

@@ -6,7 +6,7 @@ ghost use Rattle.model_deltas.specs.Delta.{carried};
 ghost use Rattle.model_deltas.specs.Applied.{first_gap, joined_sources, joined, limited, applied};
 ghost use Rattle.model_deltas.specs.Before.{AreAlike};
 ghost use Rattle.lasp_wire.specs.Sent.{sent};
-ghost use Rattle.lasp_delta.specs.Answered.{Finds, Answers};
+ghost use Rattle.lasp_delta.specs.Answered.{Finds, Answers, AnswersInWorlds};
 
 use super::delta::Delta;
 use super::refused::DeltaRefused;
@@ -19,9 +19,20 @@ use std::alloc::{AllocError, Global};
 /// The most rows or elements of a source.
 const MOST_ROWS: u64 = 65_536;
 
-/// A message with what a delta carries. `Delta::suits` tells whether both are of one graph and of as many nodes. It is refused for a gap before all else, and then for the least source that would be too large.
+/// A message with what a delta carries. `Delta::suits` tells whether both are of one graph and of as many nodes; of messages of one world this holds. It is refused for a gap before all else, and then for the least source that would be too large.
+/// Where message and delta are of one world, the delta from one message to a later one does what the later one does: what comes of it is what the message and the later one have together, or a gap, or the source of these that is too large.
 /// It costs a share of the message's rows, and a table of each of its sets, also of one to which the delta brings nothing, unless that is short.
 pub fn apply(alloc: Global, base: &Message, delta: &Delta) -> Result<Message, DeltaRefused>
+    requires { AreAlike base.now (carried delta.now) }
+    ensures answers { Answers result (applied base.now delta.now) }
+    ensures world { AnswersInWorlds base.now delta.now result }
+{
+    base.recall();
+    apply_to(alloc, base, delta)
+}
+
+/// The same, by what applying means alone.
+fn apply_to(alloc: Global, base: &Message, delta: &Delta) -> Result<Message, DeltaRefused>
     requires { AreAlike base.now (carried delta.now) }
     ensures { Answers result (applied base.now delta.now) }
 {

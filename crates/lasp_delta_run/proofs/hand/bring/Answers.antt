@@ -21,4 +21,4 @@ take-requires g c =
 
 pub returns-in-Ok-take-clause-gap : goal.returns-in-Ok-take-clause-gap
 returns-in-Ok-take-clause-gap g c =
-    gap-told (seen g.N.Node.view g.N.Node.read c.args.driver.now) c.args.p c.args.delta.now c.in_ok-mine.mine c.in-Err.refused c.in-Some.gap c.in_ok-mine.ensures.message c.in-Err.ensures (sym c.refused_for_gap.ensures ∙ c.in-Some.is)
+    gap-told (seen g.N.Node.view g.N.Node.read c.args.driver.now) c.args.p c.args.delta.now c.in_ok-mine.mine c.in-Err.refused c.in-Some.gap c.in_ok-mine.ensures.message c.in-Err.ensures.answers (sym c.refused_for_gap.ensures ∙ c.in-Some.is)
