@@ -9,10 +9,15 @@ use Rattle.model_known.specs.Holds.{IsPlaceOf}
 use Rattle.model_known.proofs.AlikeLaws.{equal-shown, equal-printed}
 use Rattle.model_known.proofs.KnownLaws.{replica-contents}
 use Rattle.model_known.proofs.PlaceLaws.{equal-counts}
-use Rattle.model_program.specs.Places.{AreKnown, IsAlike, AreAlike}
+use Rattle.model_deltas.proofs.TellLaws.{delta-world}
+use Rattle.model_program.specs.Places.{AreKnown, IsAlike, AreAlike, DeltasStand}
 
 pub known-places : (g : List Decl) (script : Script) → AreKnown g script
 known-places g script f at p member = replica-contents g script.nodes at.done f at.place p member
+
+pub deltas-stand : (g : List Decl) (script : Script) → DeltasStand g script
+deltas-stand g script f at before after m told =
+    delta-world before after m (record { graph = g; nodes = script.nodes; commands = at.done; at = f; place = at.place; earlier = told.earlier; later = told.later; third = told.third }) told.earlier_whole told.later_whole told.third_whole told.in_order
 
 -- the first of two beginnings of a list begins the second, or the second the first
 data AreBeginnings (a c : List Command) : Type 0 where

@@ -7,7 +7,7 @@ use Rattle.model_program.specs.Follows.{Follows}
 use Rattle.model_program.specs.Plan.{Plan}
 use Rattle.model_program.specs.Program.{form, plan, IsUsageForm}
 use Rattle.model_program.specs.declared.failure.Failure.{Failure}
-use Rattle.model_program.proofs.AlikeLaws.{known-places, alike-places}
+use Rattle.model_program.proofs.AlikeLaws.{known-places, alike-places, deltas-stand}
 use Rattle.model_program.proofs.AnswerLaws.{follows-told, refused-ends, written-ends, complete-ends, quiet-ends}
 use Rattle.model_program.proofs.BackLaws.{told-cause}
 use Rattle.model_program.proofs.DirectLaws.{direct-ends}
@@ -40,6 +40,7 @@ call-answered lib words files answer out err status same later unread follows ou
   known = λ g script tells done. known-places g script;
   alike = λ g script tells done. alike-places g script;
   deltas = λ g script tells done. deltas-write lib words (view_of files) g script answer out err status tells follows ends done;
+  deltas_stand = λ g script tells done. deltas-stand g script;
   dots = λ script run tells is done. dots-writes lib words (view_of files) script run answer out err status tells (inl is) follows ends done;
   dots_unlimited = λ script run tells is done. dots-writes lib words (view_of files) script run answer out err status tells (inr is) follows ends done;
   unread = unread;

@@ -18,7 +18,7 @@ use Rattle.model_program.specs.Ends.{Writing, writing, Tells, Ends, NoFault, Mee
 use Rattle.model_program.specs.Follows.{View, view, Follows}
 use Rattle.model_program.specs.Line.{status_of, line_of}
 use Rattle.model_program.specs.Plan.{Text, IsText, Answer, Plan, told_answer}
-use Rattle.model_program.specs.Places.{AreKnown, AreAlike}
+use Rattle.model_program.specs.Places.{AreKnown, AreAlike, DeltasStand}
 use Rattle.model_program.specs.Program.{form, plan, IsUsageForm}
 use Rattle.model_program.specs.Told.{TellsRun, TellsDeltas, TellsDots}
 use Rattle.model_program.specs.declared.failure.Failure.{Failure}
@@ -134,6 +134,8 @@ pub record IsAnswered {N : Type 0} (lib : Library) (words : List (List ℕ)) (fi
   -- where the contents of both files are told, `delta` writes the report of the run, and behind it how its messages travelled
   pub deltas : (g : List Decl) (script : Script) → TellsDeltas lib (files.content files.before) words g script → status ≡ 0
       → (s : Gossip) × (gossiped g script ≡ Ok s) × (ended g script ≡ Ok s.run) × Appends out.before (report_of s.run ++ delta_line s) out.after
+  -- of such a run: a delta between messages that nodes told, at any places, brings a node what its later message brings, or a gap is told, or the source that would be too large
+  pub deltas_stand : (g : List Decl) (script : Script) → TellsDeltas lib (files.content files.before) words g script → status ≡ 0 → DeltasStand g script
   -- where the contents of the script are told, `dots` writes the report of its run over one set, and how many live rows each node's set has: of the run that comes to its end, and of any as if no limit stopped it
   pub dots : (script : Script) (run : Run) → TellsDots lib (files.content files.before) words script → ended one_set script ≡ Ok run → status ≡ 0 → Appends out.before (report_of run ++ live_lines 0 run.peers) out.after
   pub dots_unlimited : (script : Script) (run : Run) → TellsDots lib (files.content files.before) words script → run ≡ unlimited (start one_set script.nodes) script.commands → status ≡ 0

@@ -2,12 +2,16 @@
 use Rattle.std.specs.Prelude.{◌≡◌, ◌<◌, ◌++◌, ℕ, List}
 use Rattle.model_graph.specs.Graph.{Decl, kind_at}
 use Rattle.model_graph.specs.Evaluation.{content_at}
+use Rattle.model_messages.specs.Message.{Message}
+use Rattle.model_wire.specs.Lawful.{IsMessage}
 use Rattle.model_world.specs.Command.{Command, Script}
 use Rattle.model_world.specs.Line.{shown_content}
 use Rattle.model_world.specs.World.{peer_at, shown_at}
 use Rattle.model_known.specs.Delta.{known_contents}
 use Rattle.model_known.specs.Follow.{Followed}
 use Rattle.model_known.specs.Holds.{IsPlaceOf}
+use Rattle.model_deltas.specs.Before.{IsBefore}
+use Rattle.model_deltas.specs.World.{IsMessageIn, DeltaStandsFor}
 
 -- the place behind some first commands of the script
 pub record IsPlaceIn (g : List Decl) (script : Script) (f : Followed) : Type 0 where
@@ -32,3 +36,17 @@ pub record IsAlike (f last : Followed) (p q : ℕ) : Type 0 where
 abbrev pub AreAlike : List Decl → Script → Type 0
 AreAlike g script = (f last : Followed) → IsPlaceIn g script f → IsPlaceIn g script last → f.run.graph ≡ last.run.graph
     → (p q : ℕ) → p < script.nodes → q < script.nodes → (peer_at f.run.peers p).counts ≡ (peer_at last.run.peers q).counts → IsAlike f last p q
+
+-- three messages that nodes told on the way to a place, of which a delta may lead from the first to the second: all within the ranges of the format, and the first goes before the second
+pub record AreToldThere (g : List Decl) (nodes : ℕ) (commands : List Command) (before after m : Message) : Type 0 where
+  pub earlier : IsMessageIn g nodes commands before
+  pub later : IsMessageIn g nodes commands after
+  pub third : IsMessageIn g nodes commands m
+  pub earlier_whole : IsMessage before
+  pub later_whole : IsMessage after
+  pub third_whole : IsMessage m
+  pub in_order : IsBefore before after
+
+-- at each place a delta between messages that nodes told on the way does to a third of these what its later message does
+abbrev pub DeltasStand : List Decl → Script → Type 0
+DeltasStand g script = (f : Followed) (at : IsPlaceIn g script f) (before after m : Message) → AreToldThere g script.nodes at.done before after m → DeltaStandsFor before after m
