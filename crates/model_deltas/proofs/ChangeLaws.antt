@@ -14,6 +14,7 @@ use Rattle.model_states.specs.Counts.{count_at, larger, AreCountsAtMost}
 use Rattle.model_states.specs.Register.{later, IsNotLater}
 use Rattle.model_states.specs.Content.{Content, least, join_contents, content_mark, IsContentAtMost, IsOrdered}
 use Rattle.model_states.proofs.ContentLaws.{order-parts, same_from_content_mark, content_mark-join, content_mark-least, ordered-join, counts-join}
+use Rattle.model_graph.proofs.PlaceLaws.{equal-numbers}
 use Rattle.model_deltas.specs.Delta.{new_values, changed_counts, changed_top, changed_content}
 
 -- ---- rows
@@ -50,16 +51,19 @@ values-joined s t up within = same_from_held (unite s (new_values s t)) t (ascen
 
 -- ---- counts
 
-pub counts-changed : (s t : List ℕ) (node : ℕ) → count_at (changed_counts s t) node ≢ 0 → (count_at (changed_counts s t) node ≡ count_at t node) × (count_at s node ≢ count_at t node)
-counts-changed [] t node h = (refl, λ same. h (sym same))
-counts-changed (c ∷ s) [] node h = absurd (h refl)
-counts-changed (c ∷ s) (d ∷ t) zero h = choose (c == d) refl h where
-  choose : (b : Bool) → (c == d) ≡ b → cond b 0 d ≢ 0 → (cond b 0 d ≡ d) × (c ≢ d)
-  choose true e n = absurd (n refl)
-  choose false e n = (refl, λ same. grind (arith, nat_tests, e, same))
-counts-changed (c ∷ s) (d ∷ t) (suc node) h = counts-changed s t node h
+counts-changed : (s t : List ℕ) (node : ℕ) → count_at (changed_counts s t) node ≡ (if count_at s node == count_at t node then 0 else count_at t node)
+counts-changed [] t node = choose (0 == count_at t node) (count_at t node) refl where
+  choose : (b : Bool) (n : ℕ) → (0 == n) ≡ b → n ≡ (if b then 0 else n)
+  choose true n e = sym (equal-numbers 0 n e)
+  choose false n e = refl
+counts-changed (c ∷ s) [] node = choose (count_at (c ∷ s) node == 0) 0 where
+  choose : (b : Bool) (n : ℕ) → n ≡ (if b then n else n)
+  choose true n = refl
+  choose false n = refl
+counts-changed (c ∷ s) (d ∷ t) zero = refl
+counts-changed (c ∷ s) (d ∷ t) (suc node) = counts-changed s t node
 
-pub content_counts-changed : (s t : Content) (node : ℕ) → count_at (changed_content s t).counts node ≢ 0 → (count_at (changed_content s t).counts node ≡ count_at t.counts node) × (count_at s.counts node ≢ count_at t.counts node)
+pub content_counts-changed : (s t : Content) (node : ℕ) → count_at (changed_content s t).counts node ≡ (if count_at s.counts node == count_at t.counts node then 0 else count_at t.counts node)
 content_counts-changed s t node = counts-changed s.counts t.counts node
 
 pub length-changed_counts : (s t : List ℕ) → length (changed_counts s t) ≡ length t
@@ -80,7 +84,7 @@ counts-joined (c ∷ s) (d ∷ t) long a = λ i. choose (c == d) refl i ∷ coun
 is-same : (m n : ℤ) → int_eq m n ≡ true → m ≡ n
 is-same m n e = (Decides-int_eq m n).0 e
 
-pub top-changed : (s t : Option ℤ) (n : ℤ) → changed_top s t ≡ Some n → (t ≡ Some n) × (s ≢ Some n)
+top-changed : (s t : Option ℤ) (n : ℤ) → changed_top s t ≡ Some n → (t ≡ Some n) × (s ≢ Some n)
 top-changed None t n h = (h, λ e. absurd cc)
 top-changed (Some m) None n h = absurd cc
 top-changed (Some m) (Some k) n h = choose (int_eq m k) refl h where
@@ -93,8 +97,16 @@ top-changed (Some m) (Some k) n h = choose (int_eq m k) refl h where
     differ : m ≡ k → ⊥
     differ is = clash (sym ((Decides-int_eq m k).1 is) ∙ e)
 
-pub content_top-changed : (s t : Content) (n : ℤ) → (changed_content s t).top ≡ Some n → (t.top ≡ Some n) × (s.top ≢ Some n)
-content_top-changed s t n = top-changed s.top t.top n
+top-told : (s t : Option ℤ) (n : ℤ) → t ≡ Some n → s ≢ Some n → changed_top s t ≡ Some n
+top-told None t n is other = is
+top-told (Some m) None n is other = absurd cc
+top-told (Some m) (Some k) n is other = choose (int_eq m k) refl where
+  choose : (b : Bool) → int_eq m k ≡ b → cond b None (Some k) ≡ Some n
+  choose true e = absurd (other (ap Some (is-same m k e) ∙ is))
+  choose false e = is
+
+pub content_top-changed : (s t : Content) (n : ℤ) → (changed_content s t).top ≡ Some n ↔ ((t.top ≡ Some n) × (s.top ≢ Some n))
+content_top-changed s t n = (top-changed s.top t.top n, λ h. top-told s.top t.top n h.0 h.1)
 
 top-joined : (s t : Option ℤ) → IsNotLater s t → later s (changed_top s t) ≡ t
 top-joined None t h = refl

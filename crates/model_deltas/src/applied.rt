@@ -1,7 +1,7 @@
 //! What comes of applying a delta, cause by cause.
 
-ghost use Rattle.std.specs.Prelude.{◌≡◌, ℕ, ◌↔◌, Ok, Err};
-ghost use Rattle.model_states.specs.Counts.{AreCountsAtMost};
+ghost use Rattle.std.specs.Prelude.{◌≡◌, ℕ, ◌↔◌, Ok, Err, length, max};
+ghost use Rattle.model_states.specs.Counts.{count_at, AreCountsAtMost};
 ghost use Rattle.model_states.specs.Content.{join_contents};
 ghost use Rattle.model_graph.specs.Limit.{AreWithinLimit, IsFirstLarge};
 ghost use Rattle.model_messages.specs.Message.{Message, sent_at};
@@ -17,8 +17,10 @@ pub fn causes_of_refusals()
     ensures done { (m n : Message) (d : Delta) → applied m d ≡ Ok n ↔ (AreCountsAtMost d.from m.counts × AreWithinLimit (contents_of (joined m (carried d))) × (joined m (carried d) ≡ n)) }
 {}
 
-/// What two messages have together: of each source the join of what they have of it, of which one that lacks the source has the least. A message to which a delta was applied is a message again.
+/// What two messages have together: of each replica the larger count, as many sources as the one with more has, and of each source the join of what they have of it, of which one that lacks the source has the least. A message to which a delta was applied is a message again.
 pub fn applied_messages_are_messages()
+    ensures counts { (m n : Message) (q : ℕ) → count_at (joined m n).counts q ≡ max (count_at m.counts q) (count_at n.counts q) }
+    ensures length { (m n : Message) → length (joined m n).sources ≡ max (length m.sources) (length n.sources) }
     ensures sources { (m n : Message) (i : ℕ) → IsMessage m → IsMessage n → sent_at (joined m n).sources i ≡ join_contents (sent_at m.sources i) (sent_at n.sources i) }
     ensures lawful { (m n : Message) (d : Delta) → IsMessage m → IsDelta d → AreAlike m (carried d) → applied m d ≡ Ok n → IsMessage n }
 {}

@@ -1,6 +1,6 @@
 //! What a delta carries.
 
-ghost use Rattle.std.specs.Prelude.{◌≡◌, ◌≢◌, ℕ, ℤ, ◌≤◌, ◌<◌, ◌↔◌, length, nat_lt, if◌then◌else◌, Option, Some, None};
+ghost use Rattle.std.specs.Prelude.{◌≡◌, ◌≢◌, ℕ, ℤ, ◌≤◌, ◌<◌, ◌↔◌, ◌==◌, length, nat_lt, if◌then◌else◌, Option, Some, None};
 ghost use Rattle.model_values.specs.Value.{Val};
 ghost use Rattle.model_values.specs.Token.{Tok};
 ghost use Rattle.model_sets.specs.Rows.{mark};
@@ -17,8 +17,8 @@ ghost use Rattle.model_deltas.specs.Before.{IsBefore, IsDelta};
 pub fn changes_make_up_the_difference()
     ensures rows { (s t : Content) (v : Val) (w : Tok) → mark (changed_content s t).rows v w ≡ (if nat_lt (mark s.rows v w) (mark t.rows v w) then mark t.rows v w else 0) }
     ensures values { (s t : Content) (v : Val) → IsHeld (changed_content s t).values v ↔ (IsHeld t.values v × (IsHeld s.values v → ⊥)) }
-    ensures counts { (s t : Content) (node : ℕ) → count_at (changed_content s t).counts node ≢ 0 → (count_at (changed_content s t).counts node ≡ count_at t.counts node) × (count_at s.counts node ≢ count_at t.counts node) }
-    ensures top { (s t : Content) (n : ℤ) → (changed_content s t).top ≡ Some n → (t.top ≡ Some n) × (s.top ≢ Some n) }
+    ensures counts { (s t : Content) (node : ℕ) → count_at (changed_content s t).counts node ≡ (if count_at s.counts node == count_at t.counts node then 0 else count_at t.counts node) }
+    ensures top { (s t : Content) (n : ℤ) → (changed_content s t).top ≡ Some n ↔ ((t.top ≡ Some n) × (s.top ≢ Some n)) }
     ensures joined { (s t : Content) → IsOrdered t → length s.counts ≤ length t.counts → IsContentAtMost s t → join_contents s (changed_content s t) ≡ t }
     ensures ordered { (s t : Content) → IsOrdered t → IsOrdered (changed_content s t) }
 {}
