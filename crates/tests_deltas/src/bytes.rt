@@ -85,6 +85,38 @@ fn is_gap(made: Option<Result<Vec<u8>, DeltaRefused>>, known: u64, after: u64) -
     }
 }
 
+/// A delta that brings the number 65,536 to a grow-only set `g` of one node.
+const ONE_MORE: &[u8; 39] =
+    b"LASD\x01\x01\0\0\0\0\0\0\0\0\0\0\0\0\0\0\0\x01\x01\x01g\x02\0\0\0\x01\0\0\0\0\0\0\x01\0\0";
+
+/// A message of a node that has the first so many numbers in such a set, and counted nothing.
+fn of_numbers(alloc: Global, many: u32) -> Result<Vec<u8>, WireRefused> {
+    let mut bytes = Vec::new(alloc);
+    bytes.extend_from_slice(b"LASP\x02\x01\0\0\0\0\0\0\0\0\x01\x01g\x02")?;
+    bytes.extend_from_slice(&many.to_be_bytes())?;
+    for n in 0..many {
+        bytes.push(0)?;
+        bytes.extend_from_slice(&u64::from(n).to_be_bytes())?;
+    }
+    Ok(bytes)
+}
+
+/// Whether a delta was applied.
+fn is_applied(made: Option<Result<Vec<u8>, DeltaRefused>>) -> bool {
+    match made {
+        Some(Ok(_)) => true,
+        _ => false,
+    }
+}
+
+/// Whether a delta was refused since the first source would be too large.
+fn is_too_large(made: Option<Result<Vec<u8>, DeltaRefused>>) -> bool {
+    match made {
+        Some(Err(DeltaRefused::TooManyRows(source))) => source == 0,
+        _ => false,
+    }
+}
+
 #[test]
 fn a_delta_brings_a_message_to_the_later_one_or_tells_of_a_gap(
     rt: HostRuntime,
@@ -94,5 +126,14 @@ fn a_delta_brings_a_message_to_the_later_one_or_tells_of_a_gap(
     assert!(rt; is_gap(applied(rt.alloc(), NOTHING, DELTA)?, 0, 1));
     assert!(rt; is_spelled(rt.alloc(), OF_TWO, OF_TWO, NOTHING_MORE)?);
     assert!(rt; is_made(applied(rt.alloc(), OF_TWO, NOTHING_MORE)?, OF_TWO));
+    Ok(())
+}
+
+#[test]
+fn a_delta_that_makes_a_source_too_large_is_refused(rt: HostRuntime) -> Result<(), Fail> {
+    let room = of_numbers(rt.alloc(), 65_535)?;
+    assert!(rt; is_applied(applied(rt.alloc(), room.as_slice(), ONE_MORE)?));
+    let full = of_numbers(rt.alloc(), 65_536)?;
+    assert!(rt; is_too_large(applied(rt.alloc(), full.as_slice(), ONE_MORE)?));
     Ok(())
 }
