@@ -18,7 +18,7 @@ use Rattle.model_wire.specs.Lawful.{IsNodes, IsSource, IsSent, IsMessage}
 use Rattle.model_runs.proofs.EachLaws.{each-larger}
 use Rattle.model_runs.proofs.SourceLaws.{source-join}
 use Rattle.model_deltas.specs.Delta.{changed_content, changed_source, changed_sources}
-use Rattle.model_deltas.specs.Applied.{Cause, Gap, TooManyRows, first_gap, joined_source, joined_sources, small_or, limited}
+use Rattle.model_deltas.specs.Applied.{Gap, TooManyRows, first_gap, joined_source, joined_sources, small_or, limited}
 use Rattle.model_deltas.specs.Before.{AreSourcesAlike}
 use Rattle.model_deltas.proofs.ChangeLaws.{changed-from_nothing}
 use Rattle.lasp_state.specs.declared.state.State.{State}

@@ -1,15 +1,13 @@
 -- States by their kinds and shapes.
-use Rattle.std.proofs.Common.{◌≡◌, ◌≢◌, ℕ, length, refl, sym, ap, subst, ◌∙◌}
+use Rattle.std.proofs.Common.{◌≡◌, ◌≢◌, ℕ, refl, sym, ap, ◌∙◌}
 use Rattle.model_states.specs.Threshold.{Shape, set, grow, counter, register, fold}
-use Rattle.model_states.specs.Content.{Content}
 use Rattle.model_graph.specs.Graph.{Kind, OrSet, GSet, Counter, MaxReg, Union}
 use Rattle.model_graph.specs.Lawful.{shape_of as shape_of_kind}
-use Rattle.model_messages.specs.Message.{Sent}
-use Rattle.model_wire.specs.Lawful.{IsSource, IsSent}
+use Rattle.model_wire.specs.Lawful.{IsSource}
 use Rattle.lasp_state.specs.declared.state.State.{State}
 use Rattle.lasp_state.specs.declared.state.State.TheVariants as state
 use Rattle.lasp_state.specs.State.{content_of, shape_of, AreJoinable}
-use Rattle.lasp_wire.specs.Sent.{kind_of, sent}
+use Rattle.lasp_wire.specs.Sent.{kind_of}
 
 -- the kind of a state of a shape
 abbrev kind_at_shape : Shape → Kind

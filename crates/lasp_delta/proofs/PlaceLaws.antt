@@ -1,5 +1,5 @@
 -- Sources by their places, and relations of sources that go place by place.
-use Rattle.std.proofs.Common.{◌≡◌, ◌↔◌, ℕ, zero, suc, ◌+◌, ◌≤◌, ◌<◌, ◌⊎◌, inl, inr, min, List, [], ◌∷◌, ◌++◌, length, drop, Option, Some, None, sym, ap, subst, ◌∙◌, arith}
+use Rattle.std.proofs.Common.{◌≡◌, ◌↔◌, ℕ, zero, suc, ◌+◌, ◌≤◌, ◌<◌, ◌⊎◌, inl, inr, min, List, [], ◌∷◌, length, drop, Option, Some, None, sym, ap, subst, ◌∙◌, arith}
 use Rattle.std.specs.Prelude.{slice_get}
 use Rattle.std.specs.Option.{option_map}
 use Rattle.std.proofs.lemmas.Option.{get_or_from_slice_get}
@@ -14,7 +14,7 @@ use Rattle.model_deltas.specs.Delta.{changed_source, changed_sources}
 use Rattle.model_deltas.specs.Applied.{joined_source, joined_sources}
 use Rattle.model_deltas.specs.Before.{AreSourcesBefore, AreSourcesAlike}
 use Rattle.lasp_state.specs.declared.state.State.{State}
-use Rattle.lasp_wire.specs.Sent.{kind_of, held_of, held_in, sent}
+use Rattle.lasp_wire.specs.Sent.{held_of, held_in, sent}
 
 -- what stands at a place of counts
 pub count-is : (counts : List ℕ) (i n : ℕ) → slice_get counts i ≡ Some n → count_at counts i ≡ n
