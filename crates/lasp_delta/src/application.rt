@@ -38,9 +38,20 @@ fn apply_to(alloc: Global, base: &Message, delta: &Delta) -> Result<Message, Del
 {
     base.recall();
     delta.recall();
-    match check_gap(base.counts(), delta.from()) {
+    match delta.check_gap(base.counts()) {
         Ok(()) => join_messages(alloc, base, delta.carried()),
         Err(gap) => Err(gap),
+    }
+}
+
+impl Delta {
+    /// Refuses counts that tell of too few updates for the delta, by the first replica of which fewer are counted than it goes on from. Where it accepts those of a replica, what the delta carries brings that replica what the later message would.
+    pub fn check_gap(&self, counts: &Counts) -> Result<(), DeltaRefused>
+        requires { length counts.now ≡ length self.now.from }
+        ensures { Finds result (first_gap 0 counts.now self.now.from) }
+    {
+        self.recall();
+        check_gap(counts, self.from())
     }
 }
 

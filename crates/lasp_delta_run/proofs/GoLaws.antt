@@ -41,45 +41,10 @@ does-acts c d e all (Err why) h = h.halts
 pub did-ask : (c p : ℕ) (d : DriverView) (n new : NodeView) → Stands c d → slice_get d.nodes p ≡ Some n → OnlyLearns n new → Did c d [] (with_nodes d (slice_set d.nodes p new))
 did-ask c p d n new ready at learned = did-acted c d (with_nodes d (slice_set d.nodes p new)) [] (acted-learns c p d n new ready at learned)
 
--- a node that took what brings it the same as a message
-pub did-take : (c p i : ℕ) (d : DriverView) (n new : NodeView) (m : Message) → Stands c d → MayDo c d (Take p i) → slice_get d.nodes p ≡ Some n → IsStill n new
-    → delivered d.graph m (peer_at (peers_of d.nodes) p) ≡ delivered d.graph (sent_number d.sent i) (peer_at (peers_of d.nodes) p)
-    → new.peer ≡ delivered n.decls m n.peer → first_large 0 (delivered n.decls m n.peer).contents ≡ None → Grew n new → Did c d (Take p i ∷ []) (with_nodes d (slice_set d.nodes p new))
-did-take c p i d n new m ready may at still same is small grew =
-    let here : IsNode d.graph (length d.nodes) p n = ready.nodes p n at in
-    let nodes = slice_set d.nodes p new in
-    let there : delivered n.decls m n.peer ≡ delivered n.decls (sent_number d.sent i) n.peer =
-    subst (λ (r : Peer). delivered n.decls m r ≡ delivered n.decls (sent_number d.sent i) r) (peer-here d.nodes p n at)
-    (subst (λ (g : List Decl). delivered g m (peer_at (peers_of d.nodes) p) ≡ delivered g (sent_number d.sent i) (peer_at (peers_of d.nodes) p)) (sym here.graph) same) in
-    let done = deliver-done (run_of d) (sent_number d.sent i) (sent_number d.sent i) d.nodes c p n new refl here.graph refl at (is ∙ there) (ap (λ (r : Peer). first_large 0 r.contents) (sym there) ∙ small) in
-    let size : length nodes ≡ length d.nodes = length-set d.nodes p new in
-    let sound : IsSound (length d.nodes) c (stage_of d) (with_peers (run_of d) (peers_of nodes)) =
-    sound-take (length d.nodes) c p i (stage_of d) (run_of d) (with_peers (run_of d) (peers_of nodes)) ready.sound may.0 may.1 done in
-    record {
-      ready = record {
-        some = omega (arith, ready.some, size);
-        few = omega (arith, ready.few, size);
-        nodes = subst (λ (many : ℕ). AreNodes d.graph many nodes) (sym size) (nodes-set d.graph (length d.nodes) d.nodes p new ready.nodes (node-stays d.graph (length d.nodes) p n new here still));
-        limit = ready.limit;
-        sound = subst (λ (many : ℕ). IsSound many c (stage_of d) (with_peers (run_of d) (peers_of nodes))) (sym size) sound;
-        known = subst (λ (many : ℕ). IsRunKnown many (with_peers (run_of d) (peers_of nodes))) (sym size) (known-take (length d.nodes) c (run_of d) (with_peers (run_of d) (peers_of nodes)) ready.known p i done);
-        waiting = all-called c p d.nodes d.reads n new at grew ready.waiting;
-      };
-      size = size;
-      stage = refl;
-      run = ap (λ (r : Result Run Stop). r >>= (λ next. each c next [])) done;
-    }
-
--- such a message that makes a variable too large stops the world
-pub halts-take : (c p i x : ℕ) (d : DriverView) (n : NodeView) (m : Message) → n.decls ≡ d.graph → slice_get d.nodes p ≡ Some n
-    → delivered d.graph m (peer_at (peers_of d.nodes) p) ≡ delivered d.graph (sent_number d.sent i) (peer_at (peers_of d.nodes) p)
+-- a message that makes a variable too large stops the world
+pub halts-take : (c p i x : ℕ) (d : DriverView) (n : NodeView) (m : Message) → n.decls ≡ d.graph → slice_get d.nodes p ≡ Some n → m ≡ sent_number d.sent i
     → first_large 0 (delivered n.decls m n.peer).contents ≡ Some x → Halts (each c (run_of d) (Take p i ∷ [])) (halt.TooLarge c p x)
-halts-take c p i x d n m graph at same large =
-    let there : delivered n.decls m n.peer ≡ delivered n.decls (sent_number d.sent i) n.peer =
-    subst (λ (r : Peer). delivered n.decls m r ≡ delivered n.decls (sent_number d.sent i) r) (peer-here d.nodes p n at)
-    (subst (λ (g : List Decl). delivered g m (peer_at (peers_of d.nodes) p) ≡ delivered g (sent_number d.sent i) (peer_at (peers_of d.nodes) p)) (sym graph) same) in
-    halts-one c (run_of d) (Take p i) (halt.TooLarge c p x)
-    (deliver-stops (run_of d) (sent_number d.sent i) (sent_number d.sent i) d.nodes c p x n graph refl at (ap (λ (r : Peer). first_large 0 r.contents) (sym there) ∙ large))
+halts-take c p i x d n m graph at same large = halts-one c (run_of d) (Take p i) (halt.TooLarge c p x) (deliver-stops (run_of d) m (sent_number d.sent i) d.nodes c p x n graph same at large)
 
 -- acts behind a driver that was only asked
 pub did-asked : {A : Type 0} (c : ℕ) (d e f : DriverView) (all : List Act) (result : Result A Halt) → Did c d [] e → DoesSeen c e all result f → DoesSeen c d all result f

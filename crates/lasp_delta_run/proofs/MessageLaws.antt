@@ -17,6 +17,7 @@ use Rattle.model_world.specs.declared.stop.Stop.{Stop}
 use Rattle.model_known.specs.Holds.{Holds}
 use Rattle.model_known.proofs.EffectLaws.{effect, act-effect}
 use Rattle.model_runs.specs.Held.{IsHeld, IsSentTo, IsSentSource}
+use Rattle.model_runs.specs.Part.{BringsAsMuch}
 use Rattle.model_wire.specs.Lawful.{IsSent, IsMessage}
 use Rattle.model_deltas.specs.Delta.{Delta, delta_of, carried}
 use Rattle.model_deltas.specs.Applied.{Gap, TooManyRows, Cause, first_gap, contents_of, joined, small_or, limited, unless, applied}
@@ -28,16 +29,16 @@ use Rattle.model_deltas.proofs.AppliedLaws.{no-gap, gap-words, cause-gap, cause-
 use Rattle.model_delta_runs.specs.Gossip.{Gossip, nothing_told, told_by, last_told, delta_number, gap_at, gossip_after, gossip_each, delta_size}
 use Rattle.model_delta_runs.specs.Going.{IsSentNumber}
 use Rattle.model_delta_runs.proofs.SourceLaws.{begins-by, decls-joined, taken-twice}
-use Rattle.model_delta_runs.proofs.TravelLaws.{tells-more, going-post, going-take, applied-delta, alike-delta}
+use Rattle.model_delta_runs.proofs.TravelLaws.{tells-more, going-post, going-take, delta-wide, brings-delta}
 use Rattle.lasp_drive.specs.Node.{NodeView}
 use Rattle.lasp_drive.specs.Driver.{DriverView, run_of, stage_of, Stands}
 use Rattle.lasp_drive.specs.Acts.{Acted, MayDo}
 use Rattle.lasp_drive.proofs.NodeLaws.{sent-read}
 use Rattle.lasp_delta_run.specs.Seen.{DeltaView, gossip_of, IsUnderWay}
-use Rattle.lasp_delta.specs.Answered.{HasCause}
+use Rattle.lasp_delta.specs.Answered.{IsGap}
 use Rattle.lasp_delta.specs.declared.refused.DeltaRefused.{DeltaRefused}
 use Rattle.lasp_delta.specs.declared.refused.DeltaRefused.TheVariants as refused
-use Rattle.lasp_delta_run.specs.Acts.{Did, BringsTheSame, StandsFor, knows_too_little, refused_for_gap, Went}
+use Rattle.lasp_delta_run.specs.Acts.{Did, BringsTheSame, StandsFor, knows_too_little, Went}
 use Rattle.lasp_delta_run.proofs.GoLaws.{act-one, going-in, run-asked}
 use Rattle.std.proofs.lemmas.List.{length-map, take_more}
 use Rattle.std.proofs.lemmas.Option.{slice_get_read, get_or_from_slice_get}
@@ -110,73 +111,18 @@ went-post c p d e delta under_way member lawful whole acted is =
 
 -- ---- a delivery
 
--- the delta of a message may be applied to what the node would send
-pub alike-there : (c p i : ℕ) (d : DeltaView) → IsUnderWay c d → p < length d.driver.nodes → i < length d.driver.sent → AreAlike (message_in d.driver p) (carried (delta_number (gossip_of d) i))
-alike-there c p i d under_way member within = alike-delta (length d.driver.nodes) (stage_of d.driver) (gossip_of d) p i under_way.going member within (under_way.ready.sound.sent i within)
-
--- what was made of it
-pub applied-there : (c p i : ℕ) (d : DeltaView) → IsUnderWay c d → p < length d.driver.nodes → i < length d.driver.sent → IsMessage (message_in d.driver p)
-    → applied (message_in d.driver p) (delta_number (gossip_of d) i) ≡ unless (first_gap 0 (peer_at (run_of d.driver).peers p).counts (delta_number (gossip_of d) i).from) (limited (joined (message_in d.driver p) (sent_number d.driver.sent i)))
-applied-there c p i d under_way member within present =
-    applied-delta (length d.driver.nodes) (stage_of d.driver) (gossip_of d) p i under_way.going member within (under_way.ready.sound.sent i within) present
-
-limited-is : (m n : Message) → limited m ≡ Ok n → m ≡ n
-limited-is m n e = choose (first_large 0 (contents_of m)) refl e where
-  choose : (o : Option ℕ) → first_large 0 (contents_of m) ≡ o → small_or m o ≡ Ok n → m ≡ n
-  choose None is h = cc
-  choose (Some x) is h = absurd cc
-
-unless-is : (o : Option Cause) (r : Result Message Cause) (n : Message) → unless o r ≡ Ok n → r ≡ Ok n
-unless-is None r n e = e
-unless-is (Some cause) r n e = absurd cc
-
--- what both have together brings the node what the message brings it
-pub brings-same : (c p i : ℕ) (d : DeltaView) (both : Message) → IsUnderWay c d → p < length d.driver.nodes → i < length d.driver.sent → IsMessage (message_in d.driver p) → IsMessage both
-    → applied (message_in d.driver p) (delta_number (gossip_of d) i) ≡ Ok both → BringsTheSame d.driver p i both
-brings-same c p i d both under_way member within present done e =
-    let n = length d.driver.nodes in
-    let r = peer_at (run_of d.driver).peers p in
-    let m = sent_number d.driver.sent i in
-    let held : IsHeld n d.driver.graph r = under_way.ready.sound.held p member in
-    let to : IsSentTo n d.driver.graph m = under_way.ready.sound.sent i within in
-    let is : joined (message_in d.driver p) m ≡ both =
-    limited-is (joined (message_in d.driver p) m) both (unless-is (first_gap 0 r.counts (delta_number (gossip_of d) i).from) (limited (joined (message_in d.driver p) m)) both (sym (applied-there c p i d under_way member within present) ∙ e)) in
-    let wide : length both.counts ≡ n = ap (λ (x : Message). length x.counts) (sym is) ∙ omega (arith, length-larger r.counts m.counts, held.wide, to.wide) in
-    record {
-      sent = record {
-        wide = wide;
-        declared = length d.driver.graph;
-        sources = ap (λ (x : Message). map (λ s. s.decl) x.sources) (sym is) ∙ decls-joined (message_in d.driver p).sources m.sources (begins-by n d.driver.graph r m held.long to) ∙ sent-among d.driver.graph r.contents held.long
-            ∙ ap sources_among (all-taken d.driver.graph);
-        each = each-source n both.sources (subst (λ (k : ℕ). AllByRecursion (IsSent k) both.sources) wide done.sources);
-      };
-      same = ap (λ (x : Message). delivered d.driver.graph x r) (sym is) ∙ taken-twice n d.driver.graph r m held present (under_way.going.travels.deltas i within).whole;
-    } where
-      all-taken : (g : List Decl) → g ≡ take (length g) g
-      all-taken [] = refl
-      all-taken (x ∷ g) = ap (λ (h : List Decl). x ∷ h) (all-taken g)
-
-      each-source : (n : ℕ) (sources : List Sent) → AllByRecursion (IsSent n) sources → AllByRecursion (IsSentSource n) sources
-      each-source n [] h = tt
-      each-source n (s ∷ sources) h = (h.0.1, each-source n sources h.1)
-
 -- ---- whether there was a gap
 
-pub no-gap-done : (d : DriverView) (p : ℕ) (delta : Delta) (mine both : Message) → mine ≡ message_in d p → applied mine delta ≡ Ok both → false ≡ knows_too_little d p delta
-no-gap-done d p delta mine both is e =
-    let here : applied (message_in d p) delta ≡ Ok both = ap (λ (m : Message). applied m delta) (sym is) ∙ e in
-    sym (ap (λ (o : Option Cause). is_some o) ((no-gap (peer_at (run_of d).peers p).counts delta.from).1 ((cause-done (message_in d p) both delta).0 here).0))
+pub none-told : (d : DriverView) (p : ℕ) (delta : Delta) (counts : List ℕ) → counts ≡ (peer_at (run_of d).peers p).counts → first_gap 0 counts delta.from ≡ None → false ≡ knows_too_little d p delta
+none-told d p delta counts is none = sym (ap (λ (cs : List ℕ). is_some (first_gap 0 cs delta.from)) (sym is) ∙ ap (λ (o : Option Cause). is_some o) none)
 
-pub gap-told : (d : DriverView) (p : ℕ) (delta : Delta) (mine : Message) (refused : DeltaRefused) (gap : Bool) → mine ≡ message_in d p → HasCause refused (applied mine delta) → refused_for_gap refused ≡ Some gap → gap ≡ knows_too_little d p delta
-gap-told d p delta mine (refused.Gap q have need) gap is e told =
-    let here : applied (message_in d p) delta ≡ Err (Gap q have need) = ap (λ (m : Message). applied m delta) (sym is) ∙ e in
-    let yes : gap ≡ true = cc in
-    yes ∙ sym (ap (λ (o : Option Cause). is_some o) ((gap-words (peer_at (run_of d).peers p).counts delta.from q have need).1 ((cause-gap (message_in d p) delta q have need).0 here)))
-gap-told d p delta mine (refused.TooManyRows x) gap is e told =
-    let here : applied (message_in d p) delta ≡ Err (TooManyRows x) = ap (λ (m : Message). applied m delta) (sym is) ∙ e in
-    let no : gap ≡ false = cc in
-    no ∙ sym (ap (λ (o : Option Cause). is_some o) ((no-gap (peer_at (run_of d).peers p).counts delta.from).1 ((cause-large (message_in d p) delta x).0 here).0))
-gap-told d p delta mine refused.Memory gap is e told = absurd cc
+gap-some : (refused : DeltaRefused) (o : Option Cause) → IsGap refused o → true ≡ is_some o
+gap-some (refused.Gap q have need) o h = sym (ap (λ (x : Option Cause). is_some x) h)
+gap-some (refused.TooManyRows x) o h = absurd h
+gap-some refused.Memory o h = absurd h
+
+pub gap-told : (d : DriverView) (p : ℕ) (delta : Delta) (counts : List ℕ) (refused : DeltaRefused) → counts ≡ (peer_at (run_of d).peers p).counts → IsGap refused (first_gap 0 counts delta.from) → true ≡ knows_too_little d p delta
+gap-told d p delta counts refused is found = gap-some refused (first_gap 0 counts delta.from) found ∙ ap (λ (cs : List ℕ). is_some (first_gap 0 cs delta.from)) is
 
 -- the run with one delivery more, at which there was a gap or not
 abbrev pub with_take : DeltaView → DriverView → ℕ → DeltaView
@@ -228,19 +174,22 @@ letter-low c i d under_way within = omega (arith, within, under_way.going.travel
 
 -- the delta of a message stands for it
 pub stands-there : (c p i : ℕ) (d : DeltaView) → IsUnderWay c d → p < length d.driver.nodes → i < length d.driver.sent → StandsFor d.driver p i (delta_number (gossip_of d) i)
-stands-there c p i d under_way member within = record {
-  alike = alike-there c p i d under_way member within;
-  brings = λ both present done e. brings-same c p i d both under_way member within present done e;
-}
+stands-there c p i d under_way member within =
+    let n = length d.driver.nodes in
+    let to = under_way.ready.sound.sent i within in
+    record {
+      wide = delta-wide n (stage_of d.driver) (gossip_of d) p i under_way.going member within to;
+      brings = brings-delta n (stage_of d.driver) (gossip_of d) p i under_way.going member within to;
+    }
 
 -- what a driver that was asked is brought
 pub brings-asked : (c p i : ℕ) (d e : DriverView) (m : Message) → Did c d [] e → BringsTheSame d p i m → BringsTheSame e p i m
-brings-asked c p i d e m asked h =
-    let same = run-asked c d e asked in
-    record {
-      sent = subst (λ (n : ℕ). IsSentTo n e.graph m) (sym asked.size) (subst (λ (r : Run). IsSentTo (length d.nodes) r.graph m) same h.sent);
-      same = subst (λ (r : Run). delivered r.graph m (peer_at r.peers p) ≡ delivered r.graph (sent_number r.sent i) (peer_at r.peers p)) same h.same;
-    }
+brings-asked c p i d e m asked h = subst (λ (r : Run). BringsAsMuch r.graph (peer_at r.peers p).contents (sent_number r.sent i) m) (run-asked c d e asked) h
+
+-- what a delta carries brings the node as much, once the node was asked
+pub carried-brings : (c p i : ℕ) (d e : DriverView) (delta : Delta) (counts : List ℕ) (m : Message) → Did c d [] e → StandsFor d p i delta → counts ≡ (peer_at (run_of d).peers p).counts → first_gap 0 counts delta.from ≡ None → m ≡ carried delta → BringsTheSame e p i m
+carried-brings c p i d e delta counts m asked stands is none same =
+    subst (λ (k : Message). BringsTheSame e p i k) (sym same) (brings-asked c p i d e (carried delta) asked (stands.brings (subst (λ (cs : List ℕ). first_gap 0 cs delta.from ≡ None) is none)))
 
 -- the gaps by what was told of one
 pub gaps-more : (d : DeltaView) (p i : ℕ) (gap : Bool) → gap ≡ knows_too_little d.driver p (delta_number (gossip_of d) i) → d.gaps + (if gap then 1 else 0) ≡ d.gaps + gap_at (gossip_of d) p i
@@ -290,12 +239,7 @@ went-sent c p number d e before now delta letter deltas under_way member lawful 
     subst (λ (ds : List Delta). Went c c d (Post p ∷ []) (record { driver = e; last = slice_set d.last p (Some number); deltas = ds; deliveries = d.deliveries; gaps = d.gaps })) (sym (more ∙ ap (λ (x : Delta). d.deltas ++ x ∷ []) same))
     (went-posted c p number d e before now delta under_way member lawful whole acted counted was is made)
 
--- what was made of a delta brings the node the same, once the node was asked
-pub brings-applied : (c p i : ℕ) (d e : DriverView) (delta : Delta) (mine both sent : Message) → Did c d [] e → StandsFor d p i delta → mine ≡ message_in d p → IsMessage mine → IsMessage both → applied mine delta ≡ Ok both → sent ≡ both → BringsTheSame e p i sent
-brings-applied c p i d e delta mine both sent asked stands is present lawful made same =
-    subst (λ (m : Message). BringsTheSame e p i m) (sym same)
-    (brings-asked c p i d e both asked (stands.brings both (subst IsMessage is present) lawful (ap (λ (m : Message). applied m delta) (sym is) ∙ made)))
-
+-- what may be done, may be done once the node was asked
 pub may-asked : (c p i : ℕ) (d e : DriverView) → Did c d [] e → MayDo c d (Take p i) → MayDo c e (Take p i)
 may-asked c p i d e asked may = (omega (arith, may.0, asked.size), subst (λ (r : Run). i < length r.sent) (run-asked c d e asked) may.1)
 

@@ -1,20 +1,16 @@
 -- What the acts of a run by deltas do.
-use Rattle.std.specs.Prelude.{◌≡◌, ℕ, ◌+◌, ◌≤◌, Bool, true, false, Option, Some, None, is_some, List, length, Result, Ok, Err}
+use Rattle.std.specs.Prelude.{◌≡◌, ℕ, ◌+◌, ◌≤◌, Bool, true, false, None, is_some, List, length, Result, Ok, Err}
 use Rattle.model_world.specs.Command as plain
 use Rattle.model_world.specs.Lawful.{MayBeDone}
-use Rattle.model_world.specs.World.{Act, acts, each, delivered, peer_at, message_at, sent_number}
+use Rattle.model_world.specs.World.{Act, acts, each, peer_at, sent_number}
 use Rattle.model_messages.specs.Message.{Message}
-use Rattle.model_runs.specs.Held.{IsSentTo}
-use Rattle.model_wire.specs.Lawful.{IsMessage}
+use Rattle.model_runs.specs.Part.{BringsAsMuch}
 use Rattle.model_deltas.specs.Delta.{Delta, carried}
-use Rattle.model_deltas.specs.Applied.{first_gap, applied}
-use Rattle.model_deltas.specs.Before.{AreAlike}
+use Rattle.model_deltas.specs.Applied.{first_gap}
 use Rattle.model_delta_runs.specs.Gossip.{gossip_each}
 use Rattle.lasp_drive.specs.Driver.{DriverView, run_of, stage_of, Stands}
 use Rattle.lasp_drive.specs.Acts.{Halts, all_staged}
 use Rattle.lasp_drive.specs.declared.halt.Halt.{Halt}
-use Rattle.lasp_delta.specs.declared.refused.DeltaRefused.{DeltaRefused}
-use Rattle.lasp_delta.specs.declared.refused.DeltaRefused.TheVariants as refused
 use Rattle.lasp_delta_run.specs.Seen.{DeltaView, gossip_of, IsUnderWay}
 
 -- ---- the driver alone
@@ -31,25 +27,18 @@ abbrev pub DoesSeen : {A : Type 0} → ℕ → DriverView → List Act → Resul
 DoesSeen c old all (Ok done) new = Did c old all new
 DoesSeen c old all (Err why) new = Halts (each c (run_of old) all) why
 
--- a message brings node p what message i brings it
-pub record BringsTheSame (d : DriverView) (p i : ℕ) (m : Message) : Type 0 where
-  pub sent : IsSentTo (length d.nodes) d.graph m
-  pub same : delivered d.graph m (peer_at (run_of d).peers p) ≡ delivered d.graph (sent_number d.sent i) (peer_at (run_of d).peers p)
+-- a message brings node p as much as message i
+abbrev pub BringsTheSame : DriverView → ℕ → ℕ → Message → Type 0
+BringsTheSame d p i m = BringsAsMuch d.graph (peer_at (run_of d).peers p).contents (sent_number d.sent i) m
 
--- a delta stands for message i at node p: it may be applied to what the node would send, and what comes of this brings the node what the message brings it
+-- a delta stands for message i at node p: it is among as many nodes, and where the node counts all that it goes on from, what it carries brings the node as much as the message
 pub record StandsFor (d : DriverView) (p i : ℕ) (delta : Delta) : Type 0 where
-  pub alike : AreAlike (message_at d.graph (peer_at (run_of d).peers p)) (carried delta)
-  pub brings : (both : Message) → IsMessage (message_at d.graph (peer_at (run_of d).peers p)) → IsMessage both → applied (message_at d.graph (peer_at (run_of d).peers p)) delta ≡ Ok both → BringsTheSame d p i both
+  pub wide : length (peer_at (run_of d).peers p).counts ≡ length delta.from
+  pub brings : first_gap 0 (peer_at (run_of d).peers p).counts delta.from ≡ None → BringsTheSame d p i (carried delta)
 
 -- whether node p knows too little for a delta
 abbrev pub knows_too_little : DriverView → ℕ → Delta → Bool
 knows_too_little d p delta = is_some (first_gap 0 (peer_at (run_of d).peers p).counts delta.from)
-
--- whether a delta was refused for a gap; of want of memory nothing is told
-abbrev pub refused_for_gap : DeltaRefused → Option Bool
-refused_for_gap (refused.Gap q have need) = Some true
-refused_for_gap (refused.TooManyRows x) = Some false
-refused_for_gap refused.Memory = None
 
 -- ---- with what travels
 

@@ -1,71 +1,55 @@
-//! What a delivery by a delta asks of the driver: what the receiver would send, and that it takes what this and the delta have together.
+//! What a delivery by a delta asks of the driver: what the receiver counts, and that it takes what the delta carries.
 
-ghost use Rattle.std.specs.Prelude.{◌≡◌, ◌<◌, ◌≤◌, ◌∷◌, [], length, map, IfOk};
-ghost use Rattle.std.specs.Arc.{arc_value};
-ghost use Rattle.model_world.specs.World.{Take, message_at, peer_at};
+ghost use Rattle.std.specs.Prelude.{◌≡◌, ◌∷◌, [], IfOk};
+ghost use Rattle.model_world.specs.World.{Take, peer_at};
 ghost use Rattle.lasp_drive.specs.Driver.{seen, run_of};
 ghost use Rattle.lasp_drive.specs.Acts.{MayAct};
-ghost use Rattle.lasp_delta_run.specs.Acts.{Did, DoesSeen, BringsTheSame, StandsFor, knows_too_little, refused_for_gap};
+ghost use Rattle.lasp_delta_run.specs.Acts.{Did, DoesSeen, BringsTheSame, StandsFor, knows_too_little};
 
-use lasp_delta::{Delta, DeltaRefused, apply};
+use lasp_delta::Delta;
 use lasp_drive::{Driver, Halt, Node, NodeStop};
-use lasp_wire::Message;
+use lasp_wire::{Counts, Message};
 use std::alloc::{AllocError, Global};
-use std::sync::Arc;
 
-/// What node p would send now. It sends nothing.
-pub(crate) fn message_of<N: Node>(
+/// How many updates of each replica node p counts.
+pub(crate) fn counts_at<N: Node>(
     driver: &mut Driver<N>,
     alloc: Global,
     c: u32,
     p: u8,
     i: u32,
-) -> Result<Message, AllocError>
-    requires may { MayAct N.view N.read c driver.old (Take p i) }
-    requires number { c ≤ 100000 }
-    ensures message { IfOk result (λ m. m ≡ message_at (arc_value driver.old.graph) (peer_at (run_of (seen N.view N.read driver.old)).peers p)) }
+) -> Result<Counts, AllocError>
+    requires { MayAct N.view N.read c driver.old (Take p i) }
+    ensures counts { IfOk result (λ counts. counts ≡ (peer_at (run_of (seen N.view N.read driver.old)).peers p).counts) }
     ensures asked { Did c (seen N.view N.read driver.old) [] (seen N.view N.read driver.new) }
-    ensures network { driver.new.network ≡ driver.old.network }
 {
     let _number = c;
     let _message = i;
-    driver.graph.recall();
-    driver.nodes[p as usize].message(alloc)
+    driver.nodes[p as usize].counts(alloc)
 }
 
-/// Node p takes a message in place of message i, which brings it the same.
+/// Node p takes message i by a part that brings it as much: the part's rows alone are looked at.
 pub(crate) fn hand<N: Node>(
     driver: &mut Driver<N>,
     alloc: Global,
     c: u32,
     p: u8,
     i: u32,
-    message: &Arc<Message>,
+    part: &Message,
 ) -> Result<(), Halt>
     requires may { MayAct N.view N.read c driver.old (Take p i) }
-    requires brings { BringsTheSame (seen N.view N.read driver.old) p i (arc_value message.now) }
+    requires brings { BringsTheSame (seen N.view N.read driver.old) p i part.now }
     ensures { DoesSeen c (seen N.view N.read driver.old) (Take p i ∷ []) result (seen N.view N.read driver.new) }
 {
-    match driver.nodes[p as usize].deliver(alloc, i, message, message) {
+    let message = driver.network.receive(i)?;
+    match driver.nodes[p as usize].deliver(alloc, i, &message, part) {
         Ok(()) => Ok(()),
         Err(NodeStop::TooLarge(x)) => Err(Halt::TooLarge(c, p, x)),
         Err(NodeStop::Memory) => Err(Halt::Memory),
     }
 }
 
-/// Whether a delta was refused for a gap; nothing is told where memory was wanting.
-fn refused_for_gap(refused: DeltaRefused) -> Option<bool>
-    ensures { result ≡ refused_for_gap refused }
-{
-    match refused {
-        DeltaRefused::Gap { .. } => Some(true),
-        DeltaRefused::TooManyRows(_) => Some(false),
-        DeltaRefused::Memory => None,
-    }
-}
-
-/// Node p takes message i by its delta, and whether there was a gap is told. The delta is applied to what the node would send, and the node takes what comes of it; where there is a gap it takes the
-/// message, and where a source would be too large, too, which tells of what variable it is.
+/// Node p takes message i by its delta, and whether there was a gap is told. Where there is none, what the delta carries is joined into what the node has, in place; where there is one, the node takes the message.
 pub(crate) fn bring<N: Node>(
     driver: &mut Driver<N>,
     alloc: Global,
@@ -75,28 +59,19 @@ pub(crate) fn bring<N: Node>(
     delta: &Delta,
 ) -> Result<bool, Halt>
     requires may { MayAct N.view N.read c driver.old (Take p i) }
-    requires number { c ≤ 100000 }
     requires stands { StandsFor (seen N.view N.read driver.old) p i delta.now }
     ensures done { DoesSeen c (seen N.view N.read driver.old) (Take p i ∷ []) result (seen N.view N.read driver.new) }
     ensures gap { IfOk result (λ gap. gap ≡ knows_too_little (seen N.view N.read driver.old) p delta.now) }
 {
-    let mine = message_of(driver, alloc, c, p, i)?;
-    mine.recall();
-    match apply(alloc, &mine, delta) {
-        Ok(both) => {
-            both.recall();
-            let both = Arc::new(alloc, both)?;
-            match hand(driver, alloc, c, p, i, &both) {
-                Ok(()) => Ok(false),
-                Err(halt) => Err(halt),
-            }
-        }
-        Err(refused) => match refused_for_gap(refused) {
-            Some(gap) => match driver.take(alloc, c, p, i) {
-                Ok(()) => Ok(gap),
-                Err(halt) => Err(halt),
-            },
-            None => Err(Halt::Memory),
+    let known = counts_at(driver, alloc, c, p, i)?;
+    match delta.check_gap(&known) {
+        Ok(()) => match hand(driver, alloc, c, p, i, delta.carried()) {
+            Ok(()) => Ok(false),
+            Err(halt) => Err(halt),
+        },
+        Err(_) => match driver.take(alloc, c, p, i) {
+            Ok(()) => Ok(true),
+            Err(halt) => Err(halt),
         },
     }
 }

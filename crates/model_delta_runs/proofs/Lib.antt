@@ -1,4 +1,5 @@
 pub mod SourceLaws
+pub mod BringLaws
 pub mod TravelLaws
 pub mod PlaceLaws
 pub mod RunLaws

@@ -7,16 +7,19 @@ use Rattle.model_world.specs.World.{Run, Post, peer_at, message_at, sent_number,
 use Rattle.model_known.specs.Follow.{Followed}
 use Rattle.model_known.specs.Holds.{IsPlaceOf}
 use Rattle.model_known.proofs.EffectLaws.{act-effect}
+use Rattle.model_known.proofs.HoldLaws.{sends-known}
 use Rattle.model_known.proofs.PlayLaws.{place-sound}
+use Rattle.model_runs.specs.Part.{BringsAsMuch}
 use Rattle.model_wire.specs.Lawful.{IsMessage}
-use Rattle.model_deltas.specs.Delta.{Delta}
+use Rattle.model_deltas.specs.Delta.{Delta, delta_of, carried}
 use Rattle.model_deltas.specs.Applied.{first_gap, joined, limited, unless, applied}
 use Rattle.model_deltas.specs.Before.{IsBefore}
 use Rattle.model_deltas.specs.World.{IsToldAmong, IsMessageIn}
-use Rattle.model_deltas.proofs.TellLaws.{delta-world}
+use Rattle.model_deltas.proofs.TellLaws.{in-world, delta-world}
 use Rattle.model_deltas.proofs.WayLaws.{sent-told}
 use Rattle.model_delta_runs.specs.Gossip.{Gossip, nothing_told, told_by, last_told, delta_number, gossip_after, gossip_start}
 use Rattle.model_delta_runs.specs.Going.{IsSentNumber, Travels}
+use Rattle.model_delta_runs.proofs.BringLaws.{delta-brings}
 use Rattle.model_delta_runs.proofs.TravelLaws.{travels-post, going-start}
 
 -- ---- act by act
@@ -55,3 +58,17 @@ module _ (g : List Decl) (nodes : ℕ) (commands : List Command) (f : Followed) 
       let by = delta-world (told_by s.run d.number) (sent_number s.run.sent i) (mine p)
       (record { graph = g; nodes = nodes; commands = commands; at = f; place = place; earlier = told-in d.number d.there; later = sent-in i within; third = mine-in p member }) d.lawful d.whole present d.earlier in
       subst (λ (e : Delta). applied (mine p) e ≡ unless (first_gap 0 (peer_at s.run.peers p).counts e.from) (limited (joined (mine p) (sent_number s.run.sent i)))) (sym d.delta) by
+
+  -- what the delta carries brings a node as much as the message, where it counts all that the delta goes on from
+  pub carried-place : Travels s → (p i : ℕ) → p < nodes → i < length s.run.sent → first_gap 0 (peer_at s.run.peers p).counts (delta_number s i).from ≡ None
+      → BringsAsMuch s.run.graph (peer_at s.run.peers p).contents (sent_number s.run.sent i) (carried (delta_number s i))
+  carried-place travels p i member within none =
+      let d = travels.deltas i within in
+      let holds = (place-sound g nodes commands f place).holds p member in
+      let sent = in-world g nodes commands f place (sent_number s.run.sent i) (sent-in i within) in
+      let told = in-world g nodes commands f place (told_by s.run d.number) (told-in d.number d.there) in
+      subst (λ (e : Delta). BringsAsMuch s.run.graph (peer_at s.run.peers p).contents (sent_number s.run.sent i) (carried e)) (sym d.delta)
+      (subst (λ (r : Run). BringsAsMuch r.graph (peer_at r.peers p).contents (sent_number s.run.sent i) (carried (delta_of (told_by s.run d.number) (sent_number s.run.sent i)))) same
+      (delta-brings f.run.graph nodes f.deltas (told_by s.run d.number) (sent_number s.run.sent i) (peer_at f.run.peers p) told.carries
+      (sends-known f.run.graph nodes f.deltas (peer_at f.run.peers p).contents (peer_at f.run.peers p).counts holds) holds.long (holds.wide ∙ sym sent.wide) d.lawful d.whole d.earlier
+      (subst (λ (r : Run). first_gap 0 (peer_at r.peers p).counts (told_by s.run d.number).counts ≡ None) (sym same) (subst (λ (e : Delta). first_gap 0 (peer_at s.run.peers p).counts e.from ≡ None) d.delta none))))

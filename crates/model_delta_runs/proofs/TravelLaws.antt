@@ -20,6 +20,7 @@ use Rattle.model_known.proofs.HoldLaws.{sends-known}
 use Rattle.model_known.proofs.PlayLaws.{IsAt, stage_of, step-at}
 use Rattle.model_known.proofs.SoundLaws.{sound-begin, sound-act}
 use Rattle.model_runs.specs.Held.{IsSentTo}
+use Rattle.model_runs.specs.Part.{BringsAsMuch}
 use Rattle.model_wire.specs.Lawful.{IsMessage}
 use Rattle.model_deltas.specs.Delta.{Delta, delta_of, carried}
 use Rattle.model_deltas.specs.Applied.{first_gap, joined, limited, unless, applied}
@@ -30,6 +31,7 @@ use Rattle.model_deltas.proofs.WorldLaws.{delta-known, holds-more}
 use Rattle.model_delta_runs.specs.Gossip.{Gossip, nothing_told, told_in, told_by, last_told, no_delta, delta_number, gossip_after, gossip_each, gossip_start}
 use Rattle.model_delta_runs.specs.Going.{IsSentNumber, IsTold, IsDeltaTo, Travels, IsGoing}
 use Rattle.model_delta_runs.proofs.SourceLaws.{decls-changed, begins-by}
+use Rattle.model_delta_runs.proofs.BringLaws.{delta-brings}
 
 -- ---- acts that send nothing
 
@@ -369,6 +371,20 @@ module _ (nodes : ℕ) (stage : Stage) (s : Gossip) (p i : ℕ) (going : IsGoing
       let by = delta-known s.run.graph nodes going.followed.deltas (told_by s.run d.number) (sent_number s.run.sent i) mine (carries-told d.number)
       (sends-known s.run.graph nodes going.followed.deltas (peer_at s.run.peers p).contents (peer_at s.run.peers p).counts mine-holds) d.lawful d.whole present d.earlier alike-sent in
       subst (λ (e : Delta). applied mine e ≡ unless (first_gap 0 (peer_at s.run.peers p).counts e.from) (limited (joined mine (sent_number s.run.sent i)))) (sym d.delta) by
+
+  pub delta-wide : length (peer_at s.run.peers p).counts ≡ length (delta_number s i).from
+  delta-wide =
+      let d = going.travels.deltas i within in
+      mine-holds.wide ∙ sym to.wide ∙ sym d.earlier.nodes ∙ ap (λ (e : Delta). length e.from) (sym d.delta)
+
+  -- a node that counts all that the delta goes on from is brought as much by what the delta carries as by the message
+  pub brings-delta : first_gap 0 (peer_at s.run.peers p).counts (delta_number s i).from ≡ None → BringsAsMuch s.run.graph (peer_at s.run.peers p).contents (sent_number s.run.sent i) (carried (delta_number s i))
+  brings-delta none =
+      let d = going.travels.deltas i within in
+      subst (λ (e : Delta). BringsAsMuch s.run.graph (peer_at s.run.peers p).contents (sent_number s.run.sent i) (carried e)) (sym d.delta)
+      (delta-brings s.run.graph nodes going.followed.deltas (told_by s.run d.number) (sent_number s.run.sent i) (peer_at s.run.peers p) (carries-told d.number)
+      (sends-known s.run.graph nodes going.followed.deltas (peer_at s.run.peers p).contents (peer_at s.run.peers p).counts mine-holds) mine-holds.long (mine-holds.wide ∙ sym to.wide) d.lawful d.whole d.earlier
+      (subst (λ (e : Delta). first_gap 0 (peer_at s.run.peers p).counts e.from ≡ None) d.delta none))
 
 -- ---- the beginning
 

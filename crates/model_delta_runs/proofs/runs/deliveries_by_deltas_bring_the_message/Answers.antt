@@ -1,9 +1,12 @@
 use Rattle.model_delta_runs.proofs.SourceLaws.{taken-there}
-use Rattle.model_delta_runs.proofs.PlaceLaws.{applied-place}
+use Rattle.model_delta_runs.proofs.PlaceLaws.{applied-place, carried-place}
 use Rattle.model_delta_runs.proofs.runs.deliveries_by_deltas_bring_the_message.Goals as goal
 
 pub returns-clause-applied : goal.returns-clause-applied
 returns-clause-applied c = λ g nodes commands f s place same travels p i member within present. applied-place g nodes commands f s place same travels p i member within present
+
+pub returns-clause-carried : goal.returns-clause-carried
+returns-clause-carried c = λ g nodes commands f s place same travels p i member within none. carried-place g nodes commands f s place same travels p i member within none
 
 pub returns-clause-taken : goal.returns-clause-taken
 returns-clause-taken c = λ g nodes commands f place p m member present lawful. taken-there g nodes commands f place p m member present lawful
