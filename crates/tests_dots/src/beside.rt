@@ -2,7 +2,7 @@
 
 use crate::wrong::Wrong;
 use lasp_dots::DotSet;
-use lasp_orset::{Entry, OrSet, add_delta};
+use lasp_logset::{OrSet, TableRow, add_delta};
 use lasp_value::{Value, Values};
 use std::alloc::{AllocError, Global};
 
@@ -65,29 +65,29 @@ impl Beside {
     /// Whether both sets show the same values, and the pairs of the one are the live rows of the other.
     pub fn is_alike(&self) -> Result<bool, AllocError> {
         let alike = are_same(&self.dots.visible()?, &self.rows.visible()?);
-        Ok(alike && has_live_rows(&self.dots, &self.rows))
+        Ok(alike && has_live_rows(&self.dots, &self.rows)?)
     }
 }
 
 /// Whether the pairs are the live rows, in the same order.
-fn has_live_rows(dots: &DotSet, set: &OrSet) -> bool {
+fn has_live_rows(dots: &DotSet, set: &OrSet) -> Result<bool, AllocError> {
     let mut place = 0u64;
-    let mut rows = set.iter();
+    let mut rows = set.in_order()?;
     for _ in 0..set.rows() {
         if let Some(row) = rows.next() {
             if row.is_dead() {
                 continue;
             }
-            if !has_pair_at(dots, place, row) {
-                return false;
+            if !has_pair_at(dots, place, &row) {
+                return Ok(false);
             }
             place = place.saturating_add(1);
         }
     }
-    place == dots.dots()
+    Ok(place == dots.dots())
 }
 
-fn has_pair_at(dots: &DotSet, place: u64, row: &Entry) -> bool {
+fn has_pair_at(dots: &DotSet, place: u64, row: &TableRow<'_>) -> bool {
     if place >= dots.dots() {
         return false;
     }

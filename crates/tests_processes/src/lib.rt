@@ -10,8 +10,6 @@ mod graph;
 #[cfg(test)]
 mod made;
 #[cfg(test)]
-mod operations;
-#[cfg(test)]
 mod setops;
 #[cfg(test)]
 mod state;

@@ -1,9 +1,8 @@
-//! The processes over small stories, against rows written by hand, and at the limit of rows.
+//! The processes over small stories, against rows written by hand.
 
 use crate::made::{Rows, rows, spells};
-use lasp_logset::{Entry, OrSet};
+use lasp_logset::OrSet;
 use lasp_setops::*;
-use lasp_value::{Token, Value};
 use std::alloc::{AllocError, Global};
 use std::test::Fail;
 
@@ -151,54 +150,5 @@ static STORIES: [Story; 7] = [
 #[test]
 fn processes_follow_additions_and_removals(rt: HostRuntime) -> Result<(), Fail> {
     assert_eq!(rt; first_other(rt.alloc(), &STORIES)?, None);
-    Ok(())
-}
-
-/// A set of so many rows, of the numbers from 0 on.
-fn numbers(alloc: Global, count: u32) -> Result<OrSet, AllocError> {
-    let mut set = OrSet::new(alloc);
-    for k in 0..count {
-        let row = Entry::new(alloc, Value::Int(k as i64), Token::Base(0, k as u64), false)?;
-        set.add(row)?;
-    }
-    Ok(set)
-}
-
-/// Whether a set takes no row more, since it has as many as a set may have.
-fn is_full(set: &OrSet, more: &OrSet) -> bool {
-    let refused = union_increment(set, more, &set.empty());
-    set.rows() == 65_536 && matches!(refused, Err(SetRefused::TooManyRows))
-}
-
-#[test]
-fn a_product_has_as_many_rows_as_the_limit(rt: HostRuntime) -> Result<(), Fail> {
-    let told = {
-        let x = numbers(rt.alloc(), 256)?;
-        is_full(&product_sets(rt.alloc(), &x, &x)?, &x)
-    };
-    assert!(rt; told);
-    Ok(())
-}
-
-/// Whether two sets have the same rows, and so many.
-fn are_same(set: &OrSet, other: &OrSet, rows: u64) -> bool {
-    set.le(other) && other.le(set) && set.rows() == rows
-}
-
-/// Whether a product grows to that of its inputs by a change of many rows, and the one before it stays as it was.
-fn grows_apart(alloc: Global) -> Result<bool, SetRefused> {
-    let before = numbers(alloc, 20)?;
-    let after = numbers(alloc, 40)?;
-    let nothing = before.empty();
-    let old = product_sets(alloc, &before, &before)?;
-    let new = product_increment(alloc, &old, &after, &after, &before, &nothing)?;
-    let whole = product_sets(alloc, &after, &before)?;
-    Ok(are_same(&new, &whole, 800) && old.rows() == 400 && old.le(&new))
-}
-
-#[test]
-fn a_product_that_others_hold_grows_by_many_rows(rt: HostRuntime) -> Result<(), Fail> {
-    let told = grows_apart(rt.alloc())?;
-    assert!(rt; told);
     Ok(())
 }

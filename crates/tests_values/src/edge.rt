@@ -1,10 +1,9 @@
 //! What no clause says: that calls succeed, the loops over readers and writers that give and take
 //! little, and real files.
 use lasp_edge::{
-    DirFiles, Failed, Fetch, Files, MemFiles, MemSink, Sink, StdSink, SureFiles, SureSink,
-    read_up_to, write_whole,
+    DirFiles, Failed, Fetch, Files, Sink, StdSink, SureFiles, SureSink, read_up_to, write_whole,
 };
-use std::alloc::{AllocError, Global};
+use std::alloc::Global;
 use std::io::{ErrorKind, Read, Write};
 use std::test::Fail;
 use std::{env, fs, io, process, rt};
@@ -140,33 +139,9 @@ fn first_written<'a>(alloc: Global, rows: &'a [Writing<'a>]) -> Option<&'a [u8]>
     None
 }
 
-/// Whether so many bytes are written whole, through a writer that takes one a write, and into memory with just this room.
-fn is_written_whole(alloc: Global, length: usize) -> Result<bool, AllocError> {
-    let bytes = vec![in alloc; b'x'; length]?;
-    let mut faults = 0;
-    let mut writer = Sip {
-        taken: Vec::new(alloc),
-        fails_at: NEVER,
-        stops_at: NEVER,
-    };
-    let mut sink = MemSink::new(alloc, length as u64)?;
-    let answers = (
-        write_whole(&mut writer, bytes.as_slice(), &mut faults),
-        sink.put(bytes.as_slice()),
-    );
-    Ok(
-        answers == (Ok(()), Ok(()))
-            && faults == 0
-            && writer.taken.as_slice() == bytes.as_slice()
-            && sink.bytes() == bytes.as_slice(),
-    )
-}
-
 #[test]
 fn output_is_written_byte_by_byte_until_a_fault(rt: HostRuntime) -> Result<(), Fail> {
     assert_eq!(rt; first_written(rt.alloc(), &WRITES), None);
-    let is_whole = is_written_whole(rt.alloc(), 20000)?;
-    assert!(rt; is_whole);
     Ok(())
 }
 
@@ -185,72 +160,6 @@ fn first_fetched<'a, F: Files>(
         }
     }
     None
-}
-
-/// Fetches one after the other of files in memory, of which the second and the last but one are set to fail.
-static FETCHES: [Fetching; 7] = [
-    ("g", 5, Ok(b"graph")),
-    ("g", 5, Err(Fetch::Failed)),
-    ("g", 4, Err(Fetch::TooLong)),
-    ("s", 0, Ok(b"")),
-    ("h", 9, Err(Fetch::Failed)),
-    ("h", 9, Err(Fetch::Failed)),
-    ("g", 9, Ok(b"graph")),
-];
-
-#[test]
-fn reads_in_memory_fail_where_they_are_set_to(rt: HostRuntime) -> Result<(), Fail> {
-    let alloc = rt.alloc();
-    let mut files = MemFiles::new(alloc);
-    files.put_file("g", b"old")?;
-    files.put_file("g", b"graph")?;
-    files.put_file("s", b"")?;
-    files.fail_at(1)?;
-    files.fail_at(5)?;
-    assert_eq!(rt; first_fetched(&mut files, alloc, &FETCHES), None);
-    Ok(())
-}
-
-/// The room, the call that is set and its bytes; the answers of two writes, and what is there.
-type Putting<'a> = (
-    u64,
-    u64,
-    u64,
-    Result<(), Failed>,
-    Result<(), Failed>,
-    &'a [u8],
-);
-
-static PUTS: [Putting; 7] = [
-    (6, 9, 0, Ok(()), Ok(()), b"abcdef"),
-    (5, 9, 0, Ok(()), Err(Failed), b"abcde"),
-    (2, 9, 0, Err(Failed), Err(Failed), b"ab"),
-    (6, 0, 2, Err(Failed), Ok(()), b"abdef"),
-    (6, 0, 9, Err(Failed), Ok(()), b"abcdef"),
-    (6, 1, 0, Ok(()), Err(Failed), b"abc"),
-    (4, 1, 2, Ok(()), Err(Failed), b"abcd"),
-];
-
-/// The first row of two writes of three bytes that go otherwise, of which a call that is set twice is set to the later number of bytes.
-fn first_put<'a>(alloc: Global, rows: &'a [Putting<'a>]) -> Result<Option<&'a [u8]>, AllocError> {
-    for (room, call, after, first, second, want) in rows {
-        let mut sink = MemSink::new(alloc, *room)?;
-        sink.fail_at(*call, 7)?;
-        sink.fail_at(*call, *after)?;
-        let answers = (sink.put(b"abc"), sink.put(b"def"));
-        if answers != (*first, *second) || sink.bytes() != *want {
-            return Ok(Some(want));
-        }
-    }
-    Ok(None)
-}
-
-#[test]
-fn writes_in_memory_fail_where_they_are_set_to_or_the_room_ends(
-    rt: HostRuntime,
-) -> Result<(), Fail> {
-    assert_eq!(rt; first_put(rt.alloc(), &PUTS)?, None);
-    Ok(())
 }
 
 /// Fetches of sure files.

@@ -10,12 +10,8 @@ mod histlock;
 #[cfg(test)]
 mod log;
 #[cfg(test)]
-mod logset;
-#[cfg(test)]
 mod mail;
 #[cfg(test)]
-mod orset;
-#[cfg(test)]
-mod shared;
+mod sets;
 #[cfg(test)]
 mod value;

@@ -1,4 +1,4 @@
-//! Logs: a share stays as it was while the log grows, reading from a place on gives what came since, and a log that is closed has its items.
+//! Logs: a share stays as it was while the log grows, and reading from a place on gives what came since.
 
 use lasp_log::{Log, Share};
 use std::alloc::AllocError;
@@ -63,28 +63,5 @@ fn a_share_stays_while_the_log_grows(rt: HostRuntime) -> Result<(), Fail> {
     }
     assert!(rt; log.len() == 1020);
     assert!(rt; log.at(0).number == 0 && log.at(700).number == 700 && log.at(1019).number == 1019);
-    Ok(())
-}
-
-#[test]
-fn a_closed_log_has_its_items(rt: HostRuntime) -> Result<(), Fail> {
-    let mut items = Vec::new(rt.alloc());
-    for number in 0..20usize {
-        items.push(Step { number })?;
-    }
-    let mut log = Log::of(items)?;
-    log.close();
-    for number in 20..89usize {
-        write(&mut log, number, number + 1, false)?;
-        log.close();
-    }
-    let past = log.share()?;
-    write(&mut log, 89, 1200, false)?;
-    log.close();
-    log.close();
-    assert!(rt; past.len() == 89 && counts_on(&past, 0) && counts_on(&past, 88));
-    for place in [0, 1, 19, 20, 63, 64, 88, 89, 90, 1199, 1200] {
-        assert!(rt; counts_on(&log, place));
-    }
     Ok(())
 }

@@ -15,7 +15,8 @@ fn exchange<R: Threads + Wait + Sync>(
     mailbox: &Mailbox<Letter>,
     o: Outlet<Letter>,
     i: Inlet<Letter>,
-    count: u32,
+    put: u32,
+    taken: u32,
 ) -> (Outlet<Letter>, (Inlet<Letter>, bool))
     requires ends { (o.of ≡ mailbox.now) × (i.of ≡ mailbox.now) }
     requires new { (mailbox.now.frame ≡ Some 7) × (length o.put ≡ 0) }
@@ -26,28 +27,29 @@ fn exchange<R: Threads + Wait + Sync>(
         move || -> Outlet<Letter>
             requires { IsSync R.row × (o.of ≡ mailbox.now) × (mailbox.now.frame ≡ Some 7) × (length o.put ≡ 0) }
             ensures { result.of ≡ mailbox.entry.now }
-        { send(rt, mailbox, o, count) },
+        { send(rt, mailbox, o, put) },
         move || -> (Inlet<Letter>, bool)
             requires { i.of ≡ mailbox.now }
             ensures { result.0.of ≡ mailbox.entry.now }
-        { receive(rt, mailbox, i, count) },
+        { receive(rt, mailbox, i, taken) },
     )
 }
 
-/// Whether the letters of one thread come to another one in order.
+/// Whether the first letters of one thread come to another one in order; the others are dropped with the mailbox.
 fn comes_across<R: Threads + Wait + Sync>(
     rt: &R,
     alloc: Global,
-    count: u32,
+    put: u32,
+    taken: u32,
 ) -> Result<bool, AllocError> {
     let (mailbox, o, i) = Mailbox::new(alloc, &Letter { topic: 7, text: 0 })?;
-    let (o, (i, in_order)) = exchange(rt, &mailbox, o, i, count);
+    let (o, (i, in_order)) = exchange(rt, &mailbox, o, i, put, taken);
     mailbox.close(o, i);
     Ok(in_order)
 }
 
 #[test]
 fn what_one_thread_puts_comes_to_another_in_order(rt: HostRuntime) -> Result<(), Fail> {
-    assert!(rt; comes_across(&rt, rt.alloc(), 5000)?);
+    assert!(rt; comes_across(&rt, rt.alloc(), 5000, 4900)?);
     Ok(())
 }

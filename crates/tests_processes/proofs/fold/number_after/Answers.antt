@@ -16,14 +16,14 @@ fold_counted-requires-clause-more g c = change-grown c.args.before.now c.args.ch
 
 pub fold_counted-requires-clause-old : goal.fold_counted-requires-clause-old
 fold_counted-requires-clause-old g c =
-    let same : lift_op_at (library_of c.args.lib.now) 1 ≡ lift_of c.lift_at.result.now = ap (λ l. lift_op_at l 1) c.requires.same ∙ ap (λ (o : Option LiftOp). unwrap_or o One) c.lift_at.ensures in
-    let number : c.in_ok-old.old ≡ fold_set (g.G.FoldGroup.combined c.args.g.now) (g.G.FoldGroup.unit c.args.g.now) (taken_lift (g.G.FoldGroup.taken c.args.g.now) (lift_op_at (library_of c.args.lib.now) 1)) c.args.before.now =
+    let same : lift_op_at (library_of c.args.lib.now) 0 ≡ lift_of c.lift_at.result.now = ap (λ l. lift_op_at l 0) c.requires.same ∙ ap (λ (o : Option LiftOp). unwrap_or o One) c.lift_at.ensures in
+    let number : c.in_ok-old.old ≡ fold_set (g.G.FoldGroup.combined c.args.g.now) (g.G.FoldGroup.unit c.args.g.now) (taken_lift (g.G.FoldGroup.taken c.args.g.now) (lift_op_at (library_of c.args.lib.now) 0)) c.args.before.now =
     c.in_ok-old.ensures ∙ ap (λ op. fold_set (g.G.FoldGroup.combined c.args.g.now) (g.G.FoldGroup.unit c.args.g.now) (taken_lift (g.G.FoldGroup.taken c.args.g.now) op) c.args.before.now) (sym same) in
     search rules
 
 pub fold_increment-requires-clause-old : goal.fold_increment-requires-clause-old
 fold_increment-requires-clause-old g c =
-    let same : lift_op_at (library_of c.args.lib.now) 1 ≡ lift_of c.lift_at.result.now = ap (λ l. lift_op_at l 1) c.requires.same ∙ ap (λ (o : Option LiftOp). unwrap_or o One) c.lift_at.ensures in
-    let number : c.in_ok-old.old ≡ fold_set (g.G.FoldGroup.combined c.args.g.now) (g.G.FoldGroup.unit c.args.g.now) (taken_lift (g.G.FoldGroup.taken c.args.g.now) (lift_op_at (library_of c.fold_counted.new.lib) 1)) c.args.before.now =
-    c.in_ok-old.ensures ∙ ap (λ op. fold_set (g.G.FoldGroup.combined c.args.g.now) (g.G.FoldGroup.unit c.args.g.now) (taken_lift (g.G.FoldGroup.taken c.args.g.now) op) c.args.before.now) (sym same) ∙ ap (λ l. fold_set (g.G.FoldGroup.combined c.args.g.now) (g.G.FoldGroup.unit c.args.g.now) (taken_lift (g.G.FoldGroup.taken c.args.g.now) (lift_op_at l 1)) c.args.before.now) (sym c.fold_counted.ensures.library) in
+    let same : lift_op_at (library_of c.args.lib.now) 0 ≡ lift_of c.lift_at.result.now = ap (λ l. lift_op_at l 0) c.requires.same ∙ ap (λ (o : Option LiftOp). unwrap_or o One) c.lift_at.ensures in
+    let number : c.in_ok-old.old ≡ fold_set (g.G.FoldGroup.combined c.args.g.now) (g.G.FoldGroup.unit c.args.g.now) (taken_lift (g.G.FoldGroup.taken c.args.g.now) (lift_op_at (library_of c.fold_counted.new.lib) 0)) c.args.before.now =
+    c.in_ok-old.ensures ∙ ap (λ op. fold_set (g.G.FoldGroup.combined c.args.g.now) (g.G.FoldGroup.unit c.args.g.now) (taken_lift (g.G.FoldGroup.taken c.args.g.now) op) c.args.before.now) (sym same) ∙ ap (λ l. fold_set (g.G.FoldGroup.combined c.args.g.now) (g.G.FoldGroup.unit c.args.g.now) (taken_lift (g.G.FoldGroup.taken c.args.g.now) (lift_op_at l 0)) c.args.before.now) (sym c.fold_counted.ensures.library) in
     search rules

@@ -1,9 +1,0 @@
-pub mod PlaceLaws
-pub mod PieceLaws
-pub mod SetLaws
-pub mod PushLaws
-pub mod CountLaws
-pub mod SpanLaws
-pub mod ShownLaws
-pub mod HintLaws
-pub mod EntryLaws
