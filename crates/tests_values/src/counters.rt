@@ -1,8 +1,7 @@
-//! How counters, registers and sets that only grow behave, against numbers written by hand.
+//! How counters and registers behave, against numbers written by hand.
 
 use lasp_counters::*;
 use lasp_lattice::{Lattice, join_all};
-use lasp_value::Value;
 use std::alloc::{AllocError, Global};
 use std::test::Fail;
 
@@ -72,34 +71,5 @@ fn registers_that_are_joined_again_stay(rt: HostRuntime) -> Result<(), Fail> {
     assert!(rt; !join_all(&mut into, &[least, middle, none])?);
     assert!(rt; have(&into, [Some(-5), Some(-5), Some(3)]));
     assert!(rt; middle.bottom_like()?.value == None && middle.le(&most) && !middle.le(&none));
-    Ok(())
-}
-
-/// Whether the values of a set are the numbers from 0 on, and each is found.
-fn counts_up(set: &GSet) -> Result<bool, AllocError> {
-    let mut values = set.sorted()?;
-    for place in 0..set.len() {
-        let value = Value::Int(place as i64);
-        if !values.next().is_some_and(|next| *next == value) || !set.has(&value) {
-            return Ok(false);
-        }
-    }
-    Ok(values.next().is_none())
-}
-
-/// The numbers below 300, which come in another order.
-fn scattered(alloc: Global) -> Result<GSet, AllocError> {
-    let mut set = GSet::new(alloc);
-    for k in 0..300u64 {
-        set.unite(&GSet::insert_delta(alloc, &Value::Int((k * 7919 % 300) as i64))?)?;
-    }
-    Ok(set)
-}
-
-#[test]
-fn values_stand_in_order_however_they_came(rt: HostRuntime) -> Result<(), Fail> {
-    let set = scattered(rt.alloc())?;
-    assert!(rt; set.len() == 300 && counts_up(&set)? && !set.has(&Value::Int(300)));
-    assert!(rt; set.bottom_like()?.len() == 0);
     Ok(())
 }
