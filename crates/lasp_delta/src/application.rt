@@ -21,7 +21,7 @@ const MOST_ROWS: u64 = 65_536;
 
 /// A message with what a delta carries. `Delta::suits` tells whether both are of one graph and of as many nodes; of messages of one world this holds. It is refused for a gap before all else, and then for the least source that would be too large.
 /// Where message and delta are of one world, the delta from one message to a later one does what the later one does: what comes of it is what the message and the later one have together, or a gap, or the source of these that is too large.
-/// It costs a share of the message's rows, and a table of each of its sets, also of one to which the delta brings nothing, unless that is short.
+/// It costs a share of the message's rows, and a table of each of its sets to which the delta brings rows, unless both are short.
 pub fn apply(alloc: Global, base: &Message, delta: &Delta) -> Result<Message, DeltaRefused>
     requires { AreAlike base.now (carried delta.now) }
     ensures answers { Answers result (applied base.now delta.now) }

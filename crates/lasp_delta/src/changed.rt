@@ -51,7 +51,7 @@ fn other_number(before: Option<i64>, after: Option<i64>) -> Option<i64>
     }
 }
 
-/// What a source has that it had not before. Of an observed-remove set each row costs a look-up in a table, which is made of the earlier set where it has none; what is new shares its values with the later set.
+/// What a source has that it had not before. Of an observed-remove set that only grew each earlier row costs a comparison; of another one each row costs a look-up in a table, which is made of the earlier set where it has none. What is new shares its values with the later set.
 pub fn changed_state(alloc: Global, before: &State, after: &State) -> Result<State, AllocError>
     requires shape { shape_of before.now ≡ shape_of after.now }
     requires source { shape_of after.now ≢ fold }

@@ -16,7 +16,8 @@ use lasp_wire::{Counts, Message};
 use std::alloc::{AllocError, Global};
 
 /// The delta from a message to a later one of the same sender. The earlier one has no count and no source above the later one's, and its sources are the first of the later one's: this holds of any two messages of one node in the order in which it made them.
-/// It costs a table of each set of the earlier message, a look-up for each row and element of the later one, where elements are sorted too, and memory for what is new.
+/// Of an observed-remove set that only grew since, as a node's own does, it costs a comparison for each row of the earlier message; of another one a table of these, and a look-up for each row of the later message.
+/// Of a grow-only set it costs a table of the earlier elements, a look-up for each later one, and a sort of these. It takes memory for what is new besides.
 pub fn delta_of(alloc: Global, before: &Message, after: &Message) -> Result<Delta, AllocError>
     requires { IsBefore before.now after.now }
     ensures { IfOk result (λ delta. delta ≡ delta_of before.now after.now) }

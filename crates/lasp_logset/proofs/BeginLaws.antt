@@ -11,7 +11,7 @@ use Rattle.model_sets.specs.Rows.{mark, put, of_rows, join, IsAtMost, is_of, bur
 use Rattle.model_sets.specs.Equations.{changed, filter_set}
 use Rattle.model_sets.specs.Reads.{is_row_of, HasRowOf}
 use Rattle.model_sets.specs.Rises.{AreRises, AreApart}
-use Rattle.model_sets.proofs.RowLaws.{mark-small, mark-append, mark-put, mark-of_rows, mark-join, same_from_mark, ascending-of_rows, ascending-join, join-nothing}
+use Rattle.model_sets.proofs.RowLaws.{mark-small, mark-append, mark-put, mark-of_rows, mark-join, same_from_mark, ascending-of_rows, ascending-join}
 use Rattle.model_sets.proofs.UpdateLaws.{remove-mark}
 use Rattle.model_sets.proofs.ReadLaws.{row-words}
 use Rattle.model_sets.proofs.RiseLaws.{none-or, apart-rises, rises-append}

@@ -7,6 +7,7 @@ pub mod PassLaws
 pub mod ShownLaws
 pub mod GrownLaws
 pub mod BeginLaws
+pub mod BehindLaws
 pub mod PlaceLaws
 pub mod NearLaws
 pub mod AnyLaws

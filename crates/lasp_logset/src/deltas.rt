@@ -6,12 +6,15 @@ ghost use Rattle.model_sets.specs.Equations.{changed};
 ghost use Rattle.lasp_value.specs.Value.{val_of};
 
 use super::asked::Asked;
+use super::behind::rest_behind;
 use super::changes::Changes;
 use super::entry::Entry;
+use super::grown::Grown;
 use super::near::Hint;
 use super::orset::{Kept, OrSet};
 use super::pass::Pass;
 use super::past::Past;
+use lasp_log::Items;
 use lasp_value::{Token, Value};
 use std::alloc::{AllocError, Global};
 
@@ -66,10 +69,13 @@ impl OrSet {
 }
 
 /// The rows of the second set that the first one lacks, or that are dead in the second alone. Where the first one is at most the second, these joined into the first give the second.
-/// Each change of the second set costs a look-up; the keys are shared.
+/// Where the second set's log begins as that of the first, as that of a later state of one set does, it is what stands behind: that costs a comparison for each change of the first, and what comes of it. Else each change of the second set costs a look-up; the keys are shared.
 pub fn changed(alloc: Global, before: &OrSet, after: &OrSet) -> Result<OrSet, AllocError>
     ensures { IfOk result (λ s. s ≡ changed before.now after.now) }
 {
+    if let Some(rest) = rest_behind(before.log(), after.log()) {
+        return set_of(alloc, rest);
+    }
     let known = before.asked(after.log().len() as u64)?;
     if !after.has_each_once() {
         let news = news_of(alloc, &known, after.iter())?;
@@ -86,6 +92,14 @@ pub fn changed(alloc: Global, before: &OrSet, after: &OrSet) -> Result<OrSet, Al
     }
     log.seal();
     Ok(OrSet::of_past(Past::of_apart(log)))
+}
+
+/// The set of the rows of a pass, of which two may have one key. Each costs two look-ups.
+fn set_of(alloc: Global, rows: Items<'_, Entry>) -> Result<OrSet, AllocError>
+    ensures { IfOk result (λ s. s ≡ of_rows rows.entry) }
+{
+    let nothing = Grown::of(Past::new(alloc));
+    news_of(alloc, &Asked::behind(&nothing), Pass::of_log(rows))
 }
 
 /// The set of those rows of a pass that tell more than what is asked, of which two may have one key. Each costs a look-up, and each of these rows two more.

@@ -5,6 +5,7 @@
 
 mod any_row;
 mod asked;
+mod behind;
 mod buried;
 mod chains;
 mod changes;

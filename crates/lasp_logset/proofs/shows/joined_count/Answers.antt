@@ -1,6 +1,4 @@
-use Rattle.std.proofs.Common.{List, ap, ◌∙◌, arith}
-use Rattle.model_values.specs.Row.{Row}
-use Rattle.model_sets.specs.Rows.{of_rows}
+use Rattle.std.proofs.Common.{arith}
 use Rattle.lasp_logset.proofs.WholeLaws.{counted-join, counted-small, passed-join}
 use Rattle.lasp_logset.proofs.shows.joined_count.Goals as goal
 
