@@ -15,6 +15,8 @@ pub struct ReadNo {
     pub(crate) number: u64,
     pub(crate) var: u8,
     pub(crate) threshold: Arc<Threshold>,
+    /// Which value of several was lacking when it was looked for last.
+    pub(crate) place: u64,
 }
 
 impl ReadNo {
@@ -48,6 +50,7 @@ impl ReadNo {
             number: self.number,
             var: self.var,
             threshold: Arc::try_clone(&self.threshold)?,
+            place: self.place,
         })
     }
 }

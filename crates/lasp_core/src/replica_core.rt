@@ -230,6 +230,7 @@ impl Core {
             number: self.opened,
             var,
             threshold: Arc::new(alloc, threshold)?,
+            place: 0,
         };
         ready_read(&mut self.replica, var, &read.threshold);
         if !read.threshold.meets(self.state(var)) {

@@ -1,5 +1,5 @@
 -- What thresholds ask, from what the parts of states answer.
-use Rattle.std.proofs.Common.{◌≡◌, ◌↔◌, ℕ, zero, suc, ◌+◌, Bool, IsTrue, true, false, List, [], ◌∷◌, Some, drop, refl, sym, ap, subst, ◌∙◌, ◌&&◌, ◌⊎◌, arith}
+use Rattle.std.proofs.Common.{◌≡◌, ◌↔◌, ℕ, zero, suc, ◌+◌, Bool, IsTrue, true, false, not, List, [], ◌∷◌, Some, drop, refl, sym, ap, subst, ◌∙◌, ◌&&◌, ◌⊎◌, arith}
 use mathlib.Core.Logic.{inl, inr}
 use Rattle.std.specs.List.{list_all, slice_get}
 use Rattle.model_values.specs.Value.{Val}
@@ -82,3 +82,22 @@ one-passes p vs i v b at same h left =
     ap (λ (n : ℕ). list_all p (drop n vs)) (let step : i + 1 ≡ suc i = omega arith in step)
     ∙ ap (λ (c : Bool). c && list_all p (drop (suc i) vs)) (sym h ∙ same-tests b (p v) (IsTrue (p v)) same (λ is. is, λ is. is))
     ∙ sym (ap (list_all p) (front-at vs i v at)) ∙ left
+
+-- where one fails, not all pass
+pub one-lacks : (p : Val → Bool) (vs : List Val) (i : ℕ) (v : Val) (b : Bool) → slice_get vs i ≡ Some v → (IsTrue b ↔ IsTrue (p v)) → IsTrue (not b) → list_all p vs ≡ false
+one-lacks p vs i v b at same lacking = lacks vs i at where
+  untrue : (c : Bool) → IsTrue (not c) → c ≡ false
+  untrue true h = absurd (let wrong : false ≡ true = h in cc)
+  untrue false h = refl
+
+  fails : p v ≡ false
+  fails = sym (same-tests b (p v) (IsTrue (p v)) same (λ is. is, λ is. is)) ∙ untrue b lacking
+
+  neither : (c : Bool) → (c && false) ≡ false
+  neither true = refl
+  neither false = refl
+
+  lacks : (us : List Val) (j : ℕ) → slice_get us j ≡ Some v → list_all p us ≡ false
+  lacks [] j e = absurd (nothing-at j v e)
+  lacks (x ∷ us) zero e = ap (λ (z : Val). p z && list_all p us) (let is : x ≡ v = cc in is) ∙ ap (λ (c : Bool). c && list_all p us) fails
+  lacks (x ∷ us) (suc j) e = ap (λ (c : Bool). p x && c) (lacks us j e) ∙ neither (p x)

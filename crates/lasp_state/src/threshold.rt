@@ -1,6 +1,6 @@
 //! What a read waits for.
 
-ghost use Rattle.std.specs.Prelude.{◌≡◌, ◌↔◌, ◌&&◌, not, IsTrue};
+ghost use Rattle.std.specs.Prelude.{◌≡◌, ◌↔◌, ◌&&◌, false, not, IsTrue};
 ghost use Rattle.std.specs.List.{list_all};
 ghost use Rattle.model_states.specs.Content.{of_grow, is_content_at_most};
 ghost use Rattle.model_states.specs.Threshold.{suits, meets, counted, is_shape, is_counted, has_values, has_rows};
@@ -53,6 +53,26 @@ impl Threshold {
             Threshold::Count(count) => *count <= counted(s),
             Threshold::Added(values) => has_all(s, values, false),
             Threshold::Removed(values) => has_all(s, values, true),
+        }
+    }
+
+    /// From a place on the place of the first value that it asks for and a state lacks, for `lacks`. It costs as `meets` for the values up to there.
+    pub fn seek(&self, s: &State, place: u64) -> u64 {
+        match self {
+            Threshold::Added(values) => first_lacking(s, values, false, place),
+            Threshold::Removed(values) => first_lacking(s, values, true, place),
+            _ => place,
+        }
+    }
+
+    /// Whether it asks for a value at a place that a state lacks, so that the state isn't at the threshold. It costs as `meets` for one value.
+    pub fn lacks(&self, s: &State, place: u64) -> bool
+        ensures { IsTrue result → meets (threshold_of self.now) (content_of s.now) ≡ false }
+    {
+        match self {
+            Threshold::Added(values) => is_lacking(s, values, false, place),
+            Threshold::Removed(values) => is_lacking(s, values, true, place),
+            _ => false,
         }
     }
 }
@@ -126,6 +146,23 @@ fn has_all(s: &State, values: &Values, dead: bool) -> bool
         }
     }
     true
+}
+
+/// From a place on the place of the first value that wasn't added, or removed where `dead` is true.
+fn first_lacking(s: &State, values: &Values, dead: bool, place: u64) -> u64 {
+    for i in place..values.len() {
+        if !has(s, values.at(i), dead) {
+            return i;
+        }
+    }
+    values.len()
+}
+
+/// Whether there is a value at a place that wasn't added, or removed where `dead` is true.
+fn is_lacking(s: &State, values: &Values, dead: bool, place: u64) -> bool
+    ensures { IsTrue result → list_all (is_in dead (content_of s.now)) values.now ≡ false }
+{
+    place < values.len() && !has(s, values.at(place), dead)
 }
 
 fn has(s: &State, value: &Value, dead: bool) -> bool
