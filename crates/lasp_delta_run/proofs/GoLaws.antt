@@ -11,9 +11,9 @@ use Rattle.model_world.specs.World.{Peer, Run, Act, Take, peer_at, sent_number, 
 use Rattle.model_world.specs.declared.stop.Stop.{Stop}
 use Rattle.model_runs.specs.Sound.{IsSound}
 use Rattle.model_runs.proofs.SoundLaws.{sound-take}
-use Rattle.model_delta_runs.specs.Gossip.{Gossip, gossip_each}
-use Rattle.model_delta_runs.specs.Going.{IsGoing}
-use Rattle.model_delta_runs.proofs.RunLaws.{forget, forget-each, gossip-append}
+use Rattle.model_deltas.specs.Gossip.{Gossip, gossip_each}
+use Rattle.model_deltas.specs.Going.{IsGoing}
+use Rattle.model_deltas.proofs.RunLaws.{forget, forget-each, gossip-append}
 use Rattle.lasp_drive.specs.Node.{NodeView, IsNode, IsStill, AreNodes, Grew, OnlyLearns}
 use Rattle.lasp_drive.specs.Nodes.{peers_of}
 use Rattle.lasp_drive.specs.Driver.{DriverView, run_of, stage_of, IsRunKnown, Stands}

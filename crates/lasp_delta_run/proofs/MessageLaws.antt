@@ -26,10 +26,10 @@ use Rattle.model_deltas.specs.Spelling.{spelled_delta}
 use Rattle.model_deltas.proofs.CodecLaws.{known_decoded}
 use Rattle.lasp_delta_run.specs.Letter.{read_or_none, delta_in}
 use Rattle.model_deltas.proofs.AppliedLaws.{no-gap, gap-words, cause-gap, cause-large, cause-done}
-use Rattle.model_delta_runs.specs.Gossip.{Gossip, nothing_told, told_by, last_told, delta_number, gap_at, gossip_after, gossip_each, delta_size}
-use Rattle.model_delta_runs.specs.Going.{IsSentNumber}
-use Rattle.model_delta_runs.proofs.SourceLaws.{begins-by, decls-joined, taken-twice}
-use Rattle.model_delta_runs.proofs.TravelLaws.{tells-more, going-post, going-take, delta-wide, brings-delta}
+use Rattle.model_deltas.specs.Gossip.{Gossip, nothing_told, told_by, last_told, delta_number, gap_at, gossip_after, gossip_each, delta_size}
+use Rattle.model_deltas.specs.Going.{IsSentNumber}
+use Rattle.model_deltas.proofs.SourceLaws.{begins-by, decls-joined, taken-twice}
+use Rattle.model_deltas.proofs.TravelLaws.{tells-more, going-post, going-take, delta-wide, brings-delta}
 use Rattle.lasp_drive.specs.Node.{NodeView}
 use Rattle.lasp_drive.specs.Driver.{DriverView, run_of, stage_of, Stands}
 use Rattle.lasp_drive.specs.Acts.{Acted, MayDo}

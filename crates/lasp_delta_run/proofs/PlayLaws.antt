@@ -16,9 +16,9 @@ use Rattle.model_world.specs.Lawful.{Stage, stage_after, AreLawful}
 use Rattle.model_world.specs.World.{Run, Act, Point, start, act, acts, sync_acts, each, play, ended}
 use Rattle.model_world.specs.declared.stop.Stop.{Stop}
 use Rattle.model_deltas.specs.Delta.{Delta}
-use Rattle.model_delta_runs.specs.Gossip.{Gossip, gossip_after, gossip, gossip_start, gossiped, gossip_output, delta_size}
-use Rattle.model_delta_runs.proofs.RunLaws.{forget, forget-play}
-use Rattle.model_delta_runs.proofs.TravelLaws.{IsQuietCommand, going-start, going-quiet}
+use Rattle.model_deltas.specs.Gossip.{Gossip, gossip_after, gossip, gossip_start, gossiped, gossip_output, delta_size}
+use Rattle.model_deltas.proofs.RunLaws.{forget, forget-play}
+use Rattle.model_deltas.proofs.TravelLaws.{IsQuietCommand, going-start, going-quiet}
 use Rattle.lasp_drive.specs.Node.{NodeView, AreSettled}
 use Rattle.lasp_drive.specs.Driver.{DriverView, run_of, stage_of, Starts}
 use Rattle.lasp_drive.specs.Acts.{Halts, Acted, ActsSeen}

@@ -7,7 +7,7 @@ use Rattle.model_messages.specs.Message.{Message}
 use Rattle.model_runs.specs.Part.{BringsAsMuch}
 use Rattle.model_deltas.specs.Delta.{Delta, carried}
 use Rattle.model_deltas.specs.Applied.{first_gap}
-use Rattle.model_delta_runs.specs.Gossip.{gossip_each}
+use Rattle.model_deltas.specs.Gossip.{gossip_each}
 use Rattle.lasp_drive.specs.Driver.{DriverView, run_of, stage_of, Stands}
 use Rattle.lasp_drive.specs.Acts.{Halts, all_staged}
 use Rattle.lasp_drive.specs.declared.halt.Halt.{Halt}

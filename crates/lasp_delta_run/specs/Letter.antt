@@ -3,7 +3,7 @@ use Rattle.std.specs.Prelude.{ℕ, List, Result, Ok, Err}
 use Rattle.model_wire.specs.declared.wire_why.WireWhy.{WireWhy}
 use Rattle.model_deltas.specs.Delta.{Delta}
 use Rattle.model_deltas.specs.Reader.{decoded_delta}
-use Rattle.model_delta_runs.specs.Gossip.{no_delta}
+use Rattle.model_deltas.specs.Gossip.{no_delta}
 
 abbrev pub read_or_none : Result Delta (ℕ × WireWhy) → Delta
 read_or_none (Ok d) = d

@@ -5,7 +5,7 @@ use Rattle.model_functions.specs.Library.{Library}
 use Rattle.model_graph.specs.Graph.{Decl}
 use Rattle.model_world.specs.Command.{Command, Script}
 use Rattle.model_world.specs.World.{ended}
-use Rattle.model_delta_runs.specs.Gossip.{Gossip, gossip, gossip_start, gossiped, gossip_output}
+use Rattle.model_deltas.specs.Gossip.{Gossip, gossip, gossip_start, gossiped, gossip_output}
 use Rattle.lasp_drive.specs.Driver.{Starts, Stands}
 use Rattle.lasp_drive.specs.Node.{AreSettled}
 use Rattle.lasp_drive.specs.Stretch.{MayGoOn}

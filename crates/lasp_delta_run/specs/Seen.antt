@@ -2,8 +2,8 @@
 use Rattle.std.specs.Prelude.{ℕ, List, length, Option}
 use Rattle.model_core.specs.Core.{Read}
 use Rattle.model_deltas.specs.Delta.{Delta}
-use Rattle.model_delta_runs.specs.Gossip.{Gossip}
-use Rattle.model_delta_runs.specs.Going.{IsGoing}
+use Rattle.model_deltas.specs.Gossip.{Gossip}
+use Rattle.model_deltas.specs.Going.{IsGoing}
 use Rattle.lasp_drive.specs.Node.{NodeView}
 use Rattle.lasp_drive.specs.Driver.{DriverView, seen, run_of, stage_of, Stands}
 use Rattle.lasp_delta_run.specs.declared.deltas.DeltaRun.{DeltaRun}

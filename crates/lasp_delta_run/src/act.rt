@@ -3,7 +3,7 @@
 ghost use Rattle.std.specs.Prelude.{◌≡◌, ◌<◌, ◌≤◌, ◌+◌, ◌∷◌, [], length, IfOk, if◌then◌else◌};
 ghost use Rattle.std.specs.Arc.{arc_value};
 ghost use Rattle.model_world.specs.World.{Post, Take};
-ghost use Rattle.model_delta_runs.specs.Gossip.{nothing_told, last_told};
+ghost use Rattle.model_deltas.specs.Gossip.{nothing_told, last_told};
 ghost use Rattle.lasp_delta_run.specs.Seen.{delta_seen, gossip_of, IsUnderWay};
 ghost use Rattle.lasp_delta_run.specs.Acts.{Goes};
 

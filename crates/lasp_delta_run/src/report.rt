@@ -3,7 +3,7 @@
 ghost use Rattle.std.specs.Prelude.{◌≡◌, ◌++◌, ◌∷◌, [], ℕ, OnOk, IfOk, codes, map};
 ghost use Rattle.std.specs.Fmt.{decimal};
 ghost use Rattle.model_world.specs.Line.{line};
-ghost use Rattle.model_delta_runs.specs.Gossip.{delta_size, gossip_output};
+ghost use Rattle.model_deltas.specs.Gossip.{delta_size, gossip_output};
 ghost use Rattle.lasp_drive.specs.Node.{AreSettled};
 ghost use Rattle.lasp_drive.specs.Driver.{IsReady};
 ghost use Rattle.lasp_delta_run.specs.Seen.{delta_seen, gossip_of};

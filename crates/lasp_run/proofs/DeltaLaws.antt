@@ -7,8 +7,8 @@ use Rattle.model_graph.specs.Graph.{Decl}
 use Rattle.model_world.specs.Command.{Script}
 use Rattle.model_world.specs.World.{Run, ended}
 use Rattle.model_world.specs.declared.stop.Stop.{Stop}
-use Rattle.model_delta_runs.specs.Gossip.{Gossip, gossiped, gossip_output}
-use Rattle.model_delta_runs.proofs.RunLaws.{gossip-ends, gossip-stops}
+use Rattle.model_deltas.specs.Gossip.{Gossip, gossiped, gossip_output}
+use Rattle.model_deltas.proofs.RunLaws.{gossip-ends, gossip-stops}
 use Rattle.model_scripts.specs.Progress.{grown}
 use Rattle.model_program.specs.Follows.{Gives}
 use Rattle.model_program.specs.Program.{stopped, told_deltas, delta_answer}

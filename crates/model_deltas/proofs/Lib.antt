@@ -12,3 +12,8 @@ pub mod PlaceLaws
 pub mod CountFails
 pub mod SourceFails
 pub mod StuckLaws
+pub mod SourceLaws
+pub mod BringLaws
+pub mod TravelLaws
+pub mod DeliveryLaws
+pub mod RunLaws

@@ -5,3 +5,5 @@ pub mod Spelling
 pub mod Reader
 pub mod Stuck
 pub mod World
+pub mod Gossip
+pub mod Going

@@ -1,9 +1,10 @@
-//! What changed between two messages of one sender: the delta from one to the other, what it makes of a third message or why it can't be applied, and its bytes. Definitions and laws.
+//! What changed between two messages of one sender: the delta from one to the other, what it makes of a third message or why it can't be applied, and its bytes; and runs whose messages travel so, which changes nothing of them. Definitions and laws.
 #![tactic(auto)]
 
 mod applied;
 mod bytes;
 mod changes;
+mod runs;
 mod stuck;
 mod worlds;
 
@@ -13,5 +14,9 @@ pub use bytes::{
     refusals_of_deltas_stand_within_the_bytes,
 };
 pub use changes::{changes_make_up_the_difference, deltas_are_within_the_format};
+pub use runs::{
+    deliveries_by_deltas_bring_the_message, deltas_change_nothing_of_a_run,
+    messages_travel_as_deltas,
+};
 pub use stuck::bytes_are_no_delta_where_they_are_stuck;
 pub use worlds::{deltas_stand_for_their_messages, messages_of_a_world_go_together};

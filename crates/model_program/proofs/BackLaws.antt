@@ -30,8 +30,8 @@ use Rattle.model_program.specs.Check.{check_text}
 use Rattle.model_program.specs.Merge.{file_at, may_take, replica_before, merge_text, merging_files, joined}
 use Rattle.model_program.specs.Plan.{Exactly, Answer, Plan, Says, exactly, checked, within, reading, word_at, file_limit, told_answer}
 use Rattle.model_program.specs.Program.{form, plan, IsUsageForm, plan_of, opening, scripting, running_script, exporting_script, run_answer, export_answer, exported_bytes, stopped, graph_refused as refused_graph, script_refused as refused_script, told_deltas, delta_answer, delta_script}
-use Rattle.model_delta_runs.specs.Gossip.{Gossip, gossiped, gossip_output}
-use Rattle.model_delta_runs.proofs.RunLaws.{gossip-stops}
+use Rattle.model_deltas.specs.Gossip.{Gossip, gossiped, gossip_output}
+use Rattle.model_deltas.proofs.RunLaws.{gossip-stops}
 use Rattle.model_program.specs.Told.{IsFileTold, IsGraphTold, IsScriptTold, IsDotsTold, IsOfGraph, IsOfNodes, IsJoined, AreJoined, none, more}
 use Rattle.model_program.specs.declared.form.Form.{Form}
 use Rattle.model_program.specs.declared.form.Form.TheVariants.{Plain, Delta, Check, Dots, Export, Merge, Threaded, Wrong}

@@ -7,8 +7,8 @@ use Rattle.model_world.specs.Command.{Script}
 use Rattle.model_world.specs.Report.{report_of}
 use Rattle.model_world.specs.World.{ended}
 use Rattle.model_world.specs.declared.stop.Stop.{Stop}
-use Rattle.model_delta_runs.specs.Gossip.{Gossip, gossiped, delta_line, gossip_output}
-use Rattle.model_delta_runs.proofs.RunLaws.{gossip-ends}
+use Rattle.model_deltas.specs.Gossip.{Gossip, gossiped, delta_line, gossip_output}
+use Rattle.model_deltas.proofs.RunLaws.{gossip-ends}
 use Rattle.model_program.specs.Ends.{Writing, Ends, Settles}
 use Rattle.model_program.specs.Follows.{View, AllowsText, Follows}
 use Rattle.model_program.specs.Plan.{exactly, told_answer}

@@ -11,7 +11,7 @@ use Rattle.model_world.specs.Report.{report_of}
 use Rattle.model_dot_worlds.specs.DotReport.{live_lines}
 use Rattle.model_dot_worlds.specs.DotWorld.{one_set}
 use Rattle.model_dot_worlds.specs.Unlimited.{unlimited}
-use Rattle.model_delta_runs.specs.Gossip.{Gossip, gossiped, delta_line}
+use Rattle.model_deltas.specs.Gossip.{Gossip, gossiped, delta_line}
 use Rattle.model_known.specs.Direct.{direct_report}
 use Rattle.model_program.specs.Cause.{HasCause}
 use Rattle.model_program.specs.Ends.{Writing, writing, Tells, Ends, NoFault, MeetsFault}

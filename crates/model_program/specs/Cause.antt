@@ -6,7 +6,7 @@ use Rattle.model_graph.specs.Graph.{Decl, name_at}
 use Rattle.model_messages.specs.Message.{Message}
 use Rattle.model_world.specs.Command.{Script}
 use Rattle.model_world.specs.Report.{report_of}
-use Rattle.model_delta_runs.specs.Gossip.{Gossip, gossiped, gossip_output}
+use Rattle.model_deltas.specs.Gossip.{Gossip, gossiped, gossip_output}
 use Rattle.model_world.specs.World.{Run, ended}
 use Rattle.model_world.specs.declared.stop.Stop.{Stop}
 use Rattle.model_readings.specs.Graph.{graph_of}

@@ -7,7 +7,7 @@ ghost use Rattle.model_world.specs.Command.{Script};
 ghost use Rattle.model_world.specs.Report.{report_of};
 ghost use Rattle.model_world.specs.World.{ended};
 ghost use Rattle.model_world.specs.declared.stop.Stop.{Stop};
-ghost use Rattle.model_delta_runs.specs.Gossip.{Gossip, gossiped, delta_line};
+ghost use Rattle.model_deltas.specs.Gossip.{Gossip, gossiped, delta_line};
 ghost use Rattle.model_readings.specs.Graph.{graph_of};
 ghost use Rattle.model_readings.specs.declared.graph_why.GraphWhy.{GraphWhy};
 ghost use Rattle.model_scripts.specs.Progress.{grown};

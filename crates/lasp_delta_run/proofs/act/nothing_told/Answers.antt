@@ -1,7 +1,7 @@
 use Rattle.std.proofs.Common.{◌≡◌, ℕ, ◌∷◌, [], ◌++◌, ap, sym, subst, ◌∙◌, arith, replicate, List}
 use Rattle.std.proofs.lemmas.List.{replicate_more}
 use Rattle.model_wire.specs.Lawful.{IsMessage}
-use Rattle.model_delta_runs.proofs.SourceLaws.{nothing-lawful}
+use Rattle.model_deltas.proofs.SourceLaws.{nothing-lawful}
 use Rattle.lasp_delta_run.proofs.act.nothing_told.Goals as goal
 
 pub loop-preserved : goal.loop-preserved

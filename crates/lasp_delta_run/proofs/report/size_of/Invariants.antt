@@ -1,5 +1,5 @@
 use Rattle.std.proofs.Common.{◌≡◌, take}
-use Rattle.model_delta_runs.specs.Gossip.{delta_size}
+use Rattle.model_deltas.specs.Gossip.{delta_size}
 use Rattle.lasp_delta_run.proofs.report.size_of.Given as goal
 
 abbrev pub invariant-loop-letter : goal.invariant-loop-letter

@@ -2,7 +2,7 @@ use Rattle.std.proofs.Common.{◌≡◌, ◌∙◌, arith}
 use Rattle.std.specs.Prelude.{None, slice_get, Some, slice_index_or}
 use Rattle.std.specs.Arc.{arc_value}
 use Rattle.std.proofs.lemmas.Result.{IfOk-weaker}
-use Rattle.model_delta_runs.specs.Gossip.{last_told}
+use Rattle.model_deltas.specs.Gossip.{last_told}
 use Rattle.lasp_drive.proofs.NodeLaws.{seen-high}
 use Rattle.lasp_delta_run.specs.Seen.{delta_seen, gossip_of}
 use Rattle.lasp_delta_run.proofs.MessageLaws.{last-low, read-or, told-number, told-read}

@@ -1,5 +1,5 @@
 use Rattle.std.proofs.Common.{ap, ◌∙◌}
-use Rattle.model_delta_runs.specs.Gossip.{delta_size}
+use Rattle.model_deltas.specs.Gossip.{delta_size}
 use Rattle.lasp_delta_run.specs.Seen.{delta_seen}
 use Rattle.lasp_delta_run.proofs.PlayLaws.{written-whole}
 use Rattle.lasp_delta_run.proofs.deltas.DeltaRun.report.Goals as goal

@@ -2,7 +2,7 @@ use Rattle.std.proofs.Common.{arith, ◌≡◌, ◌∙◌, sym, subst}
 use Rattle.lasp_drive.specs.Driver.{seen}
 use Rattle.lasp_drive.proofs.NodeLaws.{seen-high}
 use Rattle.model_deltas.specs.Delta.{Delta}
-use Rattle.model_delta_runs.specs.Gossip.{no_delta, delta_number}
+use Rattle.model_deltas.specs.Gossip.{no_delta, delta_number}
 use Rattle.lasp_delta_run.specs.Seen.{delta_seen, gossip_of}
 use Rattle.lasp_delta_run.specs.Acts.{StandsFor}
 use Rattle.lasp_delta_run.proofs.MessageLaws.{letter-low, read-or, stands-there, went-taken}

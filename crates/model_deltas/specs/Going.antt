@@ -9,7 +9,7 @@ use Rattle.model_known.proofs.PlayLaws.{IsAt}
 use Rattle.model_wire.specs.Lawful.{IsMessage}
 use Rattle.model_deltas.specs.Delta.{Delta, delta_of}
 use Rattle.model_deltas.specs.Before.{IsBefore}
-use Rattle.model_delta_runs.specs.Gossip.{Gossip, told_by, delta_number}
+use Rattle.model_deltas.specs.Gossip.{Gossip, told_by, delta_number}
 
 -- a message that was sent, or none
 abbrev pub IsSentNumber : Run → Option ℕ → Type 0

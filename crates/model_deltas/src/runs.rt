@@ -13,8 +13,8 @@ ghost use Rattle.model_wire.specs.Lawful.{IsMessage};
 ghost use Rattle.model_deltas.specs.Delta.{carried};
 ghost use Rattle.model_deltas.specs.Applied.{first_gap, joined, limited, unless, applied};
 ghost use Rattle.model_deltas.specs.Before.{IsBefore};
-ghost use Rattle.model_delta_runs.specs.Gossip.{Gossip, last_told, delta_number, gossip_after, gossip_start, gossiped};
-ghost use Rattle.model_delta_runs.specs.Going.{Travels};
+ghost use Rattle.model_deltas.specs.Gossip.{Gossip, last_told, delta_number, gossip_after, gossip_start, gossiped};
+ghost use Rattle.model_deltas.specs.Going.{Travels};
 
 /// The run by deltas of a script is the script's run: it ends in the same world, or stops where that stops.
 pub fn deltas_change_nothing_of_a_run()

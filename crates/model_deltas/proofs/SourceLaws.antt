@@ -23,7 +23,7 @@ use Rattle.model_deltas.specs.Delta.{changed_sources}
 use Rattle.model_deltas.specs.Applied.{joined_sources, joined}
 use Rattle.model_deltas.proofs.BeginLaws.{decls_of, BeginsBy, tail-of}
 use Rattle.model_deltas.proofs.JoinedLaws.{joined-source}
-use Rattle.model_delta_runs.specs.Gossip.{nothing_told}
+use Rattle.model_deltas.specs.Gossip.{nothing_told}
 
 pub decls-changed : (before : List Sent) (i : ℕ) (after : List Sent) → decls_of (changed_sources before i after) ≡ decls_of after
 decls-changed before i [] = refl

@@ -6,7 +6,7 @@ use Rattle.model_graph.specs.Graph.{Decl}
 use Rattle.model_world.specs.Command.{Command, Script}
 use Rattle.model_world.specs.World.{Run, Act, Update, Keep, Post, Take, Point, Show, Open, Reach, Extend, act, acts, each, play, ended}
 use Rattle.model_world.specs.declared.stop.Stop.{Stop}
-use Rattle.model_delta_runs.specs.Gossip.{Gossip, gossip_after, gossip_act, gossip_each, gossip_step, gossip, gossip_start, gossiped}
+use Rattle.model_deltas.specs.Gossip.{Gossip, gossip_after, gossip_act, gossip_each, gossip_step, gossip, gossip_start, gossiped}
 
 -- the run alone
 abbrev pub forget : Result Gossip Stop → Result Run Stop

@@ -1,6 +1,6 @@
-use Rattle.model_delta_runs.proofs.SourceLaws.{taken-there}
-use Rattle.model_delta_runs.proofs.PlaceLaws.{applied-place, carried-place}
-use Rattle.model_delta_runs.proofs.runs.deliveries_by_deltas_bring_the_message.Goals as goal
+use Rattle.model_deltas.proofs.SourceLaws.{taken-there}
+use Rattle.model_deltas.proofs.DeliveryLaws.{applied-place, carried-place}
+use Rattle.model_deltas.proofs.runs.deliveries_by_deltas_bring_the_message.Goals as goal
 
 pub returns-clause-applied : goal.returns-clause-applied
 returns-clause-applied c = λ g nodes commands f s place same travels p i member within present. applied-place g nodes commands f s place same travels p i member within present

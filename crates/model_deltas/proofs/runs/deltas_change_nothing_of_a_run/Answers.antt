@@ -1,5 +1,5 @@
-use Rattle.model_delta_runs.proofs.RunLaws.{gossip-ends, gossip-stops}
-use Rattle.model_delta_runs.proofs.runs.deltas_change_nothing_of_a_run.Goals as goal
+use Rattle.model_deltas.proofs.RunLaws.{gossip-ends, gossip-stops}
+use Rattle.model_deltas.proofs.runs.deltas_change_nothing_of_a_run.Goals as goal
 
 pub returns-clause-ends : goal.returns-clause-ends
 returns-clause-ends c = gossip-ends

@@ -1,6 +1,6 @@
-use Rattle.model_delta_runs.proofs.PlaceLaws.{travels-begin, travels-sent}
-use Rattle.model_delta_runs.proofs.TravelLaws.{travels-else}
-use Rattle.model_delta_runs.proofs.runs.messages_travel_as_deltas.Goals as goal
+use Rattle.model_deltas.proofs.DeliveryLaws.{travels-begin, travels-sent}
+use Rattle.model_deltas.proofs.TravelLaws.{travels-else}
+use Rattle.model_deltas.proofs.runs.messages_travel_as_deltas.Goals as goal
 
 pub returns-clause-start : goal.returns-clause-start
 returns-clause-start c = travels-begin

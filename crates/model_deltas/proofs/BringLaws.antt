@@ -19,7 +19,7 @@ use Rattle.model_deltas.proofs.AppliedLaws.{no-gap}
 use Rattle.model_deltas.proofs.ChangeLaws.{changed-onto}
 use Rattle.model_deltas.proofs.DeltaLaws.{delta-source, delta-length}
 use Rattle.model_deltas.proofs.WorldLaws.{later-sources, holds-more}
-use Rattle.model_delta_runs.proofs.SourceLaws.{decls-changed}
+use Rattle.model_deltas.proofs.SourceLaws.{decls-changed}
 
 pub delta-brings : (g : List Decl) (nodes : ℕ) (all : List (List known.Delta)) (before after : Message) (r : Peer) → Carries g nodes all before → Carries g nodes all (message_at g r) → length r.contents ≡ length g → length r.counts ≡ length after.counts
     → IsMessage before → IsMessage after → IsBefore before after → first_gap 0 r.counts before.counts ≡ None → BringsAsMuch g r.contents after (carried (delta_of before after))

@@ -17,10 +17,10 @@ use Rattle.model_deltas.specs.Before.{IsBefore}
 use Rattle.model_deltas.specs.World.{IsToldAmong, IsMessageIn}
 use Rattle.model_deltas.proofs.TellLaws.{in-world, delta-world}
 use Rattle.model_deltas.proofs.WayLaws.{sent-told}
-use Rattle.model_delta_runs.specs.Gossip.{Gossip, nothing_told, told_by, last_told, delta_number, gossip_after, gossip_start}
-use Rattle.model_delta_runs.specs.Going.{IsSentNumber, Travels}
-use Rattle.model_delta_runs.proofs.BringLaws.{delta-brings}
-use Rattle.model_delta_runs.proofs.TravelLaws.{travels-post, going-start}
+use Rattle.model_deltas.specs.Gossip.{Gossip, nothing_told, told_by, last_told, delta_number, gossip_after, gossip_start}
+use Rattle.model_deltas.specs.Going.{IsSentNumber, Travels}
+use Rattle.model_deltas.proofs.BringLaws.{delta-brings}
+use Rattle.model_deltas.proofs.TravelLaws.{travels-post, going-start}
 
 -- ---- act by act
 

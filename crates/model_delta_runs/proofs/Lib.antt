@@ -1,5 +1,0 @@
-pub mod SourceLaws
-pub mod BringLaws
-pub mod TravelLaws
-pub mod PlaceLaws
-pub mod RunLaws

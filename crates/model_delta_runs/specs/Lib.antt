@@ -1,2 +1,0 @@
-pub mod Gossip
-pub mod Going
