@@ -10,9 +10,9 @@ use Rattle.model_world.specs.Lawful.{Stage, stage_after, AreLawful}
 use Rattle.model_world.specs.World.{Act, Post, Take, sync_acts}
 use Rattle.model_known.proofs.RoundLaws.{AreCalm, calm-sync, posts, posts-sync}
 use Rattle.model_dots.specs.Dots.{join_dots}
-use Rattle.model_dot_worlds.specs.DotReport.{dot_print, dot_text}
-use Rattle.model_dot_worlds.specs.DotWorld.{DotWorld, dots_at, IsDotCommand, dot_acts, dot_act, dot_each, dot_play}
-use Rattle.model_dot_worlds.specs.Words.{is_dot_command, first_other}
+use Rattle.model_dots.specs.DotReport.{dot_print, dot_text}
+use Rattle.model_dots.specs.DotWorld.{DotWorld, dots_at, IsDotCommand, dot_acts, dot_act, dot_each, dot_play}
+use Rattle.model_dots.specs.Words.{is_dot_command, first_other}
 use Rattle.lasp_dot_run.specs.Commands.{stage_at}
 
 -- ---- what stands behind a command

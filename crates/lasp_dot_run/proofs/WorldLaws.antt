@@ -9,7 +9,7 @@ use Rattle.model_states.proofs.CountLaws.{length-larger}
 use Rattle.model_graph.proofs.PlaceLaws.{at-set, set-length}
 use Rattle.model_world.specs.World.{Act, Post, Take, takes, sync_acts}
 use Rattle.model_dots.specs.Dots.{Dots, no_dots, join_dots}
-use Rattle.model_dot_worlds.specs.DotWorld.{DotWorld, dots_at, dot_act, dot_each}
+use Rattle.model_dots.specs.DotWorld.{DotWorld, dots_at, dot_act, dot_each}
 use Rattle.lasp_dot_run.specs.Replicas.{AreWide}
 
 -- ---- widths

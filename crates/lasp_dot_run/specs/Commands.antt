@@ -3,8 +3,8 @@ use Rattle.std.specs.Prelude.{ℕ, ◌<◌, [], length}
 use Rattle.model_dots.specs.Dots.{count_limit}
 use Rattle.model_world.specs.Command.{Command}
 use Rattle.model_world.specs.Lawful.{Stage, MayBeDone}
-use Rattle.model_dot_worlds.specs.DotWorld.{one_set, DotWorld, IsDotCommand}
-use Rattle.model_dot_worlds.specs.Sizes.{CountAtMost}
+use Rattle.model_dots.specs.DotWorld.{one_set, DotWorld, IsDotCommand}
+use Rattle.model_dots.specs.Sizes.{CountAtMost}
 
 -- what stands before the next command of a script, the replicas having come there
 abbrev pub stage_at : DotWorld → Stage

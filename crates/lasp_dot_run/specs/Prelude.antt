@@ -10,11 +10,11 @@ pub use Rattle.model_world.specs.Line.{known_line, line, line_rest}
 pub use Rattle.model_world.specs.Report.{report_of}
 pub use Rattle.model_world.specs.World.{Post, Run, Take, Update, ended, peer_at, sync_acts, takes}
 pub use Rattle.model_dots.specs.Dots.{add_dot, count_limit, join_dots, no_dots, remove_dots}
-pub use Rattle.model_dot_worlds.specs.DotReport.{dot_known, dot_output, dot_print, dot_sizes, dot_text, live_lines}
-pub use Rattle.model_dot_worlds.specs.DotWorld.{AreDotCommands, LacksTheRemoved, StandsFor, dot_act, dot_acts, dot_each, dot_play, dot_start, dots_at, one_set}
-pub use Rattle.model_dot_worlds.specs.Sizes.{CountAtMost}
-pub use Rattle.model_dot_worlds.specs.Unlimited.{IsUnlimited}
-pub use Rattle.model_dot_worlds.specs.Words.{first_other, is_dot_command}
+pub use Rattle.model_dots.specs.DotReport.{dot_known, dot_output, dot_print, dot_sizes, dot_text, live_lines}
+pub use Rattle.model_dots.specs.DotWorld.{AreDotCommands, LacksTheRemoved, StandsFor, dot_act, dot_acts, dot_each, dot_play, dot_start, dots_at, one_set}
+pub use Rattle.model_dots.specs.Sizes.{CountAtMost}
+pub use Rattle.model_dots.specs.Unlimited.{IsUnlimited}
+pub use Rattle.model_dots.specs.Words.{first_other, is_dot_command}
 pub use Rattle.lasp_value.specs.Value.{val_of}
 pub use Rattle.lasp_dots.specs.declared.refused.DotRefused.TheVariants.{Memory}
 pub use Rattle.lasp_script.specs.Command.{command_of}

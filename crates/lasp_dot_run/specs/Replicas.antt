@@ -2,7 +2,7 @@
 use Rattle.std.specs.Prelude.{◌≡◌, ℕ, ◌<◌, List, length, refl}
 use Rattle.std.specs.Coded.{Coded, code_by, coded×, coded_list}
 use Rattle.model_dots.specs.Dots.{Dots, coded_dots}
-use Rattle.model_dot_worlds.specs.DotWorld.{DotWorld, dots_at}
+use Rattle.model_dots.specs.DotWorld.{DotWorld, dots_at}
 
 -- each state has a count for each replica
 pub record AreWide (w : DotWorld) : Type 0 where

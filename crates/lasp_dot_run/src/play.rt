@@ -7,7 +7,7 @@ use super::command::do_command;
 use super::replicas::DotReplicas;
 use super::report::{push_all_known, push_all_sizes};
 use lasp_script::Script;
-use model_dot_worlds::{
+use model_dots::{
     replicas_without_tombstones_stand_for_those_with_them, reports_need_no_tombstones,
 };
 use std::alloc::{AllocError, Global};

@@ -15,7 +15,7 @@ pub struct DotReplicas {
 }
 
 impl Model for DotReplicas {
-    ghost use Rattle.model_dot_worlds.specs.DotWorld.{DotWorld};
+    ghost use Rattle.model_dots.specs.DotWorld.{DotWorld};
     ghost use Rattle.lasp_dot_run.specs.Replicas.{AreWide, coded_world};
 
     ghost Value = { DotWorld };

@@ -2,8 +2,8 @@
 use Rattle.std.proofs.Common.{ℕ, sym, ap, ◌∙◌}
 use Rattle.std.specs.Prelude.{◌≡◌, List, None, Option, Ok}
 use Rattle.model_world.specs.Command.{Script}
-use Rattle.model_dot_worlds.specs.DotReport.{dot_output}
-use Rattle.model_dot_worlds.specs.Words.{first_other}
+use Rattle.model_dots.specs.DotReport.{dot_output}
+use Rattle.model_dots.specs.Words.{first_other}
 use Rattle.model_program.specs.Dots.{dots_or, dots_answer}
 
 -- the text of any other

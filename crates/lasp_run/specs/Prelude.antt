@@ -10,7 +10,7 @@ pub use Rattle.model_world.specs.Lawful.{IsLawful}
 pub use Rattle.model_world.specs.Line.{line, line_rest}
 pub use Rattle.model_world.specs.Report.{report_of}
 pub use Rattle.model_world.specs.World.{Peer, ended, shown_at}
-pub use Rattle.model_dot_worlds.specs.DotWorld.{one_set}
+pub use Rattle.model_dots.specs.DotWorld.{one_set}
 pub use Rattle.model_wire.specs.Lawful.{IsMessage}
 pub use Rattle.model_wire.specs.Message.{decoded}
 pub use Rattle.model_readings.specs.Graph.{graph_of}

@@ -20,10 +20,10 @@ use Rattle.model_scripts.specs.declared.script_why.ScriptWhy.{ScriptWhy}
 use Rattle.model_scripts.specs.declared.script_why.ScriptWhy.TheVariants.{NoSuchNode}
 use Rattle.model_wire.specs.Message.{decoded}
 use Rattle.model_wire.specs.declared.wire_why.WireWhy.{WireWhy}
-use Rattle.model_dot_worlds.specs.DotReport.{dot_output}
-use Rattle.model_dot_worlds.specs.DotWorld.{one_set}
-use Rattle.model_dot_worlds.specs.Words.{first_other}
-use Rattle.model_dot_worlds.proofs.WordLaws.{other-told, none-known}
+use Rattle.model_dots.specs.DotReport.{dot_output}
+use Rattle.model_dots.specs.DotWorld.{one_set}
+use Rattle.model_dots.specs.Words.{first_other}
+use Rattle.model_dots.proofs.WordLaws.{other-told, none-known}
 use Rattle.model_program.specs.Dots.{dots_answer}
 use Rattle.model_program.specs.Cause.{IsGraphRefused, graph_long, graph_bad, IsScriptRefused, script_long, script_bad, IsFileRefused, file_long, no_message, wrong_graph, source_large, dots_long, dots_bad, ReadsGraph, HasCause, usage, graph_refused, script_refused, run_stopped, reported, checked as checked_so, dots_refused, other_word, dots_done, export_refused, no_such_node, export_stopped, exported, file_refused, variable_too_large, merged, delta_refused, delta_stopped, delta_done}
 use Rattle.model_program.specs.Check.{check_text}

@@ -9,12 +9,12 @@ use Rattle.model_world.specs.World.{Run, start, ended}
 use Rattle.model_scripts.specs.Script.{script_of}
 use Rattle.model_scripts.specs.declared.script_why.ScriptWhy.{ScriptWhy}
 use Rattle.model_scripts.proofs.Reached.{accepted-script_of}
-use Rattle.model_dot_worlds.specs.DotReport.{live_lines, dot_output}
-use Rattle.model_dot_worlds.specs.DotWorld.{one_set, AreDotCommands}
-use Rattle.model_dot_worlds.specs.Unlimited.{unlimited}
-use Rattle.model_dot_worlds.specs.Words.{first_other, IsFirstOther}
-use Rattle.model_dot_worlds.proofs.TextLaws.{output-unlimited, output-ended}
-use Rattle.model_dot_worlds.proofs.WordLaws.{first-told, known-none}
+use Rattle.model_dots.specs.DotReport.{live_lines, dot_output}
+use Rattle.model_dots.specs.DotWorld.{one_set, AreDotCommands}
+use Rattle.model_dots.specs.Unlimited.{unlimited}
+use Rattle.model_dots.specs.Words.{first_other, IsFirstOther}
+use Rattle.model_dots.proofs.TextLaws.{output-unlimited, output-ended}
+use Rattle.model_dots.proofs.WordLaws.{first-told, known-none}
 use Rattle.model_program.specs.Dots.{dots_or, dots_answer, IsDotStatus, done, script, file, text, memory}
 use Rattle.model_program.specs.Ends.{Writing, Ends}
 use Rattle.model_program.specs.Follows.{View, Follows}

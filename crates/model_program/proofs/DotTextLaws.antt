@@ -5,11 +5,11 @@ use Rattle.model_functions.specs.Library.{Library}
 use Rattle.model_world.specs.Command.{Script}
 use Rattle.model_world.specs.Report.{report_of}
 use Rattle.model_world.specs.World.{Run, start, ended}
-use Rattle.model_dot_worlds.specs.DotReport.{live_lines}
-use Rattle.model_dot_worlds.specs.DotWorld.{one_set}
-use Rattle.model_dot_worlds.specs.Unlimited.{unlimited}
-use Rattle.model_dot_worlds.specs.Words.{first_other}
-use Rattle.model_dot_worlds.proofs.WordLaws.{none-known}
+use Rattle.model_dots.specs.DotReport.{live_lines}
+use Rattle.model_dots.specs.DotWorld.{one_set}
+use Rattle.model_dots.specs.Unlimited.{unlimited}
+use Rattle.model_dots.specs.Words.{first_other}
+use Rattle.model_dots.proofs.WordLaws.{none-known}
 use Rattle.model_program.specs.Dots.{dots_or, dots_answer}
 use Rattle.model_program.specs.Ends.{Writing, Ends, Settles}
 use Rattle.model_program.specs.Follows.{View, AllowsText, Follows}

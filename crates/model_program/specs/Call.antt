@@ -8,9 +8,9 @@ use Rattle.model_values.specs.Told.{Appends, AppendsPrefix}
 use Rattle.model_world.specs.Command.{Script}
 use Rattle.model_world.specs.World.{Run, start, ended}
 use Rattle.model_world.specs.Report.{report_of}
-use Rattle.model_dot_worlds.specs.DotReport.{live_lines}
-use Rattle.model_dot_worlds.specs.DotWorld.{one_set}
-use Rattle.model_dot_worlds.specs.Unlimited.{unlimited}
+use Rattle.model_dots.specs.DotReport.{live_lines}
+use Rattle.model_dots.specs.DotWorld.{one_set}
+use Rattle.model_dots.specs.Unlimited.{unlimited}
 use Rattle.model_deltas.specs.Gossip.{Gossip, gossiped, delta_line}
 use Rattle.model_known.specs.Direct.{direct_report}
 use Rattle.model_program.specs.Cause.{HasCause}

@@ -20,9 +20,9 @@ use Rattle.model_wire.specs.declared.wire_why.WireWhy.{WireWhy}
 use Rattle.model_program.specs.Check.{check_text}
 use Rattle.model_program.specs.Merge.{file_at, joined, merge_text}
 use Rattle.model_program.specs.Plan.{Exactly, Answer, word_at, file_limit}
-use Rattle.model_dot_worlds.specs.DotReport.{dot_output}
-use Rattle.model_dot_worlds.specs.DotWorld.{one_set, AreDotCommands}
-use Rattle.model_dot_worlds.specs.Words.{IsFirstOther}
+use Rattle.model_dots.specs.DotReport.{dot_output}
+use Rattle.model_dots.specs.DotWorld.{one_set, AreDotCommands}
+use Rattle.model_dots.specs.Words.{IsFirstOther}
 use Rattle.model_program.specs.Program.{form, stopped, exported_bytes, IsUsageForm}
 use Rattle.model_program.specs.Told.{IsFileTold, IsGraphTold, IsScriptTold, IsDotsTold, IsOfGraph, IsOfNodes, AreJoined}
 use Rattle.model_program.specs.declared.form.Form.{Form}

@@ -1,8 +1,8 @@
 -- `dots`: a script over one set, done by replicas that keep no tombstones.
 use Rattle.std.specs.Prelude.{ℕ, List, Option, Some, None, Result, Ok, Err}
 use Rattle.model_world.specs.Command.{Script}
-use Rattle.model_dot_worlds.specs.DotReport.{dot_output}
-use Rattle.model_dot_worlds.specs.Words.{first_other}
+use Rattle.model_dots.specs.DotReport.{dot_output}
+use Rattle.model_dots.specs.Words.{first_other}
 use Rattle.model_program.specs.declared.refusal.Refusal.{Refusal}
 use Rattle.model_program.specs.declared.refusal.Refusal.TheVariants as refusal
 

@@ -18,7 +18,7 @@ use Rattle.model_scripts.specs.Progress.{grown}
 use Rattle.model_scripts.specs.Script.{script_of}
 use Rattle.model_scripts.specs.declared.script_why.ScriptWhy.{ScriptWhy}
 use Rattle.model_scripts.specs.declared.script_why.ScriptWhy.TheVariants.{NoSuchNode}
-use Rattle.model_dot_worlds.specs.DotWorld.{one_set}
+use Rattle.model_dots.specs.DotWorld.{one_set}
 use Rattle.model_deltas.specs.Gossip.{Gossip, gossiped, gossip_output}
 use Rattle.model_program.specs.Check.{check_text}
 use Rattle.model_program.specs.Dots.{dots_answer}

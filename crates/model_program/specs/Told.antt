@@ -6,7 +6,7 @@ use Rattle.model_graph.specs.Evaluation.{first_large}
 use Rattle.model_messages.specs.Message.{Message}
 use Rattle.model_wire.specs.Message.{decoded}
 use Rattle.model_world.specs.Command.{Script}
-use Rattle.model_dot_worlds.specs.DotWorld.{one_set}
+use Rattle.model_dots.specs.DotWorld.{one_set}
 use Rattle.model_readings.specs.Graph.{graph_of}
 use Rattle.model_scripts.specs.Script.{script_of}
 use Rattle.model_program.specs.Merge.{declared_in, sources_of, IsPrefixOf, file_at, nodes_in, joined}

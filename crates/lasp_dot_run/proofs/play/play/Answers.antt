@@ -3,10 +3,10 @@ use Rattle.std.specs.String.{string_bytes}
 use Rattle.model_values.proofs.ListLaws.{drop-at}
 use Rattle.model_world.specs.Command as plain
 use Rattle.model_world.specs.Lawful.{AreLawful}
-use Rattle.model_dot_worlds.specs.DotReport.{dot_text}
-use Rattle.model_dot_worlds.specs.DotWorld.{DotWorld, AreDotCommands, dot_play}
-use Rattle.model_dot_worlds.specs.Sizes.{CountAtMost}
-use Rattle.model_dot_worlds.proofs.SizeLaws.{step-more}
+use Rattle.model_dots.specs.DotReport.{dot_text}
+use Rattle.model_dots.specs.DotWorld.{DotWorld, AreDotCommands, dot_play}
+use Rattle.model_dots.specs.Sizes.{CountAtMost}
+use Rattle.model_dots.proofs.SizeLaws.{step-more}
 use Rattle.lasp_script.specs.Command.{command_of}
 use Rattle.lasp_dot_run.specs.Commands.{stage_at}
 use Rattle.lasp_dot_run.proofs.PlayLaws.{step-size, lawful-next, play-next, play-end, text-next, text-end}

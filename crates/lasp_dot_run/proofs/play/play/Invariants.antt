@@ -1,9 +1,9 @@
 use Rattle.std.proofs.Common.{◌≡◌, ◌≤◌, ◌++◌, length, drop}
 use Rattle.std.specs.String.{string_bytes}
 use Rattle.model_world.specs.Lawful.{AreLawful}
-use Rattle.model_dot_worlds.specs.DotReport.{dot_text}
-use Rattle.model_dot_worlds.specs.DotWorld.{AreDotCommands, dot_play}
-use Rattle.model_dot_worlds.specs.Sizes.{CountAtMost}
+use Rattle.model_dots.specs.DotReport.{dot_text}
+use Rattle.model_dots.specs.DotWorld.{AreDotCommands, dot_play}
+use Rattle.model_dots.specs.Sizes.{CountAtMost}
 use Rattle.lasp_dot_run.specs.Commands.{stage_at}
 use Rattle.lasp_dot_run.proofs.play.play.Given as goal
 

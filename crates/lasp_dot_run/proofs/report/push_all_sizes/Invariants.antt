@@ -1,6 +1,6 @@
 use Rattle.std.proofs.Common.{◌≡◌, ◌≤◌, ◌++◌, length, drop}
 use Rattle.std.specs.String.{string_bytes}
-use Rattle.model_dot_worlds.specs.DotReport.{dot_sizes}
+use Rattle.model_dots.specs.DotReport.{dot_sizes}
 use Rattle.lasp_dot_run.proofs.report.push_all_sizes.Given as goal
 
 abbrev pub invariant-loop-p : goal.invariant-loop-p

@@ -1,5 +1,5 @@
 use Rattle.std.proofs.Common.{◌≡◌, ◌+◌, ◌≤◌, length, drop}
-use Rattle.model_dot_worlds.specs.Words.{first_other}
+use Rattle.model_dots.specs.Words.{first_other}
 use Rattle.lasp_dot_run.proofs.words.first_other.Given as goal
 
 abbrev pub invariant-loop-i : goal.invariant-loop-i

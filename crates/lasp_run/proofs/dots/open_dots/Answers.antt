@@ -1,7 +1,7 @@
 use Rattle.std.proofs.Common.{List, ℕ, ◌∙◌, subst}
 use Rattle.model_graph.specs.Chain.{refusing}
 use Rattle.model_graph.specs.Graph.{Decl}
-use Rattle.model_dot_worlds.specs.DotWorld.{one_set}
+use Rattle.model_dots.specs.DotWorld.{one_set}
 use Rattle.lasp_call.specs.Opens.{Opens}
 use Rattle.model_world.specs.Command.{Script}
 use Rattle.model_scripts.specs.Script.{script_of}

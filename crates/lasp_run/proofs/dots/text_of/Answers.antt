@@ -1,5 +1,5 @@
 use Rattle.std.proofs.Common.{sym, ◌∙◌}
-use Rattle.model_dot_worlds.proofs.WordLaws.{none-known}
+use Rattle.model_dots.proofs.WordLaws.{none-known}
 use Rattle.lasp_run.proofs.dots.text_of.Goals as goal
 
 pub run_dots-requires-clause-known : goal.run_dots-requires-clause-known

@@ -1,7 +1,7 @@
 use Rattle.std.proofs.Common.{length, sym, ap, ◌∙◌, arith}
 use Rattle.model_graph.proofs.PlaceLaws.{length-push}
 use Rattle.model_world.specs.World.{Post}
-use Rattle.model_dot_worlds.specs.DotWorld.{DotWorld, dots_at, dot_act}
+use Rattle.model_dots.specs.DotWorld.{DotWorld, dots_at, dot_act}
 use Rattle.lasp_dot_run.proofs.WorldLaws.{posts-push}
 use Rattle.lasp_dot_run.proofs.replicas.DotReplicas.post_all.Goals as goal
 

@@ -1,7 +1,7 @@
 use Rattle.std.proofs.Common.{◌≡◌, ◌+◌, ◌≤◌, length, map}
 use Rattle.std.specs.List.{range_with_len}
 use Rattle.model_world.specs.World.{Post}
-use Rattle.model_dot_worlds.specs.DotWorld.{dot_each}
+use Rattle.model_dots.specs.DotWorld.{dot_each}
 use Rattle.lasp_dot_run.proofs.replicas.DotReplicas.post_all.Given as goal
 
 abbrev pub invariant-loop-p : goal.invariant-loop-p

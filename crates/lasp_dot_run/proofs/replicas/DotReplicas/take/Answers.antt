@@ -1,5 +1,5 @@
 use Rattle.std.proofs.Common.{◌<◌, length, subst, sym}
-use Rattle.model_dot_worlds.specs.DotWorld.{DotWorld}
+use Rattle.model_dots.specs.DotWorld.{DotWorld}
 use Rattle.lasp_dot_run.proofs.WorldLaws.{sent-wide, taken-wide}
 use Rattle.lasp_dot_run.proofs.replicas.DotReplicas.take.Goals as goal
 

@@ -1,6 +1,6 @@
 use Rattle.std.proofs.Common.{ℕ, length, sym, ap, ◌∙◌, arith}
 use Rattle.model_world.specs.World.{takes}
-use Rattle.model_dot_worlds.specs.DotWorld.{DotWorld, dot_each}
+use Rattle.model_dots.specs.DotWorld.{DotWorld, dot_each}
 use Rattle.lasp_dot_run.proofs.WorldLaws.{all-push}
 use Rattle.lasp_dot_run.proofs.replicas.DotReplicas.take_all.Goals as goal
 

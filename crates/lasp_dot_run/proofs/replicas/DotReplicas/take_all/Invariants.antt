@@ -2,7 +2,7 @@ use Rattle.std.proofs.Common.{◌≡◌, ◌≤◌, length}
 use Rattle.std.specs.Prelude.{flat_map}
 use Rattle.std.specs.List.{range_with_len}
 use Rattle.model_world.specs.World.{takes}
-use Rattle.model_dot_worlds.specs.DotWorld.{dot_each}
+use Rattle.model_dots.specs.DotWorld.{dot_each}
 use Rattle.lasp_dot_run.proofs.replicas.DotReplicas.take_all.Given as goal
 
 abbrev pub invariant-loop-p : goal.invariant-loop-p

@@ -1,6 +1,6 @@
 use Rattle.std.proofs.Common.{◌+◌, length, sym, ap, ◌∙◌, arith}
 use Rattle.model_graph.proofs.PlaceLaws.{set-length}
-use Rattle.model_dot_worlds.specs.DotWorld.{DotWorld, dot_each}
+use Rattle.model_dots.specs.DotWorld.{DotWorld, dot_each}
 use Rattle.lasp_dot_run.proofs.WorldLaws.{taken, takes-push, taken-other, taken-own, other-node, own-node}
 use Rattle.lasp_dot_run.proofs.replicas.DotReplicas.take_others.Goals as goal
 use Rattle.lasp_dot_run.proofs.replicas.DotReplicas.take_others.Goals.{then-q-p+in_ok-take, else-q-p}

@@ -1,6 +1,6 @@
 use Rattle.std.proofs.Common.{◌≡◌, ◌≤◌, length}
 use Rattle.std.specs.List.{range_with_len}
-use Rattle.model_dot_worlds.specs.DotWorld.{dot_each}
+use Rattle.model_dots.specs.DotWorld.{dot_each}
 use Rattle.lasp_dot_run.proofs.WorldLaws.{takes_of}
 use Rattle.lasp_dot_run.proofs.replicas.DotReplicas.take_others.Given as goal
 

@@ -1,5 +1,5 @@
-use Rattle.model_dot_worlds.proofs.PlaceLaws.{replica-holds, replica-contents, replica-own, message-carries, mark-keeps}
-use Rattle.model_dot_worlds.proofs.unlimited.replicas_hold_what_they_know_where_nothing_stops.Goals as goal
+use Rattle.model_dots.proofs.PlaceLaws.{replica-holds, replica-contents, replica-own, message-carries, mark-keeps}
+use Rattle.model_dots.proofs.unlimited.replicas_hold_what_they_know_where_nothing_stops.Goals as goal
 
 pub returns-clause-replica : goal.returns-clause-replica
 returns-clause-replica c = replica-holds

@@ -15,8 +15,8 @@ use Rattle.model_known.proofs.FollowLaws.{afters}
 use Rattle.model_known.proofs.PlaceLaws.{IsLater, holds-contents, late-nothing}
 use Rattle.model_known.proofs.UpdateLaws.{made-more, known-kept}
 use Rattle.model_known.proofs.VariableLaws.{known-append}
-use Rattle.model_dot_worlds.specs.Unlimited.{IsUnlimitedPlaceOf}
-use Rattle.model_dot_worlds.proofs.UnlimitedLaws.{followed_all, all-place, place-sound}
+use Rattle.model_dots.specs.Unlimited.{IsUnlimitedPlaceOf}
+use Rattle.model_dots.proofs.UnlimitedLaws.{followed_all, all-place, place-sound}
 
 -- ---- who holds what is known
 

@@ -10,7 +10,7 @@ ghost use Rattle.model_world.specs.World.{Run, start, ended, peer_at, sent_numbe
 ghost use Rattle.model_known.specs.Delta.{deltas_at, known_contents};
 ghost use Rattle.model_known.specs.Follow.{Followed};
 ghost use Rattle.model_known.specs.Holds.{Holds, Carries, Keeps, IsPlaceOf};
-ghost use Rattle.model_dot_worlds.specs.Unlimited.{unlimited, IsUnlimited, IsUnlimitedPlaceOf};
+ghost use Rattle.model_dots.specs.Unlimited.{unlimited, IsUnlimited, IsUnlimitedPlaceOf};
 
 /// The run in which nothing stops is the run at each place that this one comes to, and at its end. It has a place after all lawful commands.
 #[tactic(auto, using(crate::proofs::UnlimitedLaws::unlimited_runs))]

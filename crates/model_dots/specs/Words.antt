@@ -2,7 +2,7 @@
 use Rattle.std.specs.Prelude.{◌≡◌, ℕ, ◌+◌, Bool, true, false, if◌then◌else◌, List, [], ◌∷◌, take, slice_get, Option, Some, None}
 use Rattle.model_world.specs.Command as command
 use Rattle.model_world.specs.Command.{Command}
-use Rattle.model_dot_worlds.specs.DotWorld.{IsDotCommand, AreDotCommands}
+use Rattle.model_dots.specs.DotWorld.{IsDotCommand, AreDotCommands}
 
 abbrev pub is_dot_command : Command → Bool
 is_dot_command (command.Add p x v) = true

@@ -2,8 +2,8 @@
 
 ghost use Rattle.std.specs.Prelude.{◌≡◌, ◌↔◌, ℕ, ◌+◌, List, Some, None};
 ghost use Rattle.model_world.specs.Command.{Command};
-ghost use Rattle.model_dot_worlds.specs.DotWorld.{AreDotCommands};
-ghost use Rattle.model_dot_worlds.specs.Words.{first_other, IsFirstOther};
+ghost use Rattle.model_dots.specs.DotWorld.{AreDotCommands};
+ghost use Rattle.model_dots.specs.Words.{first_other, IsFirstOther};
 
 /// A command is told as the first of another word exactly where it is one and those before it aren't, and none is exactly where such replicas know all.
 pub fn the_first_command_of_another_word_is_told()

@@ -30,11 +30,11 @@ use Rattle.model_known.proofs.RoundLaws.{AreCalm, calm-sync}
 use Rattle.model_known.proofs.PlayLaws.{IsAt, stage_of}
 use Rattle.model_dots.specs.Dots.{Dots, is_counted, no_dots, join_dots, raised, dots_of}
 use Rattle.model_dots.proofs.StandLaws.{live_of, live-mark, stands-add, stands-remove, stands-join, live-visible}
-use Rattle.model_dot_worlds.specs.Unlimited.{IsUnlimited}
-use Rattle.model_dot_worlds.specs.Counted.{IsFree, AreFree}
-use Rattle.model_dot_worlds.specs.DotWorld.{one_set, DotWorld, dots_at, StandsFor, LacksTheRemoved, dot_start, IsDotCommand, AreDotCommands, dot_acts, dots_updated, dot_act, dot_each, dot_play}
-use Rattle.model_dot_worlds.proofs.UnlimitedLaws.{followed_all, all-run, step-stands, begin-at, all-sound, rows-ascend}
-use Rattle.model_dot_worlds.proofs.CountedLaws.{Counted, counted-take, counted-post, counted-begin, counted-step, has-counted, rows-removed}
+use Rattle.model_dots.specs.Unlimited.{IsUnlimited}
+use Rattle.model_dots.specs.Counted.{IsFree, AreFree}
+use Rattle.model_dots.specs.DotWorld.{one_set, DotWorld, dots_at, StandsFor, LacksTheRemoved, dot_start, IsDotCommand, AreDotCommands, dot_acts, dots_updated, dot_act, dot_each, dot_play}
+use Rattle.model_dots.proofs.UnlimitedLaws.{followed_all, all-run, step-stands, begin-at, all-sound, rows-ascend}
+use Rattle.model_dots.proofs.CountedLaws.{Counted, counted-take, counted-post, counted-begin, counted-step, has-counted, rows-removed}
 
 -- what stands for all that is known of the set by these counts
 abbrev pub dots_known : List Decl → ℕ → List (List Delta) → List ℕ → Dots

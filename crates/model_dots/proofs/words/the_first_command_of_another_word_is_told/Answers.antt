@@ -1,5 +1,5 @@
-use Rattle.model_dot_worlds.proofs.WordLaws.{first-told, first-none}
-use Rattle.model_dot_worlds.proofs.words.the_first_command_of_another_word_is_told.Goals as goal
+use Rattle.model_dots.proofs.WordLaws.{first-told, first-none}
+use Rattle.model_dots.proofs.words.the_first_command_of_another_word_is_told.Goals as goal
 
 pub returns-clause-other : goal.returns-clause-other
 returns-clause-other c = first-told

@@ -38,10 +38,10 @@ use Rattle.model_known.proofs.RoundLaws.{AreCalm, calm-sync}
 use Rattle.model_known.proofs.PlayLaws.{IsAt, stage_of}
 use Rattle.model_dots.specs.Dots.{is_counted, IsGiven, raised, AreGiven, HasWhatIsCounted}
 use Rattle.model_dots.proofs.StandLaws.{raised-own, given-raised}
-use Rattle.model_dot_worlds.specs.Unlimited.{IsUnlimited}
-use Rattle.model_dot_worlds.specs.Counted.{IsFree, AreFree, AreCovered, AreNumbered}
+use Rattle.model_dots.specs.Unlimited.{IsUnlimited}
+use Rattle.model_dots.specs.Counted.{IsFree, AreFree, AreCovered, AreNumbered}
 use Rattle.model_dots.proofs.DotLaws.{given-more}
-use Rattle.model_dot_worlds.proofs.UnlimitedLaws.{followed_all, all-run, step-stands, begin-at, all-sound}
+use Rattle.model_dots.proofs.UnlimitedLaws.{followed_all, all-run, step-stands, begin-at, all-sound}
 
 -- ---- rows
 

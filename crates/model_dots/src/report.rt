@@ -5,9 +5,9 @@ ghost use Rattle.model_world.specs.Command.{Command, Script};
 ghost use Rattle.model_world.specs.Lawful.{IsLawful};
 ghost use Rattle.model_world.specs.Report.{report_of};
 ghost use Rattle.model_world.specs.World.{Run, ended};
-ghost use Rattle.model_dot_worlds.specs.DotReport.{live_lines, dot_output};
-ghost use Rattle.model_dot_worlds.specs.DotWorld.{one_set, AreDotCommands};
-ghost use Rattle.model_dot_worlds.specs.Unlimited.{IsUnlimited};
+ghost use Rattle.model_dots.specs.DotReport.{live_lines, dot_output};
+ghost use Rattle.model_dots.specs.DotWorld.{one_set, AreDotCommands};
+ghost use Rattle.model_dots.specs.Unlimited.{IsUnlimited};
 
 /// Replicas without tombstones print and know, of every lawful script over one set, what its report says, and keep as many pairs as the sets with tombstones have live rows. The run is the one in which nothing stops, or the one that comes to its end.
 #[tactic(auto, using(crate::proofs::TextLaws::reports))]

@@ -9,8 +9,8 @@ ghost use Rattle.model_graph.specs.Evaluation.{rows_at};
 ghost use Rattle.model_world.specs.Command.{Command};
 ghost use Rattle.model_world.specs.World.{Run, peer_at};
 ghost use Rattle.model_dots.specs.Dots.{is_counted, AreGiven};
-ghost use Rattle.model_dot_worlds.specs.Counted.{AreFree};
-ghost use Rattle.model_dot_worlds.specs.Unlimited.{IsUnlimited};
+ghost use Rattle.model_dots.specs.Counted.{AreFree};
+ghost use Rattle.model_dots.specs.Unlimited.{IsUnlimited};
 
 /// Where nothing is bound, each row of a replica has the token of an update that the replica counts. And a row of any replica whose update another one counts, and that is not live there, is dead there: it was removed. No limit stops the run.
 #[tactic(auto, using(crate::proofs::CountedLaws::counted))]

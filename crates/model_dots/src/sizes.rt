@@ -5,8 +5,8 @@ ghost use Rattle.model_states.specs.Counts.{count_at};
 ghost use Rattle.model_world.specs.Command.{Command, Script};
 ghost use Rattle.model_world.specs.Lawful.{IsWithinLimits};
 ghost use Rattle.model_dots.specs.Dots.{count_limit};
-ghost use Rattle.model_dot_worlds.specs.DotWorld.{dots_at, dot_start, dot_play};
-ghost use Rattle.model_dot_worlds.specs.Sizes.{updates};
+ghost use Rattle.model_dots.specs.DotWorld.{dots_at, dot_start, dot_play};
+ghost use Rattle.model_dots.specs.Sizes.{updates};
 
 /// No replica counts more updates of one than were made. So none comes to the most that may be counted, whatever a script within its limits does.
 #[tactic(auto, using(crate::proofs::SizeLaws::sizes))]

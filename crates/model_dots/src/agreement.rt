@@ -5,8 +5,8 @@ ghost use Rattle.model_sets.specs.Values.{visible};
 ghost use Rattle.model_graph.specs.Evaluation.{rows_at};
 ghost use Rattle.model_world.specs.Command.{Command};
 ghost use Rattle.model_world.specs.World.{Run, peer_at};
-ghost use Rattle.model_dot_worlds.specs.DotWorld.{one_set, dots_at, StandsFor, LacksTheRemoved, dot_start, AreDotCommands, dot_play};
-ghost use Rattle.model_dot_worlds.specs.Unlimited.{IsUnlimited};
+ghost use Rattle.model_dots.specs.DotWorld.{one_set, dots_at, StandsFor, LacksTheRemoved, dot_start, AreDotCommands, dot_play};
+ghost use Rattle.model_dots.specs.Unlimited.{IsUnlimited};
 
 /// After every lawful list of adds, removes, sends and deliveries, whatever is lost, comes again or comes late and however large sets and messages grow, each replica's state is the live rows and the counts of the replica with tombstones, and shows the same values. A row of any replica whose update the state counts and that it doesn't have is dead at that replica with tombstones.
 #[tactic(auto, using(crate::proofs::AgreeLaws::agreement))]

@@ -23,12 +23,12 @@ use Rattle.model_known.proofs.RoundLaws.{calm-sync}
 use Rattle.model_known.proofs.PlayLaws.{IsAt, stage_of}
 use Rattle.model_dots.specs.Dots.{Dots}
 use Rattle.model_dots.proofs.StandLaws.{live-visible}
-use Rattle.model_dot_worlds.specs.Unlimited.{IsUnlimited}
-use Rattle.model_dot_worlds.specs.DotWorld.{one_set, DotWorld, dots_at, StandsFor, dot_start, IsDotCommand, AreDotCommands, dot_acts, dot_each, dot_play}
-use Rattle.model_dot_worlds.specs.DotReport.{dot_print, dot_text, dot_known, dot_sizes, live_lines, dot_report, dot_output}
-use Rattle.model_dot_worlds.proofs.UnlimitedLaws.{followed_all, all-run, step-stands, begin-at, all-sound, ended-unlimited}
-use Rattle.model_dot_worlds.proofs.CountedLaws.{Counted, counted-begin, counted-step}
-use Rattle.model_dot_worlds.proofs.AgreeLaws.{Agrees, free-command, begin-agrees, step-agrees, end-agrees, end-stands}
+use Rattle.model_dots.specs.Unlimited.{IsUnlimited}
+use Rattle.model_dots.specs.DotWorld.{one_set, DotWorld, dots_at, StandsFor, dot_start, IsDotCommand, AreDotCommands, dot_acts, dot_each, dot_play}
+use Rattle.model_dots.specs.DotReport.{dot_print, dot_text, dot_known, dot_sizes, live_lines, dot_report, dot_output}
+use Rattle.model_dots.proofs.UnlimitedLaws.{followed_all, all-run, step-stands, begin-at, all-sound, ended-unlimited}
+use Rattle.model_dots.proofs.CountedLaws.{Counted, counted-begin, counted-step}
+use Rattle.model_dots.proofs.AgreeLaws.{Agrees, free-command, begin-agrees, step-agrees, end-agrees, end-stands}
 use Rattle.model_known.proofs.DirectLaws.{calm-text}
 
 -- ---- one line

@@ -4,8 +4,8 @@ use Rattle.std.specs.Prelude.{◌↔◌, Option, if◌then◌else◌}
 use Rattle.std.proofs.lemmas.Option.{same_Some}
 use Rattle.model_world.specs.Command as command
 use Rattle.model_world.specs.Command.{Command}
-use Rattle.model_dot_worlds.specs.DotWorld.{IsDotCommand, AreDotCommands}
-use Rattle.model_dot_worlds.specs.Words.{is_dot_command, first_other, IsFirstOther}
+use Rattle.model_dots.specs.DotWorld.{IsDotCommand, AreDotCommands}
+use Rattle.model_dots.specs.Words.{is_dot_command, first_other, IsFirstOther}
 
 -- the test says whether the command is known
 command-known : (k : Command) → is_dot_command k ≡ true → IsDotCommand k

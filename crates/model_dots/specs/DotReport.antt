@@ -9,7 +9,7 @@ use Rattle.model_world.specs.Command.{Command}
 use Rattle.model_world.specs.Line.{line, known_line}
 use Rattle.model_world.specs.World.{Peer}
 use Rattle.model_dots.specs.Dots.{Dots}
-use Rattle.model_dot_worlds.specs.DotWorld.{DotWorld, dots_at, dot_start, dot_acts, dot_each, dot_play}
+use Rattle.model_dots.specs.DotWorld.{DotWorld, dots_at, dot_start, dot_acts, dot_each, dot_play}
 
 -- what a command prints
 abbrev pub dot_print : DotWorld → Command → List ℕ

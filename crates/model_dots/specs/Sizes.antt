@@ -3,7 +3,7 @@ use Rattle.std.specs.Prelude.{ℕ, ◌≤◌, Bool, true, false, List, length, f
 use Rattle.model_states.specs.Counts.{count_at}
 use Rattle.model_world.specs.Command as command
 use Rattle.model_world.specs.Command.{Command}
-use Rattle.model_dot_worlds.specs.DotWorld.{DotWorld, dots_at}
+use Rattle.model_dots.specs.DotWorld.{DotWorld, dots_at}
 
 abbrev pub is_update : Command → Bool
 is_update (command.Add p x v) = true

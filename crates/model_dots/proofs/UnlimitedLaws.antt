@@ -15,7 +15,7 @@ use Rattle.model_known.proofs.VariableLaws.{known-ordered}
 use Rattle.model_known.proofs.SoundLaws.{IsSound, sound-begin}
 use Rattle.model_known.proofs.FollowLaws.{afters, bound, step-effect, follow-play}
 use Rattle.model_known.proofs.PlayLaws.{IsAt, step-at, stage_after_all}
-use Rattle.model_dot_worlds.specs.Unlimited.{after_act, after_acts, unlimited, IsUnlimited, place_after_acts, unlimited_place, IsUnlimitedPlaceOf}
+use Rattle.model_dots.specs.Unlimited.{after_act, after_acts, unlimited, IsUnlimited, place_after_acts, unlimited_place, IsUnlimitedPlaceOf}
 
 effect-is : (run : Run) (a : Act) → effect run a ≡ after_act run a
 effect-is run (Update p x op) = refl

@@ -1,5 +1,0 @@
-use Rattle.model_dot_worlds.proofs.AgreeLaws.{each-lacks}
-use Rattle.model_dot_worlds.proofs.agreement.replicas_without_tombstones_stand_for_those_with_them.Goals as goal
-
-pub returns-clause-removed : goal.returns-clause-removed
-returns-clause-removed c = each-lacks
