@@ -1,6 +1,6 @@
 -- The script grows by one command at a time.
 use Rattle.std.proofs.Common.{◌≡◌, ℕ, suc, ◌+◌, ◌++◌, List, [], refl, sym, ap, subst, ◌∙◌, append_assoc, arith}
-use Rattle.model_load.specs.Generator.{next_number, number_at, listed, commands}
+use Rattle.model_program.specs.Generator.{next_number, number_at, listed, commands}
 
 one-more : (j : ℕ) → j + 1 ≡ suc j
 one-more j = omega (arith)

@@ -11,7 +11,7 @@ use Rattle.model_graph.specs.Graph.{Kind, OrSet, GSet, Counter, MaxReg, Union, P
 use Rattle.model_graph.specs.Lawful.{shape_of}
 use Rattle.model_core.specs.Core.{Core}
 use Rattle.model_journal.specs.Journal.{graph, val, counts}
-use Rattle.model_load.specs.Summary.{number_of, number_lines}
+use Rattle.model_program.specs.Summary.{number_of, number_lines}
 use Rattle.model_world.specs.Line.{line, shown_top, known_line}
 use Rattle.lasp_graph.specs.Evaluated.{number_by}
 use Rattle.lasp_state.specs.State as state

@@ -4,7 +4,7 @@ use Rattle.std.specs.Fmt.{decimal}
 use Rattle.model_sets.specs.Rows.{visible}
 use Rattle.model_core.specs.Core.{Core}
 use Rattle.model_journal.specs.Journal.{graph, vals, counts}
-use Rattle.model_load.specs.Summary.{load_line, number_lines}
+use Rattle.model_program.specs.Summary.{load_line, number_lines}
 use Rattle.model_world.specs.Line.{known_line}
 use Rattle.lasp_state.specs.State.{shown_state}
 use Rattle.lasp_state.specs.declared.state.State.{State}

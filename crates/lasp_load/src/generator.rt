@@ -2,7 +2,7 @@
 
 ghost use Rattle.std.specs.Prelude.{◌≡◌, ◌<◌, ◌≤◌, ◌++◌, codes, IfOk, OnOk, string_bytes};
 ghost use Rattle.std.specs.Fmt.{decimal};
-ghost use Rattle.model_load.specs.Generator.{next_number, quoted, target, update, made_of, command, pause, listed, commands, load_graph, load_script};
+ghost use Rattle.model_program.specs.Generator.{next_number, quoted, target, update, made_of, command, pause, listed, commands, load_graph, load_script};
 
 use std::alloc::{AllocError, Global};
 

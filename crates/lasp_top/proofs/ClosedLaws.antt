@@ -10,7 +10,7 @@ use Rattle.model_graph.specs.Evaluation.{eval}
 use Rattle.model_journal.specs.Entry.{Entry, Frame}
 use Rattle.model_journal.specs.Journal.{graph, vals, sources, counts}
 use Rattle.model_journal.specs.Legal.{IsLegal}
-use Rattle.model_load.specs.Summary.{load_line, number_lines, load_text}
+use Rattle.model_program.specs.Summary.{load_line, number_lines, load_text}
 use Rattle.model_program.specs.Follows.{View, Allows, Follows, Passes, Stops, Part}
 use Rattle.model_program.specs.Plan.{Answer, Says}
 use Rattle.model_program.specs.Program.{stopped}

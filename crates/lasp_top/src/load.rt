@@ -2,7 +2,7 @@
 
 ghost use Rattle.std.specs.Prelude.{◌<◌};
 ghost use Rattle.std.specs.Arc.{arc_value};
-ghost use Rattle.model_load.specs.Summary.{load_text};
+ghost use Rattle.model_program.specs.Summary.{load_text};
 ghost use Rattle.model_program.specs.Threads.{loaded_over, load_answer};
 ghost use Rattle.lasp_run.specs.Prelude.{FitsAll, Gives, run_answer, IsRunnable, library_of};
 

@@ -21,3 +21,4 @@ mod DotCauses
 mod DeltaTextLaws
 mod DotTextLaws
 pub mod TopLaws
+pub mod ScriptLaws

@@ -16,3 +16,5 @@ pub mod Places
 pub mod Dots
 pub mod Threads
 pub mod Top
+pub mod Generator
+pub mod Summary

@@ -3,8 +3,8 @@ use Rattle.std.specs.Prelude.{ℕ, List, [], ◌∷◌, codes, Result, Ok, Err}
 use Rattle.model_functions.specs.Library.{Library}
 use Rattle.model_graph.specs.Chain.{◌>>=◌, refusing}
 use Rattle.model_graph.specs.Graph.{Decl}
-use Rattle.model_load.specs.Generator.{load_graph, load_script}
-use Rattle.model_load.specs.Summary.{load_text}
+use Rattle.model_program.specs.Generator.{load_graph, load_script}
+use Rattle.model_program.specs.Summary.{load_text}
 use Rattle.model_readings.specs.Graph.{graph_of}
 use Rattle.model_scripts.specs.Progress.{grown}
 use Rattle.model_scripts.specs.Script.{script_of}

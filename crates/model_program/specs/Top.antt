@@ -4,8 +4,8 @@ use Rattle.model_functions.specs.Library.{Library}
 use Rattle.model_graph.specs.Graph.{Decl}
 use Rattle.model_journal.specs.Entry.{Entry}
 use Rattle.model_known.specs.Direct.{direct_report}
-use Rattle.model_load.specs.Generator.{load_graph, load_script}
-use Rattle.model_load.specs.Summary.{load_text}
+use Rattle.model_program.specs.Generator.{load_graph, load_script}
+use Rattle.model_program.specs.Summary.{load_text}
 use Rattle.model_readings.specs.Graph.{graph_of}
 use Rattle.model_readings.specs.declared.graph_why.GraphWhy.{GraphWhy}
 use Rattle.model_scripts.specs.Progress.{grown}

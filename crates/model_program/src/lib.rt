@@ -1,9 +1,10 @@
-//! What the program answers to its words and files: definitions and laws, and the causes of each answer; no code but the enums of its answers.
+//! What the program answers to its words and files: definitions and laws, and the causes of each answer; what `load` makes of a seed and a count. No code but the enums of its answers.
 #![tactic(auto)]
 
 mod causes;
 mod failure;
 mod form;
+mod loads;
 mod refusal;
 mod state_why;
 mod threaded;
@@ -18,6 +19,7 @@ pub use causes::{
 };
 pub use failure::Failure;
 pub use form::Form;
+pub use loads::a_script_of_four_commands;
 pub use refusal::Refusal;
 pub use state_why::StateWhy;
 pub use threaded::Threaded;

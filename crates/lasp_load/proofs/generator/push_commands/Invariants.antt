@@ -1,6 +1,6 @@
 use Rattle.std.proofs.Common.{◌≡◌, ◌<◌, ◌++◌}
 use Rattle.std.specs.Prelude.{string_bytes}
-use Rattle.model_load.specs.Generator.{number_at, commands}
+use Rattle.model_program.specs.Generator.{number_at, commands}
 use Rattle.lasp_load.proofs.generator.push_commands.Given as goal
 
 abbrev pub invariant-loop-j : goal.invariant-loop-j

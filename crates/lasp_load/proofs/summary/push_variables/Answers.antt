@@ -4,7 +4,7 @@ use Rattle.model_states.specs.Content.{Content}
 use Rattle.model_graph.specs.Evaluation.{content_at}
 use Rattle.model_graph.specs.Graph.{Decl, kind_at}
 use Rattle.model_journal.specs.Journal.{graph, vals}
-use Rattle.model_load.specs.Summary.{number_of}
+use Rattle.model_program.specs.Summary.{number_of}
 use Rattle.model_world.specs.Line.{line}
 use Rattle.lasp_graph.specs.Decl.{decl_of}
 use Rattle.lasp_load.specs.Summary.{state_number, core_lines}

@@ -1,7 +1,7 @@
 use Rattle.std.proofs.Common.{◌≡◌, ◌≤◌, ◌++◌, length, drop}
 use Rattle.std.specs.Prelude.{string_bytes}
 use Rattle.model_journal.specs.Journal.{graph, vals}
-use Rattle.model_load.specs.Summary.{number_lines}
+use Rattle.model_program.specs.Summary.{number_lines}
 use Rattle.lasp_load.specs.Summary.{core_lines}
 use Rattle.lasp_load.proofs.summary.push_variables.Given as goal
 

@@ -2,7 +2,7 @@ use Rattle.std.proofs.Common.{ℕ, List, subst}
 use Rattle.std.specs.Arc.{arc_value}
 use Rattle.model_core.specs.Core.{Core}
 use Rattle.model_graph.specs.Graph.{Decl}
-use Rattle.model_load.specs.Summary.{load_text}
+use Rattle.model_program.specs.Summary.{load_text}
 use Rattle.model_world.specs.Command.{Script}
 use Rattle.model_world.specs.World.{Run}
 use Rattle.lasp_load.specs.Summary.{IsSummary}

@@ -1,8 +1,7 @@
 //! What `load` makes of a seed and a count: a graph and a script, as bytes. There is nothing to run here.
-#![tactic(auto)]
 
 ghost use Rattle.std.specs.Prelude.{◌≡◌, codes};
-ghost use Rattle.model_load.specs.Generator.{load_script};
+ghost use Rattle.model_program.specs.Generator.{load_script};
 
 /// The script of seed 1 and four commands, whole.
 #[tactic(auto, using(crate::proofs::ScriptLaws::four_commands))]
