@@ -1,7 +1,7 @@
 -- A turn of the loop that raises counts.
 use Rattle.std.proofs.Common.{◌≡◌, ◌≢◌, ◌↔◌, ℕ, suc, ◌+◌, ◌<◌, ◌≤◌, max, Bool, true, IsTrue, List, length, refl, sym, ap, subst, ◌∙◌, arith, slice_index_or, slice_set}
 use Rattle.std.proofs.lemmas.List.{set-get_or}
-use Rattle.lasp_lattice.proofs.PlacesLaws.{joined_first, length-joined_first, joined_first-next, joined_first-more, slice_set-same}
+use Rattle.lasp_value.proofs.PlacesLaws.{joined_first, length-joined_first, joined_first-next, joined_first-more, slice_set-same}
 use Rattle.lasp_counters.specs.Counts.{HaveSameNodes}
 
 -- the first counts are raised, and it is known whether one rose

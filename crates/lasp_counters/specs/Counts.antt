@@ -1,7 +1,7 @@
 -- The counts of a counter of bounded size, their join and their order.
 use Rattle.std.specs.Prelude.{◌≡◌, ℕ, ◌≤◌, ◌<◌, max, List, length}
 use Rattle.model_states.specs.Counts.{count_max, count_at}
-use Rattle.lasp_lattice.specs.Places.{joined_places}
+use Rattle.lasp_value.specs.Places.{joined_places}
 
 -- what every counter is: of at most 255 nodes, none of which counted more than it can
 pub record AreCounts (counts : List ℕ) : Type 0 where

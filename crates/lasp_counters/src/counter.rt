@@ -5,7 +5,7 @@ ghost use Rattle.lasp_counters.specs.Prelude.{count_max, count_at, zeros, inc_de
 ghost use Rattle.std.proofs.Common.{sym, ◌∙◌, arith};
 
 use super::raise::{are_at_most, raise, sum_of};
-use lasp_lattice::Lattice;
+use lasp_value::Lattice;
 use std::alloc::{AllocError, Global};
 use std::marker::Model;
 

@@ -6,7 +6,7 @@ ghost use Rattle.std.proofs.Common.{arith};
 ghost use Rattle.model_sets.proofs.ValueLaws as laws;
 
 use super::gset::GSet;
-use lasp_lattice::Lattice;
+use lasp_value::Lattice;
 use std::alloc::AllocError;
 
 impl Lattice for GSet {

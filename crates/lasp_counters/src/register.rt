@@ -5,7 +5,7 @@ ghost use Rattle.lasp_counters.specs.Prelude.{later, IsNotLater};
 ghost use Rattle.model_states.proofs.RegisterLaws as order;
 ghost use Rattle.lasp_counters.specs.RegisterLaws as laws;
 
-use lasp_lattice::Lattice;
+use lasp_value::Lattice;
 use std::alloc::AllocError;
 
 /// The greatest number that was joined in, or none yet.

@@ -6,7 +6,7 @@ ghost use Rattle.std.proofs.Common.{refl, sym, ◌∙◌};
 ghost use Rattle.model_dots.proofs.DotLaws as laws;
 
 use super::set::DotSet;
-use lasp_lattice::Lattice;
+use lasp_value::Lattice;
 use std::alloc::AllocError;
 
 impl Lattice for DotSet {

@@ -6,7 +6,7 @@ ghost use Rattle.model_sets.specs.Rows.{IsAscending, IsAtMost, join};
 ghost use Rattle.model_sets.proofs.RowLaws as laws;
 
 use super::orset::OrSet;
-use lasp_lattice::Lattice;
+use lasp_value::Lattice;
 use std::alloc::AllocError;
 
 impl Lattice for OrSet {

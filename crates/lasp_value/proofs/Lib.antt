@@ -1,3 +1,4 @@
 mod Characters
 mod Parts
 mod Sizes
+pub mod PlacesLaws

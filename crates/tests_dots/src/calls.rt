@@ -2,8 +2,7 @@
 
 use crate::wrong::Wrong;
 use lasp_dots::{DotRefused, DotSet};
-use lasp_lattice::Lattice;
-use lasp_value::{Token, Value};
+use lasp_value::{Lattice, Token, Value};
 use std::alloc::{AllocError, Global};
 use std::test::Fail;
 

@@ -1,7 +1,7 @@
 //! How counters and registers behave, against numbers written by hand.
 
 use lasp_counters::*;
-use lasp_lattice::{Lattice, join_all};
+use lasp_value::{Lattice, join_all};
 use std::alloc::{AllocError, Global};
 use std::test::Fail;
 

@@ -1,5 +1,5 @@
 use Rattle.std.proofs.Common.{arith, ◌≡◌, ◌<◌, ◌+◌, max, true, length, ap, ◌∙◌, slice_index_or, slice_set}
-use Rattle.lasp_lattice.proofs.PlacesLaws.{joined_first, joined_first-all}
+use Rattle.lasp_value.proofs.PlacesLaws.{joined_first, joined_first-all}
 use Rattle.lasp_counters.proofs.RaiseLaws.{raised-more, raised-same, raised-branch}
 use Rattle.lasp_counters.proofs.raise.raise.Goals.{then-counts-i, else-counts-i}
 use Rattle.lasp_counters.proofs.raise.raise.Goals as goal

@@ -1,5 +1,5 @@
 use Rattle.std.proofs.Common.{◌≡◌, ◌≢◌, ◌↔◌, IsTrue, max}
-use Rattle.lasp_lattice.proofs.PlacesLaws.{joined_first}
+use Rattle.lasp_value.proofs.PlacesLaws.{joined_first}
 use Rattle.lasp_counters.proofs.raise.raise.Given as goal
 
 -- The first counts are raised; whether one rose so far.

@@ -1,7 +1,7 @@
 //! Lists of states, as the sources of two replicas: what holds of them by the laws alone, for each lattice.
 
 ghost use Rattle.std.specs.Prelude.{◌≡◌, ◌≢◌, ◌↔◌, IsTrue, IfOk, OnOk, OnErr};
-ghost use Rattle.lasp_lattice.specs.Places.{joined_places, AreRelated};
+ghost use Rattle.lasp_value.specs.Places.{joined_places, AreRelated};
 
 use super::lattice::Lattice;
 use std::alloc::AllocError;

@@ -1,7 +1,7 @@
 use Rattle.std.proofs.Common.{◌≡◌, ◌≢◌, ◌↔◌, IsTrue}
-use Rattle.lasp_lattice.specs.Places.{joined_places}
-use Rattle.lasp_lattice.proofs.PlacesLaws.{joined_first}
-use Rattle.lasp_lattice.proofs.places.join_all.Given as goal
+use Rattle.lasp_value.specs.Places.{joined_places}
+use Rattle.lasp_value.proofs.PlacesLaws.{joined_first}
+use Rattle.lasp_value.proofs.places.join_all.Given as goal
 
 -- The first places are joined; joining all again gives the same; whether one grew so far.
 abbrev pub invariant-loop-i : goal.invariant-loop-i

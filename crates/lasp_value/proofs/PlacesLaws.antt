@@ -1,7 +1,7 @@
 -- Lists of which the first places are joined already.
 use Rattle.std.proofs.Common.{◌≡◌, ◌≢◌, ◌↔◌, ℕ, zero, suc, ◌<◌, Bool, true, false, ◌||◌, IsTrue, List, [], ◌∷◌, length, refl, sym, ap, ◌∙◌, arith, slice_index_or, slice_set}
 use Rattle.std.proofs.lemmas.List.{get_or-set_same, set-get_or}
-use Rattle.lasp_lattice.specs.Places.{joined_places, AreRelated}
+use Rattle.lasp_value.specs.Places.{joined_places, AreRelated}
 
 -- the first so many places joined, the others as they were
 abbrev pub joined_first : {A : Type 0} → (A → A → A) → ℕ → List A → List A → List A

@@ -1,8 +1,8 @@
 use Rattle.std.proofs.Common.{arith, ◌≡◌, ◌↔◌, ◌≢◌, ◌+◌, ◌<◌, suc, ◌||◌, IsTrue, length, sym, ap, subst, ◌∙◌, slice_index_or, slice_set}
 use Rattle.std.proofs.lemmas.List.{get_or_default}
-use Rattle.lasp_lattice.proofs.PlacesLaws.{joined_first, joined_first-all, length-joined_first, joined_first-next, related-length, related-at, joined_first-more, joined_places-set, changed-set}
-use Rattle.lasp_lattice.proofs.places.join_all.Goals.{then-branch, else-branch}
-use Rattle.lasp_lattice.proofs.places.join_all.Goals as goal
+use Rattle.lasp_value.proofs.PlacesLaws.{joined_first, joined_first-all, length-joined_first, joined_first-next, related-length, related-at, joined_first-more, joined_places-set, changed-set}
+use Rattle.lasp_value.proofs.places.join_all.Goals.{then-branch, else-branch}
+use Rattle.lasp_value.proofs.places.join_all.Goals as goal
 
 pub bounds-into-i : goal.bounds-into-i
 bounds-into-i g c =
