@@ -2,3 +2,5 @@
 pub mod PlaceLaws
 pub mod RaiseLaws
 pub mod SetLaws
+pub mod PartLaws
+pub mod PieceLaws

@@ -15,8 +15,8 @@ use Rattle.model_sets.specs.Values.{IsHeld, visible}
 use Rattle.model_sets.proofs.RowLaws.{and-left, and-right, is-Less, is-Equal, below-chain, mark-below}
 use Rattle.model_sets.proofs.EquationLaws.{tied_key}
 use Rattle.model_sets.proofs.WordLaws.{visible-live}
-use Rattle.lasp_pieces.specs.Pieces.{many, IsParted}
-use Rattle.lasp_pieces.proofs.PartLaws.{many-more, many-pass, many-fail}
+use Rattle.lasp_dots.specs.Pieces.{many, IsParted}
+use Rattle.lasp_dots.proofs.PartLaws.{many-more, many-pass, many-fail}
 use Rattle.lasp_dots.specs.Places.{is_below, is_before, is_within}
 
 -- ---- tests that lesser rows pass

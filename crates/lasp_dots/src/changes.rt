@@ -5,7 +5,7 @@ ghost use Rattle.lasp_dots.specs.Prelude.{mark, IsAscending, put, is_of, val_of}
 
 use super::dot::Dot;
 use super::edges::{Begin, End};
-use lasp_pieces::Pieces;
+use crate::pieces::Pieces;
 use lasp_value::Value;
 use std::alloc::AllocError;
 

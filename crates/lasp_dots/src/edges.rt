@@ -3,7 +3,7 @@
 ghost use Rattle.lasp_dots.specs.Prelude.{val_of, is_below, is_before, is_within};
 
 use super::dot::Dot;
-use lasp_pieces::Edge;
+use crate::pieces::Edge;
 use lasp_value::Value;
 
 /// Where a pair belongs: before it stand those below it.

@@ -15,6 +15,7 @@ mod dot;
 mod edges;
 mod lattice;
 mod order;
+mod pieces;
 mod reads;
 mod refused;
 mod search;

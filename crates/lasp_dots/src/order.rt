@@ -8,7 +8,7 @@ use super::dot::Dot;
 use super::search::holds;
 use super::set::DotSet;
 use super::weave::woven;
-use lasp_pieces::Pieces;
+use crate::pieces::Pieces;
 use std::alloc::AllocError;
 
 impl DotSet {

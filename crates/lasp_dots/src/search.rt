@@ -5,7 +5,7 @@ ghost use Rattle.lasp_dots.specs.Prelude.{list_any, mark, IsAscending, is_of, va
 
 use super::dot::Dot;
 use super::edges::Begin;
-use lasp_pieces::Pieces;
+use crate::pieces::Pieces;
 use lasp_value::Value;
 
 /// Whether the pair is among them.

@@ -6,7 +6,7 @@ ghost use Rattle.lasp_dots.specs.Prelude.{count_at, count_limit, IsState, IsAtMo
 use super::changes::{put_in, take_out};
 use super::dot::Dot;
 use super::refused::DotRefused;
-use lasp_pieces::Pieces;
+use crate::pieces::Pieces;
 use lasp_value::{Token, Value};
 use std::alloc::{AllocError, Global};
 use std::marker::Model;

@@ -4,8 +4,8 @@ ghost use Rattle.std.specs.Prelude.{◌≡◌, ◌++◌, [], IfOk, OnOk, not, fi
 ghost use Rattle.lasp_dots.specs.Prelude.{is_counted, uncounted, weave};
 
 use super::dot::Dot;
+use crate::pieces::{Items, Pieces};
 use lasp_log::Share;
-use lasp_pieces::{Items, Pieces};
 use std::alloc::{AllocError, Global};
 use std::cmp::Ordering;
 

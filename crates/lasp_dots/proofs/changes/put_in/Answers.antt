@@ -1,5 +1,5 @@
 use Rattle.std.proofs.Common.{◌∙◌}
-use Rattle.lasp_pieces.proofs.PartLaws.{on_ok}
+use Rattle.lasp_dots.proofs.PartLaws.{on_ok}
 use Rattle.lasp_dots.specs.Places.{is_below}
 use Rattle.lasp_dots.proofs.PlaceLaws.{down-below, parted, insert-put}
 use Rattle.lasp_dots.proofs.changes.put_in.Goals as goal

@@ -1,6 +1,6 @@
 use Rattle.std.proofs.Common.{◌∙◌}
 use Rattle.lasp_value.specs.Value.{val_of}
-use Rattle.lasp_pieces.proofs.PartLaws.{on_ok}
+use Rattle.lasp_dots.proofs.PartLaws.{on_ok}
 use Rattle.lasp_dots.specs.Places.{is_before, is_within}
 use Rattle.lasp_dots.proofs.PlaceLaws.{down-before, down-within, before-within, parted, taken-out}
 use Rattle.lasp_dots.proofs.changes.take_out.Goals as goal

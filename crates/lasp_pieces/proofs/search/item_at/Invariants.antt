@@ -1,6 +1,0 @@
-use Rattle.std.proofs.Common.{◌≡◌, ◌+◌}
-use Rattle.lasp_pieces.specs.Pieces.{offset}
-use Rattle.lasp_pieces.proofs.search.item_at.Given as goal
-
-abbrev pub invariant-loop-piece : goal.invariant-loop-piece
-invariant-loop-piece g l = offset l.pieces l.piece-index + l.rest ≡ l.place

@@ -1,6 +1,0 @@
-use Rattle.std.proofs.Common.{◌≡◌}
-use Rattle.lasp_pieces.specs.Pieces.{offset}
-use Rattle.lasp_pieces.proofs.span.count_items.Given as goal
-
-abbrev pub invariant-loop-piece : goal.invariant-loop-piece
-invariant-loop-piece g l = l.count ≡ offset l.pieces l.piece-index

@@ -1,2 +1,0 @@
--- Lists in pieces, and where a test parts them.
-pub mod Pieces
