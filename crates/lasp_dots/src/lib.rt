@@ -1,5 +1,5 @@
 //! The state of an observed-remove set that keeps no tombstones (Bieniusa et al. 2012): the pairs of a value and a token that are live, and how many updates of each node
-//! it counts. A pair whose token is counted and that isn't there was removed, so memory grows with what is visible and not with what was removed.
+//! it counts. A pair whose token is counted and that isn't there was removed, so memory grows with what is visible and not with what was removed. In `run/` scripts over one set run on replicas that keep such sets.
 //!
 //! ```text
 //! let mut here = DotSet::new(alloc, 2)?;    // of two replicas
@@ -18,9 +18,11 @@ mod order;
 mod pieces;
 mod reads;
 mod refused;
+mod run;
 mod search;
 mod set;
 mod weave;
 
 pub use refused::DotRefused;
+pub use run::{DotReplicas, DotRun, first_other, one_set, play_dots, run_dots};
 pub use set::DotSet;

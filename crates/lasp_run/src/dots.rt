@@ -4,7 +4,7 @@ ghost use Rattle.std.specs.Prelude.{◌≡◌, ◌<◌, length, IfOk};
 ghost use Rattle.lasp_run.specs.Prelude.{one_set, AreUnchanged, AreLater, seen, dots_answer, Gives, Follows, Performs, dots_scripting, running_dots, library_of, IsRunnable, words_of, answered};
 
 use lasp_call::open_script;
-use lasp_dot_run::{first_other, one_set, run_dots};
+use lasp_dots::{first_other, one_set, run_dots};
 use lasp_edge::Files;
 use lasp_fns::Library;
 use lasp_script::Script;
