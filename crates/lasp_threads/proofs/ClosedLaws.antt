@@ -12,7 +12,7 @@ use Rattle.model_journal.specs.Legal.{IsLegal}
 use Rattle.model_core.specs.Core.{Core}
 use Rattle.model_core.specs.Peer.{peer_of}
 use Rattle.model_runs.specs.Calls.{is_bind, unbound, calls}
-use Rattle.model_trace.specs.Traced.{IsTraced, AreTraced}
+use Rattle.model_core.specs.Traced.{IsTraced, AreTraced}
 use Rattle.model_world.specs.Command.{Script}
 use Rattle.model_world.specs.World.{Run, start, ended, peer_at}
 use Rattle.lasp_histlock.specs.History.{added}

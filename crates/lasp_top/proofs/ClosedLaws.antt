@@ -21,8 +21,8 @@ use Rattle.model_program.specs.declared.refusal.Refusal.{Refusal}
 use Rattle.model_program.proofs.PlanLaws.{part-itself}
 use Rattle.model_runs.specs.Calls.{frame_of, calls, unbound}
 use Rattle.model_scripts.specs.Progress.{grown}
-use Rattle.model_trace.specs.Trace.{journal_lines}
-use Rattle.model_trace.specs.Traced.{IsTraced, IsTrace, trace_lines}
+use Rattle.model_core.specs.Trace.{journal_lines}
+use Rattle.model_core.specs.Traced.{IsTraced, IsTrace, trace_lines}
 use Rattle.model_world.specs.Command.{Script}
 use Rattle.model_world.specs.Line.{known_line}
 use Rattle.model_world.specs.Report.{report_of, known_lines}

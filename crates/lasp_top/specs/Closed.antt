@@ -5,8 +5,8 @@ use Rattle.model_core.specs.Core.{Core}
 use Rattle.model_graph.specs.Graph.{Decl}
 use Rattle.model_journal.specs.Journal.{graph}
 use Rattle.model_runs.specs.Calls.{frame_of}
-use Rattle.model_trace.specs.Trace.{journal_lines}
-use Rattle.model_trace.specs.Traced.{AreTraced}
+use Rattle.model_core.specs.Trace.{journal_lines}
+use Rattle.model_core.specs.Traced.{AreTraced}
 use Rattle.model_world.specs.Command.{Script}
 use Rattle.model_world.specs.Report.{report_of}
 use Rattle.model_world.specs.World.{Run, ended}

@@ -4,13 +4,13 @@ ghost use Rattle.std.specs.Prelude.{◌≡◌, ◌+◌, ◌<◌, ◌^◌, ◌++�
 ghost use Rattle.std.specs.Fmt.{decimal};
 ghost use Rattle.model_world.specs.Line.{line_rest};
 ghost use Rattle.model_journal.specs.Journal as journal;
-ghost use Rattle.model_trace.specs.Trace.{updates_with, act_words, entry_line, journal_lines, NamesDeclared};
+ghost use Rattle.model_core.specs.Trace.{updates_with, act_words, entry_line, journal_lines, NamesDeclared};
 ghost use Rattle.lasp_replica.specs.Entries.{act_of, entry_of};
 
 use lasp_core::Core;
 use lasp_graph::Graph;
 use lasp_replica::{Act, Entry};
-use model_trace::journals_name_declared_variables;
+use model_core::journals_name_declared_variables;
 use std::alloc::AllocError;
 
 fn push_word(text: &mut String, word: &str) -> Result<(), AllocError>

@@ -9,3 +9,4 @@ pub mod HeldLaws
 pub mod ReadLaws
 pub mod CoreLaws
 pub mod CleanLaws
+pub mod TraceLaws

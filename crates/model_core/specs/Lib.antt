@@ -1,2 +1,4 @@
 pub mod Peer
 pub mod Core
+pub mod Trace
+pub mod Traced

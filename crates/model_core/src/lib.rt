@@ -1,10 +1,11 @@
-//! What the code of a replica rests on: what its journal makes of it in the world, which entries keep the journal legal, and when its derived variables are clean. There is nothing to run here: each function's contract is a group of laws.
+//! What the code of a replica rests on: what its journal makes of it in the world, which entries keep the journal legal, when its derived variables are clean, and how it is told in lines. There is nothing to run here: each function's contract is a group of laws.
 #![tactic(auto)]
 
 mod binds;
 mod cores;
 mod legal;
 mod peers;
+mod traces;
 
 pub use binds::{
     binds_make_clean, binds_raise_the_base, binds_set_their_variable,
@@ -16,3 +17,4 @@ pub use legal::{
     what_is_read_is_valid,
 };
 pub use peers::{entries_change_the_graph, entries_change_the_peer};
+pub use traces::journals_name_declared_variables;

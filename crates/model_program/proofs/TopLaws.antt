@@ -15,7 +15,7 @@ use Rattle.model_scripts.specs.Progress.{grown}
 use Rattle.model_scripts.specs.Script.{script_of}
 use Rattle.model_scripts.specs.declared.script_why.ScriptWhy.{ScriptWhy}
 use Rattle.model_scripts.proofs.Reached.{accepted-script_of}
-use Rattle.model_trace.specs.Traced.{AreTraced, IsTrace, trace_lines}
+use Rattle.model_core.specs.Traced.{AreTraced, IsTrace, trace_lines}
 use Rattle.model_values.specs.Told.{Appends}
 use Rattle.model_world.specs.Command.{Script}
 use Rattle.model_world.specs.World.{Run, ended}

@@ -3,7 +3,7 @@ use Rattle.std.specs.Prelude.{◌≡◌, ◌⊎◌, ℕ, List, length, if◌then
 use Rattle.model_graph.specs.Graph.{Decl}
 use Rattle.model_world.specs.Command.{Script}
 use Rattle.model_world.specs.World.{Run}
-use Rattle.model_trace.specs.Traced.{IsTrace}
+use Rattle.model_core.specs.Traced.{IsTrace}
 use Rattle.model_program.specs.declared.refusal.Refusal.{Refusal}
 use Rattle.model_program.specs.declared.refusal.Refusal.TheVariants.{TooLong}
 

@@ -11,7 +11,7 @@ use Rattle.model_readings.specs.declared.graph_why.GraphWhy.{GraphWhy}
 use Rattle.model_scripts.specs.Progress.{grown}
 use Rattle.model_scripts.specs.Script.{script_of}
 use Rattle.model_scripts.specs.declared.script_why.ScriptWhy.{ScriptWhy}
-use Rattle.model_trace.specs.Traced.{AreTraced, trace_lines}
+use Rattle.model_core.specs.Traced.{AreTraced, trace_lines}
 use Rattle.model_values.specs.Told.{Appends}
 use Rattle.model_world.specs.Command.{Script}
 use Rattle.model_world.specs.World.{Run, ended}

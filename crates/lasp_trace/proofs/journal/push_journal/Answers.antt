@@ -1,6 +1,6 @@
 use Rattle.std.proofs.Common.{rules, arith, ◌≡◌, ◌+◌, ◌<◌, ◌≤◌}
 use Rattle.lasp_replica.specs.Entries.{entry_of}
-use Rattle.model_trace.proofs.TraceLaws.{pushed-next, pushed-all}
+use Rattle.model_core.proofs.TraceLaws.{pushed-next, pushed-all}
 use Rattle.lasp_trace.proofs.journal.push_journal.Goals as goal
 
 pub loop-i-preserved : goal.loop-i-preserved

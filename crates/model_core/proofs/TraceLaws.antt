@@ -9,7 +9,7 @@ use Rattle.model_journal.specs.Journal.{graph, journal}
 use Rattle.model_journal.specs.Legal.{IsLegal, IsLawful}
 use Rattle.model_journal.proofs.LegalLaws.{legal-last, legal-take}
 use Rattle.model_core.proofs.BaseLaws.{bound-derived, graph-take}
-use Rattle.model_trace.specs.Trace.{updates_with, entry_line, entry_lines, NamesDeclared}
+use Rattle.model_core.specs.Trace.{updates_with, entry_line, entry_lines, NamesDeclared}
 
 -- the entries up to one of them
 up-to : (h : List Entry) (i : ℕ) (e : Entry) → i < length h → slice_get h i ≡ Some e → take (i + 1) h ≡ take i h ++ e ∷ []

@@ -9,7 +9,7 @@ use Rattle.model_runs.specs.Calls.{frame_of, calls, unbound}
 use Rattle.model_world.specs.Command.{Script}
 use Rattle.model_world.specs.Report.{report_of}
 use Rattle.model_world.specs.World.{Run, start, peer_at}
-use Rattle.model_trace.specs.Trace.{journal_lines}
+use Rattle.model_core.specs.Trace.{journal_lines}
 
 -- a journal that node p may come to: legal; but for results it has what the script makes there, once, in order and by caller 0; at its end it counts what the node counts at the run's end, and each variable is what plain evaluation of the sources gives
 pub record IsTraced (g : List Decl) (script : Script) (run : Run) (p : ℕ) (entries : List Entry) : Type 0 where

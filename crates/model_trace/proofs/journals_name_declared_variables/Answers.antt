@@ -1,5 +1,0 @@
-use Rattle.model_trace.proofs.TraceLaws.{names_declared}
-use Rattle.model_trace.proofs.journals_name_declared_variables.Goals as goal
-
-pub returns : goal.returns
-returns c = names_declared
