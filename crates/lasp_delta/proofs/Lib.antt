@@ -5,3 +5,7 @@ pub mod BegunLaws
 pub mod JoinLaws
 pub mod ReadLaws
 pub mod WorldLaws
+pub mod GoLaws
+pub mod MessageLaws
+pub mod SyncLaws
+pub mod PlayLaws

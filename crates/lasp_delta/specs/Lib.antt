@@ -1,3 +1,7 @@
 pub mod Answered
 pub mod Decoded
 pub mod Delta
+pub mod Letter
+pub mod Seen
+pub mod Acts
+pub mod Play

@@ -1,4 +1,4 @@
-//! Deltas: what changed between two messages of one sender, what that makes of another message, and its bytes.
+//! Deltas: what changed between two messages of one sender, what that makes of another message, and its bytes; in `run/` scripts whose messages travel so.
 //!
 //! ```text
 //! let bytes = encode_delta(alloc, &delta_of(alloc, &sent_before, &sent_now)?)?;
@@ -14,6 +14,7 @@ mod delta;
 mod difference;
 mod encoder;
 mod refused;
+mod run;
 mod source;
 
 pub use application::apply;
@@ -22,3 +23,4 @@ pub use delta::Delta;
 pub use difference::{delta_of, is_before};
 pub use encoder::encode_delta;
 pub use refused::DeltaRefused;
+pub use run::{DeltaRun, Letter, deltas_on};

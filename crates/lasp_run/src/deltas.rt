@@ -5,7 +5,7 @@ ghost use Rattle.lasp_run.specs.Prelude.{arc_value, delta_answer, Gives, Follows
 
 use crate::open::open_run;
 use crate::run::failure_of;
-use lasp_delta_run::deltas_on;
+use lasp_delta::deltas_on;
 use lasp_drive::FreshNode;
 use lasp_edge::Files;
 use lasp_fns::Library;

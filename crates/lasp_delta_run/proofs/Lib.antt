@@ -1,4 +1,0 @@
-pub mod GoLaws
-pub mod MessageLaws
-pub mod SyncLaws
-pub mod PlayLaws

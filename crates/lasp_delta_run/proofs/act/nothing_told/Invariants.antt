@@ -1,5 +1,0 @@
-use Rattle.std.proofs.Common.{◌≡◌, ◌≤◌, replicate}
-use Rattle.lasp_delta_run.proofs.act.nothing_told.Given as goal
-
-abbrev pub invariant-loop : goal.invariant-loop
-invariant-loop l = (l.counts ≡ replicate l.counter 0) × (l.counter ≤ l.nodes)

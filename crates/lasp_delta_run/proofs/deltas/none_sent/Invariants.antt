@@ -1,5 +1,0 @@
-use Rattle.std.proofs.Common.{◌≡◌, ◌≤◌, replicate, None}
-use Rattle.lasp_delta_run.proofs.deltas.none_sent.Given as goal
-
-abbrev pub invariant-loop : goal.invariant-loop
-invariant-loop l = (l.last.items ≡ replicate l.counter None) × (l.counter ≤ l.nodes)

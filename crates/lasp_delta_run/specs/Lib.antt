@@ -1,4 +1,0 @@
-pub mod Letter
-pub mod Seen
-pub mod Acts
-pub mod Play
