@@ -1,4 +1,4 @@
-//! Tests of values, of joins, of logs, of sources, of files and outputs, of the lock and of the mailbox.
+//! Tests of values, of joins, of logs, of sources, of spellings, of files and outputs, of the lock and of the mailbox.
 #![tactic(auto)]
 
 #[cfg(test)]
@@ -13,5 +13,7 @@ mod log;
 mod mail;
 #[cfg(test)]
 mod sets;
+#[cfg(test)]
+mod spelling;
 #[cfg(test)]
 mod value;
