@@ -1,4 +1,4 @@
-//! Tests of stores: of one thread, and of a feed beside hands in threads of their own.
+//! Tests of stores: of one thread, and of a feed beside hands in threads of their own; and of which types threads may be given, and may share.
 #![tactic(auto)]
 
 #[cfg(test)]
@@ -6,11 +6,15 @@ mod alone;
 #[cfg(test)]
 mod asking;
 #[cfg(test)]
+mod crossing;
+#[cfg(test)]
 mod desk;
 #[cfg(test)]
 mod ended;
 #[cfg(test)]
 mod feeding;
+#[cfg(test)]
+mod joined;
 #[cfg(test)]
 mod lines;
 #[cfg(test)]

@@ -1,5 +1,5 @@
 use Rattle.lasp_crossing.proofs.Crossing.{crosses}
-use Rattle.tests_threads.proofs.crossing.hands_may_move.Goals as goal
+use Rattle.tests_store.proofs.crossing.hands_may_move.Goals as goal
 
 pub may_move-requires-send-T : goal.may_move-requires-send-T
 may_move-requires-send-T c κs = search crosses depth 40 fits 4000

@@ -1,5 +1,5 @@
 use Rattle.lasp_crossing.proofs.Crossing.{crosses}
-use Rattle.tests_threads.proofs.crossing.stores_may_cross.Goals as goal
+use Rattle.tests_store.proofs.crossing.stores_may_cross.Goals as goal
 
 pub may_cross-requires-send-T : goal.may_cross-requires-send-T
 may_cross-requires-send-T c κs = search crosses depth 40 fits 4000

@@ -1,5 +1,5 @@
 use Rattle.lasp_crossing.proofs.Crossing.{crosses}
-use Rattle.tests_threads.proofs.joined.hand_away.Goals as goal
+use Rattle.tests_store.proofs.joined.hand_away.Goals as goal
 
 pub join-requires-send-F : goal.join-requires-send-F
 join-requires-send-F g c κs within = search crosses depth 40 fits 4000
