@@ -1,6 +1,8 @@
-//! Tests of what a run leaves behind, which the program drops, of nodes that come in and go out again, and of what errors say.
+//! Tests of what a run leaves behind, which the program drops, of nodes that come in and go out again, of deltas and runs by them, and of what errors say.
 #![tactic(auto)]
 
+#[cfg(test)]
+mod deltas;
 #[cfg(test)]
 mod errors;
 #[cfg(test)]

@@ -1,9 +1,5 @@
 //! Tests of deltas: from one message to a later one, through bytes written by hand from the format, and back into a message; and of runs whose messages travel so.
-#![tactic(auto)]
 
-#[cfg(test)]
 mod bytes;
-#[cfg(test)]
 mod damaged;
-#[cfg(test)]
 mod runs;
