@@ -29,7 +29,7 @@ use Rattle.model_world.specs.Report.{report_of, known_lines}
 use Rattle.model_world.specs.World.{Peer, Run, start, ended, peer_at, shown_at}
 use Rattle.model_world.specs.declared.stop.Stop.{Stop}
 use Rattle.lasp_drive.proofs.NodeLaws.{mapped-at}
-use Rattle.lasp_load.specs.Summary.{core_lines, known_by, IsSummary}
+use Rattle.lasp_top.specs.Summary.{core_lines, known_by, IsSummary}
 use Rattle.lasp_run.specs.Run.{IsStop}
 use Rattle.lasp_top.specs.Closed.{AreCoresOf, traces_of}
 

@@ -1,2 +1,4 @@
 pub mod ClosedLaws
 pub mod PlainLaws
+pub mod CommandLaws
+mod SummaryLaws

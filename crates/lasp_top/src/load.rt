@@ -7,10 +7,10 @@ ghost use Rattle.model_program.specs.Threads.{loaded_over, load_answer};
 ghost use Rattle.lasp_run.specs.Prelude.{FitsAll, Gives, run_answer, IsRunnable, library_of};
 
 use crate::closed::run_closed;
+use crate::{load_graph, load_script, load_text};
 use lasp_call::{graph_from, script_from};
 use lasp_fns::Library;
 use lasp_graph::Graph;
-use lasp_load::{load_graph, load_script, load_text};
 use lasp_run::failure_of;
 use lasp_script::Script;
 use lasp_workers::Gate;

@@ -5,7 +5,7 @@ use Rattle.model_graph.specs.Graph.{Decl}
 use Rattle.model_program.specs.Summary.{load_text}
 use Rattle.model_world.specs.Command.{Script}
 use Rattle.model_world.specs.World.{Run}
-use Rattle.lasp_load.specs.Summary.{IsSummary}
+use Rattle.lasp_top.specs.Summary.{IsSummary}
 use Rattle.lasp_run.proofs.PartLaws.{run-ended}
 use Rattle.lasp_top.proofs.ClosedLaws.{EndsAs, summary-text}
 use Rattle.lasp_top.proofs.load.summary.Goals as goal

@@ -5,7 +5,7 @@ ghost use Rattle.std.specs.Fmt.{decimal};
 ghost use Rattle.model_journal.specs.Journal as journal;
 ghost use Rattle.model_program.specs.Summary.{load_line};
 ghost use Rattle.model_world.specs.Line.{line, line_rest, known_line};
-ghost use Rattle.lasp_load.specs.Summary.{state_number, core_lines, known_by, IsSummary};
+ghost use Rattle.lasp_top.specs.Summary.{state_number, core_lines, known_by, IsSummary};
 
 use crate::generator::push_decimal;
 use lasp_core::Core;

@@ -2,8 +2,8 @@ use Rattle.std.proofs.Common.{◌≡◌, ◌≤◌, ◌++◌, length, drop}
 use Rattle.std.specs.Prelude.{string_bytes}
 use Rattle.model_journal.specs.Journal.{graph, vals}
 use Rattle.model_program.specs.Summary.{number_lines}
-use Rattle.lasp_load.specs.Summary.{core_lines}
-use Rattle.lasp_load.proofs.summary.push_variables.Given as goal
+use Rattle.lasp_top.specs.Summary.{core_lines}
+use Rattle.lasp_top.proofs.summary.push_variables.Given as goal
 
 abbrev pub invariant-loop-x : goal.invariant-loop-x
 invariant-loop-x l = record {

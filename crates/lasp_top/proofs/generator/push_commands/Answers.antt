@@ -1,8 +1,8 @@
 use Rattle.std.proofs.Common.{rules, ◌++◌, sym, ap, ◌∙◌, append-nil}
 use Rattle.std.specs.Prelude.{string_bytes}
 use Rattle.model_program.specs.Generator.{next_number}
-use Rattle.lasp_load.proofs.CommandLaws.{number-next, no-commands, pushed-next}
-use Rattle.lasp_load.proofs.generator.push_commands.Goals as goal
+use Rattle.lasp_top.proofs.CommandLaws.{number-next, no-commands, pushed-next}
+use Rattle.lasp_top.proofs.generator.push_commands.Goals as goal
 
 pub loop-j-init : goal.loop-j-init
 loop-j-init c = record {

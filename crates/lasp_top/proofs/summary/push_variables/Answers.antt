@@ -7,9 +7,9 @@ use Rattle.model_journal.specs.Journal.{graph, vals}
 use Rattle.model_program.specs.Summary.{number_of}
 use Rattle.model_world.specs.Line.{line}
 use Rattle.lasp_graph.specs.Decl.{decl_of}
-use Rattle.lasp_load.specs.Summary.{state_number, core_lines}
-use Rattle.lasp_load.proofs.SummaryLaws.{state-numbered, numbers-next}
-use Rattle.lasp_load.proofs.summary.push_variables.Goals as goal
+use Rattle.lasp_top.specs.Summary.{state_number, core_lines}
+use Rattle.lasp_top.proofs.SummaryLaws.{state-numbered, numbers-next}
+use Rattle.lasp_top.proofs.summary.push_variables.Goals as goal
 
 pub loop-x-preserved : goal.loop-x-preserved
 loop-x-preserved c =

@@ -18,7 +18,7 @@ use Rattle.lasp_state.specs.State as state
 use Rattle.lasp_state.specs.declared.state.State.{State}
 use Rattle.lasp_state.specs.declared.state.State.TheVariants.{Set, Grow, Count, Max, Fold as Folded}
 use Rattle.lasp_core.specs.Core.{IsStateOf}
-use Rattle.lasp_load.specs.Summary.{state_number, known_by}
+use Rattle.lasp_top.specs.Summary.{state_number, known_by}
 
 -- the number of a state of this kind is that of its content
 number-shown : (nodes : ℕ) (k : Kind) (s : State) (content : Content) → state.content_of s ≡ content → state.shape_of s ≡ shape_of nodes k → (IsFalse (is_source k) → state.number_of s ≡ number_by k (state.content_of s)) → state_number s ≡ number_of k content

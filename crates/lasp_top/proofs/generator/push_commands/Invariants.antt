@@ -1,7 +1,7 @@
 use Rattle.std.proofs.Common.{◌≡◌, ◌<◌, ◌++◌}
 use Rattle.std.specs.Prelude.{string_bytes}
 use Rattle.model_program.specs.Generator.{number_at, commands}
-use Rattle.lasp_load.proofs.generator.push_commands.Given as goal
+use Rattle.lasp_top.proofs.generator.push_commands.Given as goal
 
 abbrev pub invariant-loop-j : goal.invariant-loop-j
 invariant-loop-j l = record {

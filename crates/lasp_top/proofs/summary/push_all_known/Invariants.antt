@@ -1,7 +1,7 @@
 use Rattle.std.proofs.Common.{◌≡◌, ◌++◌, length, drop}
 use Rattle.std.specs.Prelude.{string_bytes}
-use Rattle.lasp_load.specs.Summary.{known_by}
-use Rattle.lasp_load.proofs.summary.push_all_known.Given as goal
+use Rattle.lasp_top.specs.Summary.{known_by}
+use Rattle.lasp_top.proofs.summary.push_all_known.Given as goal
 
 abbrev pub invariant-loop-p : goal.invariant-loop-p
 invariant-loop-p l = record {
