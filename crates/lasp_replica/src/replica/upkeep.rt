@@ -4,7 +4,7 @@ ghost use Rattle.std.specs.Prelude.{◌≡◌, ◌<◌, length};
 ghost use Rattle.lasp_replica.specs.Prelude.{arc_value, IsDerived, IsReplica};
 
 use super::Replica;
-use lasp_graph::{Kind, States};
+use lasp_graph::{Graph, Kind, States};
 use lasp_state::Op;
 
 /// Puts what came into the table of a state, where no one else has it by now, and closes its log.
@@ -57,6 +57,30 @@ fn index_for(states: &mut States, kind: &Kind, var: u8, x: u8, y: u8)
     }
 }
 
+/// Sees that the processes of later variables find without a pass what they look up by value in an input: while the job that is made shares it, that can't be seen to.
+fn index_for_later(states: &mut States, graph: &Graph, var: u8, x: u8)
+    ensures { states.new ≡ states.old }
+{
+    if u64::from(x) >= states.len() {
+        return;
+    }
+    for z in u64::from(var) + 1..graph.len() {
+        match &graph.at(z).kind {
+            Kind::Fold(input, _, _) => {
+                if *input == x {
+                    states.index_values_at(u64::from(x));
+                }
+            }
+            Kind::Intersection(first, second) => {
+                if *first == x || *second == x {
+                    states.index_rows_at(u64::from(x));
+                }
+            }
+            _ => {}
+        }
+    }
+}
+
 impl Replica {
     /// Sees that a share of a derived variable and of its inputs costs little, and that its process finds values in them without a pass.
     pub(super) fn ready_inputs(&mut self, var: u8)
@@ -68,6 +92,10 @@ impl Replica {
         if let Some((x, y)) = kind.inputs() {
             tend_process(&mut self.states, var, x, y);
             index_for(&mut self.states, kind, var, x, y);
+            index_for_later(&mut self.states, &self.graph, var, x);
+            if y != x {
+                index_for_later(&mut self.states, &self.graph, var, y);
+            }
         }
     }
 
