@@ -11,13 +11,15 @@ use Rattle.model_graph.specs.Graph.{Decl, kind_at}
 use Rattle.model_graph.specs.Evaluation.{content_at, least_of}
 use Rattle.model_graph.specs.Lawful as lawful
 use Rattle.model_graph.specs.Lawful.{IsDerived}
-use Rattle.model_graph.proofs.PlaceLaws.{at-append, map-length}
+use Rattle.model_graph.proofs.PlaceLaws.{at-append, at-map, map-length}
+use Rattle.model_states.specs.Update.{Op}
+use Rattle.model_core.specs.Known.{BringsNothing}
 use Rattle.model_runs.specs.Held.{IsHeld}
 use Rattle.model_runs.proofs.EachLaws.{each-append}
 use Rattle.model_journal.specs.Entry as model
 use Rattle.model_journal.specs.Entry.{Act, Entry, Frame, entry}
 use Rattle.model_journal.specs.Callers.{made_by}
-use Rattle.model_journal.specs.Journal.{graph, val, vals}
+use Rattle.model_journal.specs.Journal.{graph, counts, val, vals}
 use Rattle.model_journal.specs.Clean.{version}
 use Rattle.model_journal.specs.Legal.{IsLegal}
 use Rattle.model_journal.proofs.JournalLaws.{journal-later}
@@ -32,7 +34,8 @@ use Rattle.model_core.proofs.ValidLaws.{val-ordered}
 use Rattle.model_core.proofs.CoreLaws.{entered-core, released-met}
 use Rattle.lasp_replica.proofs.ReadLaws.{kept-version}
 use Rattle.lasp_state.specs.declared.state.State.{State}
-use Rattle.lasp_graph.specs.States.{held_of, held_at}
+use Rattle.lasp_graph.specs.States.{Held, held_of, held_at, contents_of}
+use Rattle.lasp_replica.proofs.PartLaws.{held-val}
 use Rattle.lasp_graph.specs.Evaluated.{number_by}
 use Rattle.lasp_core.specs.Reads.{read_of}
 use Rattle.lasp_replica.specs.Entries.{entry_of}
@@ -74,6 +77,12 @@ held-here r is = subst (λ (g : List Decl). IsHeld (frame_of r).nodes g (peer_of
 
 pub sound-core : (r : Replica) (reads : List ReadNo) (opened owed : ℕ) → IsSound r reads opened → IsCore (core_of r reads opened owed)
 sound-core r reads opened owed is = record { legal = is.replica.legal; held = held-here r is.replica; few = is.replica.few; parked = is.parked }
+
+-- an update that brings nothing after its entries brings nothing to its states
+pub idle-here : (r : Replica) → IsReplica r → (x : ℕ) (op : Op) → BringsNothing (val (frame_of r) (entries_of r) x) (counts (frame_of r) (entries_of r)) (frame_of r).replica op → BringsNothing (content_at (contents_of r.states) x) r.counts r.me op
+idle-here r is x op nothing =
+    let held : content_at (contents_of r.states) x ≡ val (frame_of r) (entries_of r) x = at-map (λ (h : Held). h.content) r.states x _ ∙ held-val (frame_of r) (entries_of r) (parts_of r) is.kept x in
+    subst (λ (cs : List ℕ). BringsNothing (content_at (contents_of r.states) x) cs r.me op) (sym is.kept.counts) (subst (λ (s : Content). BringsNothing s (counts (frame_of r) (entries_of r)) r.me op) (sym held) nothing)
 
 -- ---- parked reads are watched
 
@@ -234,6 +243,10 @@ closed-sound r number reads rest opened sound closes = record {
       (each-kept (IsParked (frame_of r) (entries_of r)) (IsParked (frame_of r) (entries_of r)) (λ x. not (x.number == number)) (λ x e p. p) (map read_of reads) sound.parked);
   order = subst (AreInOrder opened) (sym closes) (order-kept opened (λ x. not (x.number == number)) (map read_of reads) sound.order);
 }
+
+-- one was opened and closed again
+pub looked-sound : (old ready : Replica) (reads rest : List ReadNo) (opened next : ℕ) → ready ≡ old → IsSound old reads opened → Closed opened reads rest → next ≡ counted_up opened 1 → IsSound ready rest next
+looked-sound old ready reads rest opened next is sound closes counted = ready-sound old ready rest next is (counted-sound old rest opened next (closed-sound old opened reads rest opened sound closes) counted)
 
 -- ---- numbers of states
 

@@ -1,5 +1,6 @@
 pub mod OrderLaws
 pub mod ParkedLaws
+pub mod LookLaws
 pub mod CoresLaws
 pub mod LaterLaws
 pub mod JobLaws

@@ -83,6 +83,17 @@ opened r c = record {
 abbrev pub closed : ℕ → Core → Core
 closed number c = record { frame = c.frame; entries = c.entries; parked = filter (λ r. not (r.number == number)) c.parked; busy = c.busy; opened = c.opened; owed = c.owed }
 
+-- the core after a read that was opened and closed again
+abbrev pub looked : Core → Core
+looked c = record {
+  frame = c.frame;
+  entries = c.entries;
+  parked = filter (λ r. not (r.number == c.opened)) c.parked;
+  busy = c.busy;
+  opened = counted_up c.opened 1;
+  owed = c.owed;
+}
+
 -- ---- jobs
 
 -- the changed rows of a job, in both inputs where it has two

@@ -13,6 +13,7 @@ pub use Rattle.model_journal.specs.Entry.{Entry, Frame, entry}
 pub use Rattle.model_journal.specs.Journal.{graph, vals}
 pub use Rattle.model_readings.specs.Lawful.{FitsAll}
 pub use Rattle.model_core.specs.Core.{Core, Read, entered, is_met}
+pub use Rattle.model_core.specs.Known.{BringsNothing, HasLeast}
 pub use Rattle.lasp_state.specs.State.{content_of, op_of}
 pub use Rattle.lasp_state.specs.Threshold.{threshold_of}
 pub use Rattle.lasp_state.specs.declared.state.State.{State}
@@ -24,6 +25,6 @@ pub use Rattle.lasp_replica.specs.Entries.{entry_of}
 pub use Rattle.lasp_replica.specs.Jobs.{IsFirst, IsJobNow, IsJobOf, IsNext, IsResultOf, IsUnclean, Lacks, unread_rows}
 pub use Rattle.lasp_replica.specs.Replica.{IsAnswered, IsDelivered, IsReplica, IsSmall, IsSuited, entries_of, frame_of, update_refusal}
 pub use Rattle.lasp_job.specs.declared.job.Job.{Job}
-pub use Rattle.lasp_core.specs.Core.{AreAscending, AreInOrder, AreOfKind, IsOpen, IsSettled, IsStateOf, IsWatched, closed, declared, fresh_core, opened, opened_read, returned, rows_of, state_after, taken}
+pub use Rattle.lasp_core.specs.Core.{AreAscending, AreInOrder, AreOfKind, IsOpen, IsSettled, IsStateOf, IsWatched, closed, declared, fresh_core, looked, opened, opened_read, returned, rows_of, state_after, taken}
 pub use Rattle.lasp_core.specs.Evaluated.{IsEvaluated, IsSameJob, evaluated}
 pub use Rattle.lasp_core.specs.Reads.{read_of}

@@ -24,6 +24,7 @@
 mod jobs;
 mod kept;
 mod laws;
+mod look;
 mod parked;
 mod read;
 mod replica_core;

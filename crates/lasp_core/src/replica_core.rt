@@ -1,7 +1,7 @@
 //! The core of a replica, as callers see it.
 
 ghost use Rattle.std.specs.Prelude.{◌≡◌, ◌<◌, ◌≤◌, ◌^◌, ◌↔◌, [], IfOk, IfErr, OnOk, OnErr, IfSome, IfNone, IsTrue, is_some, length, take, slice_get, Some, vec_capacity, ℕ};
-ghost use Rattle.lasp_core.specs.Prelude.{arc_value, count_at, IsContentAtMost, suits, meets, kind_at, equation, eval, ContentsAtMost, IsDerived, variable_limit, IsClean, base, entry, entered, op_of, threshold_of, decl_of, contents_of, held_at, number_by, read_of, entry_of, IsSmall, IsSuited, update_refusal, IsAnswered, IsDelivered, BringsAsMuch, IsUnclean, IsFirst, IsNext, Lacks, IsJobOf, IsJobNow, IsResultOf, fresh_core, IsOpen, opened_read, opened, closed, rows_of, taken, returned, IsSettled, declared, IsStateOf, AreOfKind, AreAscending, AreInOrder};
+ghost use Rattle.lasp_core.specs.Prelude.{arc_value, count_at, IsContentAtMost, suits, meets, kind_at, equation, eval, ContentsAtMost, IsDerived, variable_limit, IsClean, base, entry, entered, op_of, threshold_of, decl_of, contents_of, held_at, number_by, read_of, entry_of, IsSmall, IsSuited, BringsNothing, update_refusal, IsAnswered, IsDelivered, BringsAsMuch, IsUnclean, IsFirst, IsNext, Lacks, IsJobOf, IsJobNow, IsResultOf, fresh_core, IsOpen, opened_read, opened, looked, HasLeast, closed, rows_of, taken, returned, IsSettled, declared, IsStateOf, AreOfKind, AreAscending, AreInOrder};
 ghost use Rattle.model_graph.specs.Lawful.{shape_of};
 ghost use Rattle.model_readings.specs.Lawful.{IsNext as MayFollow};
 ghost use Rattle.model_journal.specs.Entry as model;
@@ -9,6 +9,7 @@ ghost use Rattle.model_journal.specs.Journal as journal;
 ghost use Rattle.model_core.specs.Core as plain;
 ghost use Rattle.lasp_state.specs.State as state;
 
+use crate::look::is_met_by;
 use crate::parked::{remove_read, split_met};
 use crate::read::{ReadNo, Released};
 use crate::upkeep::{ready_read, ready_reads};
@@ -80,10 +81,29 @@ impl Core {
         ensures err { OnErr result (self.new ≡ self.old) }
         ensures answer { IsAnswered (update_refusal self.old.frame.nodes self.old.frame.replica (journal.graph self.old.frame self.old.entries) (journal.vals self.old.frame self.old.entries) (journal.counts self.old.frame self.old.entries) var op.now) result }
     {
+        self.update_with(by, var, op, false)
+    }
+
+    /// The same. Where it is known that what the variable holds stays as it is, as by a state that it holds already, no row is looked at.
+    pub fn update_with(
+        &mut self,
+        by: u64,
+        var: u8,
+        op: &Op,
+        is_known: bool,
+    ) -> Result<Released, UpdateRefused>
+        requires small { IsSmall self.old.frame.nodes op.now }
+        requires known { IsTrue is_known → BringsNothing (journal.val self.old.frame self.old.entries var) (journal.counts self.old.frame self.old.entries) self.old.frame.replica (op_of op.now) }
+        ensures ok { OnOk result (self.new ≡ entered (entry by (model.Update var (op_of op.now))) self.old) }
+        ensures released { IfOk result (λ reads. reads ≡ plain.released (entry by (model.Update var (op_of op.now))) self.old) }
+        ensures ascending { IfOk result AreAscending }
+        ensures err { OnErr result (self.new ≡ self.old) }
+        ensures answer { IsAnswered (update_refusal self.old.frame.nodes self.old.frame.replica (journal.graph self.old.frame self.old.entries) (journal.vals self.old.frame self.old.entries) (journal.counts self.old.frame self.old.entries) var op.now) result }
+    {
         ready_reads(&mut self.replica, self.parked.as_slice());
         let mut released = self.room()?;
         let n = self.replica.journal.len() as u64;
-        self.replica.update(by, var, op)?;
+        self.replica.update_with(by, var, op, is_known)?;
         split_met(&self.replica, n, &mut self.parked, &mut released);
         Ok(Released::of(released))
     }
@@ -251,6 +271,20 @@ impl Core {
         } else {
             Ok(None)
         }
+    }
+
+    /// Whether a variable has come to a threshold, asked by a read that is open for that long alone. Where the variable is known to hold what the threshold asks for at least, that isn't asked again.
+    pub fn look(&mut self, var: u8, threshold: &Threshold, is_known: bool) -> bool
+        requires open { IsOpen self.old.frame self.old.entries (opened_read self.old var (threshold_of threshold.now)) }
+        requires known { IsTrue is_known → HasLeast (threshold_of threshold.now) (journal.val self.old.frame self.old.entries var) }
+        ensures met { result ≡ meets (threshold_of threshold.now) (journal.val self.old.frame self.old.entries var) }
+        ensures looked { self.new ≡ looked self.old }
+    {
+        ready_read(&mut self.replica, var, threshold);
+        let met = is_met_by(threshold, self.state(var), is_known);
+        remove_read(&mut self.parked, self.opened);
+        self.opened = self.opened.saturating_add(1);
+        met
     }
 
     /// Closes a read: no call releases it any more. Where its number isn't parked nothing happens.

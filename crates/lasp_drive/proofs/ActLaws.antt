@@ -50,6 +50,7 @@ stands-later c d ready = record {
   sound = sound-later (length d.nodes) c (stage_of d) (run_of d) ready.sound;
   known = ready.known;
   waiting = all-later c d.nodes d.reads ready.waiting;
+  marked = ready.marked;
 }
 
 pub acts-later : {A : Type 0} (c : ℕ) (d e : DriverView) (all : List Act) (result : Result A Halt) → ActsSeen c c d all result e → ActsSeen c (c + 1) d all result e

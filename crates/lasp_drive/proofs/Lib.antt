@@ -1,5 +1,6 @@
 pub mod NodeLaws
 pub mod WaitLaws
+pub mod MarkLaws
 pub mod PointLaws
 pub mod CallLaws
 pub mod ActLaws

@@ -20,6 +20,7 @@ use Rattle.lasp_drive.specs.declared.node.NodeStop.{NodeStop}
 use Rattle.lasp_drive.specs.declared.node.NodeStop.TheVariants as node
 use Rattle.lasp_drive.proofs.NodeLaws.{at-set, mapped-at, same-set, nodes-set, node-stays, learned-grew, learned-settled, held-here}
 use Rattle.lasp_drive.proofs.WaitLaws.{all-called, opened-kept}
+use Rattle.lasp_drive.proofs.MarkLaws.{grow-none, grow-set, grow-then}
 use Rattle.lasp_drive.proofs.CallLaws.{within-each}
 
 -- the nodes below a number are settled
@@ -146,6 +147,7 @@ keep-reads : (old now : List NodeView) (p : ℕ) (n new : NodeView) → KeepRead
 keep-reads old now p n new kept at grew = record {
   counts = same-set opened_count now p n new at (opened-kept new.shown n.reads new.reads grew.released) ∙ kept.counts;
   waiting = λ c opened all. all-called c p now opened n new at grew (kept.waiting c opened all);
+  grow = grow-then old now (slice_set now p new) kept.grow (grow-set now p n new at grew.more);
 }
 
 -- the nodes were asked one after the other
@@ -156,7 +158,7 @@ learning-begins nodes = record {
   peers = refl;
   calls = refl;
   settled = λ settled. settled;
-  reads = record { counts = refl; waiting = λ c opened all. all };
+  reads = record { counts = refl; waiting = λ c opened all. all; grow = grow-none nodes };
 }
 
 pub learning-next : (p : ℕ) (old now : List NodeView) (n new : NodeView) → AllLearn old now → slice_get now p ≡ Some n → OnlyLearns n new → AllLearn old (slice_set now p new)
@@ -180,7 +182,7 @@ learning-then old mid new first second = record {
   peers = second.peers ∙ first.peers;
   calls = second.calls ∙ first.calls;
   settled = λ settled. second.settled (first.settled settled);
-  reads = record { counts = second.reads.counts ∙ first.reads.counts; waiting = λ c opened all. second.reads.waiting c opened (first.reads.waiting c opened all) };
+  reads = record { counts = second.reads.counts ∙ first.reads.counts; waiting = λ c opened all. second.reads.waiting c opened (first.reads.waiting c opened all); grow = grow-then old mid new first.reads.grow second.reads.grow };
 }
 
 -- they are those of the run that they were of
@@ -204,7 +206,7 @@ settling-begins c g nodes each = record {
   settled = λ q n at low. absurd (omega (arith, low));
   peers = refl;
   calls = refl;
-  reads = record { counts = refl; waiting = λ c opened all. all };
+  reads = record { counts = refl; waiting = λ c opened all. all; grow = grow-none nodes };
   rest = λ run graph. refl;
 }
 
@@ -266,7 +268,7 @@ extending-begins before g d nodes each = record {
   behind = λ q n at low. each q n at;
   peers = refl;
   calls = refl;
-  reads = record { counts = refl; waiting = λ c opened all. all };
+  reads = record { counts = refl; waiting = λ c opened all. all; grow = grow-none nodes };
 }
 
 pub extending-next : (p : ℕ) (before g : List Decl) (d : Decl) (old now : List NodeView) (n new : NodeView) → g ≡ before ++ d ∷ [] → IsExtending p before g d old now → slice_get now p ≡ Some n → Extends d n new → IsExtending (p + 1) before g d old (slice_set now p new)

@@ -1,40 +1,48 @@
 -- What each act leaves: a driver that stands where the world has come to.
 use Rattle.std.proofs.Common.{refl, sym, ap, subst, ◌∙◌, arith}
-use Rattle.std.specs.Prelude.{◌≡◌, ℕ, ◌+◌, ◌<◌, ◌≤◌, List, [], ◌∷◌, ◌++◌, map, length, slice_get, slice_set, replicate, Some, None, Ok, Err, Bool, true, false, if◌then◌else◌, IsTrue, OnOk, Result}
-use Rattle.std.proofs.lemmas.List.{length-set, length-map, map-append}
+use Rattle.std.specs.Prelude.{◌≡◌, ℕ, ◌+◌, ◌<◌, ◌≤◌, List, [], ◌∷◌, ◌++◌, map, length, slice_get, slice_set, slice_index_or, replicate, Some, None, Ok, Err, nat_lt, Bool, true, false, if◌then◌else◌, IsTrue, OnOk, Result}
+use Rattle.std.specs.List.{AllByRecursion, Contains}
+use Rattle.std.proofs.lemmas.List.{length-set, length-map, map-append, get_or-set_same}
 use Rattle.std.proofs.lemmas.Option.{slice_get_within, get_or_from_slice_get}
 use Rattle.model_functions.specs.Library.{Library}
 use Rattle.model_readings.specs.Lawful.{FitsAll}
-use Rattle.model_states.specs.Content.{Content, size_of, row_limit}
-use Rattle.model_states.specs.Threshold.{Shape, Threshold, suits, meets}
-use Rattle.model_states.specs.Update.{Op}
-use Rattle.model_graph.specs.Graph.{Decl, kind_at, name_at, no_decl}
+use Rattle.model_states.specs.Content.{Content, size_of, row_limit, is_content_at_most}
+use Rattle.model_states.specs.Threshold.{Shape, Threshold, fold, suits, meets}
+use Rattle.model_states.specs.Update.{Op, Join}
+use Rattle.model_graph.specs.Graph.{Decl, Kind, OrSet, GSet, Counter, MaxReg, Union, Product, Intersection, Map, Filter, Fold, is_source, kind_at, name_at, no_decl}
 use Rattle.model_graph.specs.Lawful.{shape_of}
+use Rattle.model_graph.specs.Chain.{◌>>=◌}
 use Rattle.model_graph.specs.Evaluation.{content_at, first_large}
 use Rattle.model_messages.specs.Message.{Message}
 use Rattle.model_world.specs.Command.{Until}
-use Rattle.model_world.specs.Lawful.{Stage, opening_stage, IsPlace, MayAsk}
+use Rattle.model_world.specs.Command as plain
+use Rattle.model_world.specs.Lawful.{Stage, opening_stage, IsPlace, MayAsk, MayBeDone}
 use Rattle.std.specs.Fmt.{decimal}
 use Rattle.model_world.specs.Line.{line, shown_content}
 use Rattle.model_world.specs.World as world
-use Rattle.model_world.specs.World.{Peer, Run, Marked, Opened, peer_at, fresh_peer, start, network_limit, Update, Keep, Post, Take, Point, Show, Open, Reach, Extend, Act, act, updated, delivered, extended, sent_number, message_at, shown_at, shown_content_at, with_mark, with_read, with_decl, point_from}
+use Rattle.model_world.specs.World.{Peer, Run, Marked, Opened, peer_at, mark_at, fresh_peer, start, network_limit, Update, Keep, Post, Take, Point, Show, Open, Reach, Extend, Act, act, each, with_peer, checked_update, updated, delivered, extended, sent_number, message_at, shown_at, shown_content_at, with_mark, with_read, with_decl, point_from}
 use Rattle.model_world.specs.declared.stop.Stop.{Stop}
-use Rattle.model_world.specs.declared.stop.Stop.TheVariants.{NotReached}
+use Rattle.model_world.specs.declared.stop.Stop.TheVariants.{NotReached, TooLarge}
 use Rattle.model_journal.specs.Entry as model
 use Rattle.model_journal.specs.Entry.{Entry}
 use Rattle.model_core.specs.Core.{Read}
 use Rattle.model_runs.specs.Sound.{IsSound, IsOpened, no_read}
-use Rattle.model_runs.specs.Held.{IsSentTo}
+use Rattle.model_runs.specs.Held.{IsSentTo, IsUpdate}
+use Rattle.model_wire.specs.Lawful.{IsSource}
+use Rattle.model_core.specs.Known.{BringsNothing}
+use Rattle.model_runs.proofs.SourceLaws.{source-kind, update-source}
 use Rattle.model_runs.specs.Calls.{fed, call_of}
 use Rattle.model_runs.proofs.SoundLaws.{sound-start, sound-update, sound-take, sound-post, sound-keep, sound-show, sound-open, sound-extend, sound-later, sound-suits}
-use Rattle.lasp_state.specs.State.{IsOpOf, op_of}
+use Rattle.std.specs.Arc.{arc_value}
+use Rattle.lasp_state.specs.State.{IsOpOf, op_of, content_of}
 use Rattle.lasp_state.specs.declared.op.Op as rust
-use Rattle.lasp_drive.specs.Node.{NodeView, IsNode, IsStill, AreNodes, AreSettled, Grew, LearnsAnd, OnlyLearns, MayUpdate, MayRead, AreFresh}
+use Rattle.lasp_drive.specs.Node.{NodeView, IsNode, IsStill, ShowsNoMore, IsIdleUpdate, AreNodes, AreSettled, Grew, LearnsAnd, OnlyLearns, MayUpdate, MayRead, AreFresh}
 use Rattle.lasp_drive.specs.Nodes.{peers_of, MaySettle, AllLearn, AllSettled, SettlesAll, AllExtend}
 use Rattle.lasp_drive.specs.Reads.{IsNextRead, opens_next, looks_once}
 use Rattle.lasp_drive.specs.Waiting.{AreWaiting, opened_count, GoOnByReads}
 use Rattle.lasp_drive.specs.Calls.{GoOnByCalls}
-use Rattle.lasp_drive.specs.Driver.{DriverView, marked_of, opened_of, run_of, stage_of, IsRunKnown, Stands, Starts}
+use Rattle.lasp_drive.specs.Marks.{marked_of, HoldsMark, HoldsMarkAt, HoldMarks, AllGrow, IsNoted}
+use Rattle.lasp_drive.specs.Driver.{DriverView, opened_of, run_of, stage_of, IsRunKnown, Stands, Starts}
 use Rattle.lasp_drive.specs.Acts.{MayDo, Acted, ActsSeen}
 use Rattle.lasp_script.specs.Command.{until_of}
 use Rattle.lasp_script.specs.declared.command.Until as rust_until
@@ -48,6 +56,7 @@ use Rattle.lasp_drive.proofs.NodeLaws.{mapped-or, same-set, nodes-set, node-stay
 use Rattle.lasp_drive.proofs.WaitLaws.{all-later, all-called, all-looked, all-opened, all-fresh, opened-kept, opened-one}
 use Rattle.lasp_drive.proofs.CallLaws.{calls-stay, calls-set, updated-there, updated-elsewhere, taken-there, taken-elsewhere, calls-each, counts-stay, one-opened}
 use Rattle.lasp_drive.proofs.ActLaws.{acted-one, acted-then, stops-still}
+use Rattle.lasp_drive.proofs.MarkLaws.{grow-set, mark-var, marks-grow, kept-held, marks-more, mark-held, idle-source, joined-held}
 use Rattle.lasp_drive.proofs.KnownLaws.{known-start, known-update, known-keep, known-post, known-take, known-show, known-open, known-extend}
 
 -- the driver with these nodes
@@ -56,8 +65,8 @@ with_nodes d nodes = record { graph = d.graph; nodes = nodes; sent = d.sent; lim
 
 -- as many nodes of the same run, whose world is sound
 stands-with : (c next : ℕ) (d : DriverView) (nodes : List NodeView) → Stands c d → length nodes ≡ length d.nodes → AreNodes d.graph (length d.nodes) nodes → IsSound (length d.nodes) next (stage_of d) (with_peers (run_of d) (peers_of nodes))
-    → IsRunKnown (length d.nodes) (with_peers (run_of d) (peers_of nodes)) → AreWaiting next nodes d.reads → Stands next (with_nodes d nodes)
-stands-with c next d nodes ready size each sound known waiting = record {
+    → IsRunKnown (length d.nodes) (with_peers (run_of d) (peers_of nodes)) → AreWaiting next nodes d.reads → AllGrow d.nodes nodes → Stands next (with_nodes d nodes)
+stands-with c next d nodes ready size each sound known waiting grow = record {
   some = omega (arith, ready.some, size);
   few = omega (arith, ready.few, size);
   nodes = subst (λ (many : ℕ). AreNodes d.graph many nodes) (sym size) each;
@@ -65,6 +74,7 @@ stands-with c next d nodes ready size each sound known waiting = record {
   sound = subst (λ (many : ℕ). IsSound many next (stage_of d) (with_peers (run_of d) (peers_of nodes))) (sym size) sound;
   known = subst (λ (many : ℕ). IsRunKnown many (with_peers (run_of d) (peers_of nodes))) (sym size) known;
   waiting = waiting;
+  marked = marks-grow d.nodes nodes d.marks grow ready.marked;
 }
 
 -- no read was opened
@@ -85,7 +95,7 @@ acted-learns c p d n new ready at learned =
     let same : run_of d ≡ with_peers (run_of d) (peers_of nodes) = ap (with_peers (run_of d)) (sym peers) in
     record {
       ready = stands-with c c d nodes ready (length-set d.nodes p new) (nodes-set d.graph (length d.nodes) d.nodes p new ready.nodes (node-stays d.graph (length d.nodes) p n new (ready.nodes p n at) learned.learns.still))
-          (subst (λ (run : Run). IsSound (length d.nodes) c (stage_of d) run) same ready.sound) (subst (IsRunKnown (length d.nodes)) same ready.known) (all-called c p d.nodes d.reads n new at grew ready.waiting);
+          (subst (λ (run : Run). IsSound (length d.nodes) c (stage_of d) run) same ready.sound) (subst (IsRunKnown (length d.nodes)) same ready.known) (all-called c p d.nodes d.reads n new at grew ready.waiting) (grow-set d.nodes p n new at grew.more);
       size = length-set d.nodes p new;
       stage = refl;
       run = ap (λ (run : Run). Ok run) same;
@@ -101,7 +111,7 @@ acted-asked c p d e n new a at learned done = acted-then c c c d e (with_nodes e
 pub stands-asked : (c : ℕ) (d : DriverView) (nodes : List NodeView) → Stands c d → AllLearn d.nodes nodes → Stands c (with_nodes d nodes)
 stands-asked c d nodes ready learn =
     let same : run_of d ≡ with_peers (run_of d) (peers_of nodes) = ap (with_peers (run_of d)) (sym learn.peers) in
-    stands-with c c d nodes ready learn.size (λ p n at. let was = learn.still p n at in node-stays d.graph (length d.nodes) p was.0 n (ready.nodes p was.0 was.1) was.2) (subst (λ (run : Run). IsSound (length d.nodes) c (stage_of d) run) same ready.sound) (subst (IsRunKnown (length d.nodes)) same ready.known) (learn.reads.waiting c d.reads ready.waiting)
+    stands-with c c d nodes ready learn.size (λ p n at. let was = learn.still p n at in node-stays d.graph (length d.nodes) p was.0 n (ready.nodes p was.0 was.1) was.2) (subst (λ (run : Run). IsSound (length d.nodes) c (stage_of d) run) same ready.sound) (subst (IsRunKnown (length d.nodes)) same ready.known) (learn.reads.waiting c d.reads ready.waiting) learn.reads.grow
 
 -- ---- updates
 
@@ -128,13 +138,117 @@ acted-update c p x op d n new ready may at still is small calls grew =
     (stands-with c (c + 1) d (slice_set d.nodes p new) ready (length-set d.nodes p new) (nodes-set d.graph (length d.nodes) d.nodes p new ready.nodes (node-stays d.graph (length d.nodes) p n new here still))
     (sound-update (length d.nodes) c p x (stage_of d) op (run_of d) (with_peers (run_of d) (peers_of (slice_set d.nodes p new))) ready.sound may.2 may.0.0 may.0.1 may.1 done)
     (known-update (length d.nodes) c (run_of d) (with_peers (run_of d) (peers_of (slice_set d.nodes p new))) ready.known p x op may.0.0 may.0.1 may.1 done)
-    (all-later-called c d p n new at grew ready.waiting))
+    (all-later-called c d p n new at grew ready.waiting) (grow-set d.nodes p n new at grew.more))
     (length-set d.nodes p new) refl done
     (calls-set d.nodes p n new (λ q. call_of (run_of d) q (Update p x op)) at (calls ∙ ap (λ (h : List Entry). n.calls ++ h) (sym (updated-there (run_of d) p x op))) (updated-elsewhere (run_of d) p x op))
     (none-opened d.nodes p n new at grew)
   where
     all-later-called : (c : ℕ) (d : DriverView) (p : ℕ) (n new : NodeView) → slice_get d.nodes p ≡ Some n → Grew n new → AreWaiting c d.nodes d.reads → AreWaiting (c + 1) (slice_set d.nodes p new) d.reads
     all-later-called c d p n new at grew waiting = all-later c (slice_set d.nodes p new) d.reads (all-called c p d.nodes d.reads n new at grew waiting)
+
+-- there is one node at a place
+pub same-node : (nodes : List NodeView) (p : ℕ) (n m : NodeView) → slice_get nodes p ≡ Some n → slice_get nodes p ≡ Some m → n ≡ m
+same-node nodes p n m here there = sym (get_or_from_slice_get nodes p n n here) ∙ get_or_from_slice_get nodes p m n there
+
+-- no source has the shape of a fold
+no-fold : (nodes : ℕ) (k : Kind) → IsTrue (is_source k) → shape_of nodes k ≡ fold → ⊥
+no-fold nodes OrSet source e = cc
+no-fold nodes GSet source e = cc
+no-fold nodes Counter source e = cc
+no-fold nodes MaxReg source e = cc
+no-fold nodes (Union x y) source e = cc
+no-fold nodes (Product x y) source e = cc
+no-fold nodes (Intersection x y) source e = cc
+no-fold nodes (Map x place ops) source e = cc
+no-fold nodes (Filter x place ops) source e = cc
+no-fold nodes (Fold x op place lift) source e = cc
+
+-- what a mark keeps may be joined into its variable
+pub mark-suits : (c p x k : ℕ) (d : DriverView) (m : Mark) → Stands c d → MayBeDone (length d.nodes) (stage_of d) (plain.Bind p x k) → slice_get d.marks k ≡ Some m → ((marked_of m).shape ≡ shape_of (length d.nodes) (kind_at d.graph x)) × (shape_of (length d.nodes) (kind_at d.graph x) ≡ fold → ⊥)
+mark-suits c p x k d m ready may there = (shape, no-fold (length d.nodes) (kind_at d.graph x) may.1) where
+  shape : (marked_of m).shape ≡ shape_of (length d.nodes) (kind_at d.graph x)
+  shape =
+      sym (ap (λ (w : Marked). w.shape) (mapped-or marked_of d.marks k m world.no_mark there))
+      ∙ (ready.sound.marks k (omega (arith, may.2.0, length-map d.marks (λ (m : Mark). m.var), length-map d.marks marked_of))).shape
+      ∙ ap (λ (y : ℕ). shape_of (length d.nodes) (kind_at d.graph y)) may.2.1
+
+-- a bind may be done as an update
+pub mark-may : (c p x k : ℕ) (d : DriverView) (op : Op) → Stands c d → MayBeDone (length d.nodes) (stage_of d) (plain.Bind p x k) → c ≤ 100000 → op ≡ Join (mark_at (map marked_of d.marks) k).content → MayDo c d (Update p x op)
+mark-may c p x k d op ready may few joins = (
+  may.0,
+  subst (λ (o : Op). IsUpdate (length d.nodes) d.graph x o) (sym joins)
+      (subst (λ (y : ℕ). IsSource (length d.nodes) (kind_at d.graph y) (mark_at (map marked_of d.marks) k).content) may.2.1
+      (ready.sound.marks k (omega (arith, may.2.0, length-map d.marks (λ (m : Mark). m.var), length-map d.marks marked_of))).source),
+  few,
+)
+
+-- a mark that a node is told to hold brings it nothing
+pub mark-idle : (c p x k : ℕ) (d : DriverView) (n : NodeView) (m : Mark) (op : rust.Op) → Stands c d → MayDo c d (Update p x (op_of op)) → ShowsNoMore n → slice_get d.nodes p ≡ Some n → slice_get d.marks k ≡ Some m → m.var ≡ x → Contains m.known.items p
+    → op_of op ≡ Join (content_of (arc_value m.state)) → IsIdleUpdate n x op
+mark-idle c p x k d n m op ready may shows at there var known joins =
+    subst (λ (o : Op). BringsNothing now n.peer.counts n.number o) (sym joins) (idle-source (length d.nodes) (kind_at d.graph x) now kept source other most)
+  where
+    kept : Content
+    kept = content_of (arc_value m.state)
+
+    now : Content
+    now = content_at n.peer.contents x
+
+    here : IsNode d.graph (length d.nodes) p n
+    here = ready.nodes p n at
+
+    other : IsSource (length d.nodes) (kind_at d.graph x) kept
+    other = subst (λ (o : Op). IsUpdate (length d.nodes) d.graph x o) joins may.1
+
+    of_source : IsTrue (is_source (kind_at d.graph x))
+    of_source = source-kind (length d.nodes) (kind_at d.graph x) kept other
+
+    source : IsSource (length d.nodes) (kind_at d.graph x) now
+    source = subst (λ (r : Peer). IsSource (length d.nodes) (kind_at d.graph x) (content_at r.contents x)) (peer-here d.nodes p n at) ((ready.sound.held p may.0.0).sources x may.0.1 of_source)
+
+    most : IsTrue (is_content_at_most kept now)
+    most = subst (λ (t : Content). IsTrue (is_content_at_most kept t)) (shows.sources x (var-here d.graph x n here.graph may.0.1) (subst (λ (g : List Decl). IsTrue (is_source (kind_at g x))) (sym here.graph) of_source))
+        (subst (λ (y : ℕ). IsTrue (is_content_at_most kept (content_at n.shown y))) var (mark-held d.nodes d.marks k p m n ready.marked there known at))
+
+-- what an update leaves of a run
+updated-run : (c p x : ℕ) (run next : Run) (r : Peer) → (checked_update c p x run r >>= (λ n. each c n [])) ≡ Ok next → with_peer run p r ≡ next
+updated-run c p x run next r = choose (nat_lt row_limit (size_of (content_at r.contents x))) where
+  choose : (b : Bool) → ((if b then Err (TooLarge c p x) else Ok (with_peer run p r)) >>= (λ n. each c n [])) ≡ Ok next → with_peer run p r ≡ next
+  choose true e = absurd cc
+  choose false e = let both : Ok (with_peer run p r) ≡ Ok next = e in cc
+
+-- a node into which a mark was joined holds it
+pub bound-held : (c p x : ℕ) (d e : DriverView) (n : NodeView) (m : Mark) (op : rust.Op) → Stands c d → MayDo c d (Update p x (op_of op)) → Acted c (c + 1) d (Update p x (op_of op) ∷ []) e → ShowsNoMore n → slice_get e.nodes p ≡ Some n → m.var ≡ x
+    → op_of op ≡ Join (content_of (arc_value m.state)) → HoldsMarkAt e.nodes m p
+bound-held c p x d e n m op ready may done shows at var joins k there =
+    subst (λ (l : NodeView). HoldsMark l m) (same-node e.nodes p n k at there)
+    (subst (λ (y : ℕ). IsTrue (is_content_at_most kept (content_at n.shown y))) (sym var) (subst (λ (t : Content). IsTrue (is_content_at_most kept t)) (sym (shows.sources x low of_source)) most))
+  where
+    kept : Content
+    kept = content_of (arc_value m.state)
+
+    before : Peer
+    before = peer_at (peers_of d.nodes) p
+
+    run : with_peer (run_of d) p (updated p x (op_of op) before) ≡ run_of e
+    run = updated-run c p x (run_of d) (run_of e) (updated p x (op_of op) before) done.run
+
+    graph : n.decls ≡ d.graph
+    graph = (done.ready.nodes p n at).graph ∙ sym (ap (λ (r : Run). r.graph) run)
+
+    low : x < length n.decls
+    low = var-here d.graph x n graph may.0.1
+
+    of_source : IsTrue (is_source (kind_at n.decls x))
+    of_source = subst (λ (g : List Decl). IsTrue (is_source (kind_at g x))) (sym graph) (update-source (length d.nodes) d.graph x (op_of op) may.1)
+
+    peer : n.peer ≡ updated p x (Join kept) before
+    peer = sym (peer-here e.nodes p n at) ∙ sym (ap (λ (r : Run). peer_at r.peers p) run)
+        ∙ get_or-set_same (peers_of d.nodes) p (updated p x (op_of op) before) _ (omega (arith, may.0.0, length-map d.nodes (λ (n : NodeView). n.peer)))
+        ∙ ap (λ (o : Op). updated p x o before) joins
+
+    most : IsTrue (is_content_at_most kept (content_at n.peer.contents x))
+    most = subst (λ (r : Peer). IsTrue (is_content_at_most kept (content_at r.contents x))) (sym peer) (joined-held p x kept before (omega (arith, may.0.1, (ready.sound.held p may.0.0).long)))
 
 -- ---- messages
 
@@ -151,7 +265,7 @@ acted-take c p i d n new m ready may at same still is small calls grew =
     (stands-with c c d (slice_set d.nodes p new) ready (length-set d.nodes p new) (nodes-set d.graph (length d.nodes) d.nodes p new ready.nodes (node-stays d.graph (length d.nodes) p n new here still))
     (sound-take (length d.nodes) c p i (stage_of d) (run_of d) (with_peers (run_of d) (peers_of (slice_set d.nodes p new))) ready.sound may.0 may.1 done)
     (known-take (length d.nodes) c (run_of d) (with_peers (run_of d) (peers_of (slice_set d.nodes p new))) ready.known p i done)
-    (all-called c p d.nodes d.reads n new at grew ready.waiting))
+    (all-called c p d.nodes d.reads n new at grew ready.waiting) (grow-set d.nodes p n new at grew.more))
     (length-set d.nodes p new) refl done
     (calls-set d.nodes p n new (λ q. call_of (run_of d) q (Take p i)) at
     (calls ∙ ap (λ (k : Message). n.calls ++ fed (model.Deliver i k) ∷ []) same ∙ ap (λ (h : List Entry). n.calls ++ h) (sym (taken-there (run_of d) p i))) (taken-elsewhere (run_of d) p i))
@@ -166,8 +280,8 @@ length-more [] y = refl
 length-more (x ∷ xs) y = omega (arith, length-more xs y)
 
 -- the same nodes stand in another world
-stands-in : (c : ℕ) (d e : DriverView) → Stands c d → e.nodes ≡ d.nodes → e.graph ≡ d.graph → e.limit ≡ d.limit → e.reads ≡ d.reads → IsSound (length d.nodes) c (stage_of e) (run_of e) → IsRunKnown (length d.nodes) (run_of e) → Stands c e
-stands-in c d e ready nodes graph limit reads sound known = record {
+stands-in : (c : ℕ) (d e : DriverView) → Stands c d → e.nodes ≡ d.nodes → e.graph ≡ d.graph → e.limit ≡ d.limit → e.reads ≡ d.reads → IsSound (length d.nodes) c (stage_of e) (run_of e) → IsRunKnown (length d.nodes) (run_of e) → HoldMarks d.nodes e.marks → Stands c e
+stands-in c d e ready nodes graph limit reads sound known marked = record {
   some = omega (arith, ready.some, ap (λ (ns : List NodeView). length ns) nodes);
   few = omega (arith, ready.few, ap (λ (ns : List NodeView). length ns) nodes);
   nodes = subst (λ (g : List Decl). AreNodes g (length e.nodes) e.nodes) (sym graph) (subst (λ (ns : List NodeView). AreNodes d.graph (length ns) ns) (sym nodes) ready.nodes);
@@ -175,6 +289,7 @@ stands-in c d e ready nodes graph limit reads sound known = record {
   sound = subst (λ (many : ℕ). IsSound many c (stage_of e) (run_of e)) (sym (ap (λ (ns : List NodeView). length ns) nodes)) sound;
   known = subst (λ (many : ℕ). IsRunKnown many (run_of e)) (sym (ap (λ (ns : List NodeView). length ns) nodes)) known;
   waiting = subst (λ (rs : List (OpenRead Read)). AreWaiting c e.nodes rs) (sym reads) (subst (λ (ns : List NodeView). AreWaiting c ns d.reads) (sym nodes) ready.waiting);
+  marked = subst (λ (ns : List NodeView). HoldMarks ns e.marks) (sym nodes) marked;
 }
 
 pub acted-post : (c p : ℕ) (d : DriverView) (m : Message) → Stands c d → p < length d.nodes → act c (run_of d) (Post p) ≡ Ok (run_of (with_sent d (d.sent ++ m ∷ []) d.limit)) → Acted c c d (Post p ∷ []) (with_sent d (d.sent ++ m ∷ []) d.limit)
@@ -182,7 +297,7 @@ acted-post c p d m ready member done =
     let e = with_sent d (d.sent ++ m ∷ []) d.limit in
     let stage : stage_of e ≡ record { graph = d.graph; marked = map (λ (m : Mark). m.var) d.marks; sent = length d.sent + 1 } = ap (λ (n : ℕ). record { graph = d.graph; marked = map (λ (m : Mark). m.var) d.marks; sent = n }) (length-more d.sent m) in
     acted-one c c d e (Post p)
-    (stands-in c d e ready refl refl refl refl (subst (λ s. IsSound (length d.nodes) c s (run_of e)) (sym stage) (sound-post (length d.nodes) c p (stage_of d) (run_of d) (run_of e) ready.sound member done)) (known-post (length d.nodes) c (run_of d) (run_of e) ready.known p done))
+    (stands-in c d e ready refl refl refl refl (subst (λ s. IsSound (length d.nodes) c s (run_of e)) (sym stage) (sound-post (length d.nodes) c p (stage_of d) (run_of d) (run_of e) ready.sound member done)) (known-post (length d.nodes) c (run_of d) (run_of e) ready.known p done) ready.marked)
     refl stage done (calls-stay d.nodes d.nodes refl) (counts-stay d.nodes d.nodes refl)
 
 -- ---- marks
@@ -194,8 +309,8 @@ abbrev marked : Shape → Content → Marked
 marked shape content = record { shape = shape; content = content }
 
 pub acted-keep : (c p x : ℕ) (d : DriverView) (n : NodeView) (m : Mark) → Stands c d → MayDo c d (Keep p x) → slice_get d.nodes p ≡ Some n → m.var ≡ x → (marked_of m).shape ≡ shape_of n.among (kind_at n.decls x) → (marked_of m).content ≡ content_at n.peer.contents x
-    → Acted c c d (Keep p x ∷ []) (with_marks d (d.marks ++ m ∷ []))
-acted-keep c p x d n m ready may at var shape content =
+    → AllByRecursion (HoldsMarkAt d.nodes m) m.known.items → Acted c c d (Keep p x ∷ []) (with_marks d (d.marks ++ m ∷ []))
+acted-keep c p x d n m ready may at var shape content held =
     let here : IsNode d.graph (length d.nodes) p n = ready.nodes p n at in
     let e = with_marks d (d.marks ++ m ∷ []) in
     let many : n.among ≡ length (peers_of d.nodes) = here.nodes ∙ sym (length-map d.nodes (λ (n : NodeView). n.peer)) in
@@ -208,8 +323,48 @@ acted-keep c p x d n m ready may at var shape content =
     let stage : stage_of e ≡ record { graph = d.graph; marked = map (λ (m : Mark). m.var) d.marks ++ x ∷ []; sent = length d.sent } =
     ap (λ (vs : List ℕ). record { graph = d.graph; marked = vs; sent = length d.sent }) (map-append (λ (m : Mark). m.var) d.marks (m ∷ []) ∙ ap (λ (v : ℕ). map (λ (m : Mark). m.var) d.marks ++ v ∷ []) var) in
     acted-one c c d e (Keep p x)
-    (stands-in c d e ready refl refl refl refl (subst (λ s. IsSound (length d.nodes) c s (run_of e)) (sym stage) (sound-keep (length d.nodes) c p x (stage_of d) (run_of d) (run_of e) ready.sound may.0.0 may.0.1 may.1 done)) (known-keep (length d.nodes) c (run_of d) (run_of e) ready.known p x done))
+    (stands-in c d e ready refl refl refl refl (subst (λ s. IsSound (length d.nodes) c s (run_of e)) (sym stage) (sound-keep (length d.nodes) c p x (stage_of d) (run_of d) (run_of e) ready.sound may.0.0 may.0.1 may.1 done)) (known-keep (length d.nodes) c (run_of d) (run_of e) ready.known p x done) (marks-more d.nodes d.marks m ready.marked held))
     refl stage done (calls-stay d.nodes d.nodes refl) (counts-stay d.nodes d.nodes refl)
+
+-- the node whose source was marked holds the mark
+pub keep-held : (c p x : ℕ) (d : DriverView) (n k : NodeView) (m : Mark) → Stands c d → MayDo c d (Keep p x) → ShowsNoMore k → slice_get d.nodes p ≡ Some k → slice_get d.nodes p ≡ Some n → m.var ≡ x → (marked_of m).content ≡ content_at n.peer.contents x → m.known.items ≡ p ∷ []
+    → AllByRecursion (HoldsMarkAt d.nodes m) m.known.items
+keep-held c p x d n k m ready may shows here at var content known = subst (AllByRecursion (HoldsMarkAt d.nodes m)) (sym known) (λ l there. subst (λ (h : NodeView). HoldsMark h m) (same-node d.nodes p k l here there) holds, tt) where
+  node : IsNode d.graph (length d.nodes) p k
+  node = ready.nodes p k here
+
+  shown : content_at k.shown x ≡ content_at k.peer.contents x
+  shown = shows.sources x (var-here d.graph x k node.graph may.0.1) (subst (λ (g : List Decl). IsTrue (is_source (kind_at g x))) (sym node.graph) may.1)
+
+  holds : HoldsMark k m
+  holds = kept-held (marked_of m).content (content_at k.shown m.var) (content ∙ ap (λ (h : NodeView). content_at h.peer.contents x) (same-node d.nodes p n k at here) ∙ sym shown ∙ ap (λ (y : ℕ). content_at k.shown y) (sym var))
+
+-- it was noted of a mark who holds it
+pub acted-noted : (c next k p : ℕ) (d e : DriverView) (all : List Act) (marks : List Mark) → Acted c next d all e → IsNoted e.marks k p marks → ((m : Mark) → slice_get e.marks k ≡ Some m → HoldsMarkAt e.nodes m p) → Acted c next d all (with_marks e marks)
+acted-noted c next k p d e all marks done noted holds =
+    let run : run_of (with_marks e marks) ≡ run_of e = ap (λ (ms : List Marked). record { graph = e.graph; peers = peers_of e.nodes; sent = e.sent; marks = ms; reads = map opened_of e.reads; text = e.text }) noted.marked in
+    let stage : stage_of (with_marks e marks) ≡ stage_of e = ap (λ (vs : List ℕ). record { graph = e.graph; marked = vs; sent = length e.sent }) noted.vars in
+    record {
+      ready = stands-in next e (with_marks e marks) done.ready refl refl refl refl
+          (subst (λ (s : Stage). IsSound (length e.nodes) next s (run_of (with_marks e marks))) (sym stage) (subst (λ (r : Run). IsSound (length e.nodes) next (stage_of e) r) (sym run) done.ready.sound))
+          (subst (IsRunKnown (length e.nodes)) (sym run) done.ready.known) (noted.held e.nodes holds done.ready.marked);
+      size = done.size;
+      stage = stage ∙ done.stage;
+      run = done.run ∙ ap (λ (r : Run). Ok r) (sym run);
+      calls = done.calls;
+      opened = done.opened;
+    }
+
+-- a node into which a mark was joined is told with it
+pub acted-bound : (c p x k : ℕ) (d e : DriverView) (n : NodeView) (op : rust.Op) (marks : List Mark) → Stands c d → MayDo c d (Update p x (op_of op)) → slice_index_or (map (λ (m : Mark). m.var) d.marks) k 0 ≡ x → op_of op ≡ Join (mark_at (map marked_of d.marks) k).content
+    → Acted c (c + 1) d (Update p x (op_of op) ∷ []) e → ShowsNoMore n → slice_get e.nodes p ≡ Some n → IsNoted e.marks k p marks → Acted c (c + 1) d (Update p x (op_of op) ∷ []) (with_marks e marks)
+acted-bound c p x k d e n op marks ready may var joins done shows at noted =
+    acted-noted c (c + 1) k p d e (Update p x (op_of op) ∷ []) marks done noted (λ m there. bound-held c p x d e n m op ready may done shows at (mark-var e.marks k x m (ap (λ (s : Stage). slice_index_or s.marked k 0) done.stage ∙ var) there) (joins ∙ ap (λ (s : Content). Join s) (kept m there)))
+  where
+    kept : (m : Mark) → slice_get e.marks k ≡ Some m → (mark_at (map marked_of d.marks) k).content ≡ content_of (arc_value m.state)
+    kept m there =
+        ap (λ (r : Run). (mark_at r.marks k).content) (updated-run c p x (run_of d) (run_of e) (updated p x (op_of op) (peer_at (peers_of d.nodes) p)) done.run)
+        ∙ ap (λ (w : Marked). w.content) (mapped-or marked_of e.marks k m world.no_mark there)
 
 -- ---- what settled nodes show
 
@@ -236,7 +391,7 @@ show-done c p x d n decl name shown text ready settled at there named showing is
 
 pub acted-show : (c p x : ℕ) (d : DriverView) (text : List ℕ) → Stands c d → act c (run_of d) (Show p x) ≡ Ok (run_of (with_text d text)) → Acted c c d (Show p x ∷ []) (with_text d text)
 acted-show c p x d text ready done =
-    acted-one c c d (with_text d text) (Show p x) (stands-in c d (with_text d text) ready refl refl refl refl (sound-show (length d.nodes) c p x (stage_of d) (run_of d) (run_of (with_text d text)) ready.sound done) (known-show (length d.nodes) c (run_of d) (run_of (with_text d text)) ready.known p x done))
+    acted-one c c d (with_text d text) (Show p x) (stands-in c d (with_text d text) ready refl refl refl refl (sound-show (length d.nodes) c p x (stage_of d) (run_of d) (run_of (with_text d text)) ready.sound done) (known-show (length d.nodes) c (run_of d) (run_of (with_text d text)) ready.known p x done) ready.marked)
     refl refl done (calls-stay d.nodes d.nodes refl) (counts-stay d.nodes d.nodes refl)
 
 -- ---- reads
@@ -281,6 +436,7 @@ acted-open c p x until d n new r ready may at few next learned =
           (sound-later (length d.nodes) c (stage_of d) (run_of e) (sound-open (length d.nodes) c p x (stage_of d) until (run_of d) (run_of e) ready.sound may.0.0 may.0.1 (sound-suits (length d.nodes) c x (stage_of d) until (run_of d) ready.sound may.0.1 may.1) done));
       known = subst (λ (many : ℕ). IsRunKnown many (run_of e)) (sym size) (known-open (length d.nodes) c (run_of d) (run_of e) ready.known p x until done);
       waiting = all-opened c p x t d.nodes d.reads n new r (omega (arith, few)) at next learned ready.waiting;
+      marked = marks-grow d.nodes nodes d.marks (grow-set d.nodes p n new at learned.learns.more) ready.marked;
     })
     size refl done (none-called d.nodes p n new at learned.learns.calls)
     (one-opened d.nodes p n new at (opened-one c p d.reads n new (opens_next x t) (omega (arith, few)) (λ s. refl) learned (ready.waiting p n at)))
@@ -315,7 +471,7 @@ acted-reach c p x until d n new ready at few learned reached =
     (stands-with c (c + 1) d nodes ready (length-set d.nodes p new) (nodes-set d.graph (length d.nodes) d.nodes p new ready.nodes (node-stays d.graph (length d.nodes) p n new (ready.nodes p n at) learned.learns.still))
     (subst (λ (run : Run). IsSound (length d.nodes) (c + 1) (stage_of d) run) same (sound-later (length d.nodes) c (stage_of d) (run_of d) ready.sound))
     (subst (IsRunKnown (length d.nodes)) same ready.known)
-    (all-looked c p d.nodes d.reads n new (omega (arith, few)) at learned ready.waiting))
+    (all-looked c p d.nodes d.reads n new (omega (arith, few)) at learned ready.waiting) (grow-set d.nodes p n new at learned.learns.more))
     (length-set d.nodes p new) refl (reached ∙ ap (λ (run : Run). Ok run) same) (none-called d.nodes p n new at learned.learns.calls)
     (one-opened d.nodes p n new at (opened-one c p d.reads n new looks_once (omega (arith, few)) (λ s. refl) learned (ready.waiting p n at)))
 
@@ -325,7 +481,7 @@ pub acted-point : (c : ℕ) (d : DriverView) (nodes : List NodeView) → Stands 
 acted-point c d nodes ready all done =
     let same : run_of d ≡ with_peers (run_of d) (peers_of nodes) = ap (with_peers (run_of d)) (sym all.peers) in
     acted-one c c d (with_nodes d nodes) Point
-    (stands-with c c d nodes ready all.size all.nodes_are (subst (λ (run : Run). IsSound (length d.nodes) c (stage_of d) run) same ready.sound) (subst (IsRunKnown (length d.nodes)) same ready.known) (all.reads.waiting c d.reads ready.waiting))
+    (stands-with c c d nodes ready all.size all.nodes_are (subst (λ (run : Run). IsSound (length d.nodes) c (stage_of d) run) same ready.sound) (subst (IsRunKnown (length d.nodes)) same ready.known) (all.reads.waiting c d.reads ready.waiting) all.reads.grow)
     all.size refl (done ∙ ap (λ (run : Run). Ok run) same) (calls-stay d.nodes nodes all.calls) (counts-stay d.nodes nodes all.reads.counts)
 
 abbrev pub with_graph : DriverView → List Decl → List NodeView → DriverView
@@ -346,6 +502,7 @@ acted-extend c decl d nodes ready all =
       sound = subst (λ (many : ℕ). IsSound many c (stage_of e) (run_of e)) (sym all.size) (sound-extend (length d.nodes) c (stage_of d) decl (run_of d) (run_of e) ready.sound done);
       known = subst (λ (many : ℕ). IsRunKnown many (run_of e)) (sym all.size) (known-extend (length d.nodes) c (run_of d) (run_of e) ready.known decl done);
       waiting = all.reads.waiting c d.reads ready.waiting;
+      marked = marks-grow d.nodes nodes d.marks all.reads.grow ready.marked;
     })
     all.size refl done (calls-each d.nodes nodes (fed (model.Extend decl) ∷ []) all.calls) (counts-stay d.nodes nodes all.reads.counts)
 
@@ -387,6 +544,7 @@ starts-fresh g many d some few fresh graph sent limit marks reads text =
             (subst (λ (r : Run). IsSound many 1 (stage_of d) r) (sym run) (subst (λ (s : Stage). IsSound many 1 s (start g many)) (sym stage) (sound-start many g)));
         known = subst (λ (k : ℕ). IsRunKnown k (run_of d)) (sym fresh.size) (subst (IsRunKnown many) (sym run) (known-start many g));
         waiting = subst (λ (rs : List (OpenRead Read)). AreWaiting 1 d.nodes rs) (sym reads) (all-fresh d.nodes fresh.reads);
+        marked = subst (HoldMarks d.nodes) (sym marks) tt;
       };
       run = run;
       stage = stage;
@@ -420,10 +578,6 @@ until-within d x (rust_variants.Above m) may = omega (arith, may.0, length-map d
 until-within d x (rust_variants.Count k) may = tt
 until-within d x (rust_variants.Added vs) may = tt
 until-within d x (rust_variants.Removed vs) may = tt
-
--- there is one node at a place
-pub same-node : (nodes : List NodeView) (p : ℕ) (n m : NodeView) → slice_get nodes p ≡ Some n → slice_get nodes p ≡ Some m → n ≡ m
-same-node nodes p n m here there = sym (get_or_from_slice_get nodes p n n here) ∙ get_or_from_slice_get nodes p m n there
 
 -- ---- what stands behind a point
 

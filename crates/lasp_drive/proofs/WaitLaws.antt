@@ -10,7 +10,7 @@ use Rattle.model_graph.specs.Evaluation.{content_at}
 use Rattle.model_runs.proofs.EachLaws.{each-append, each-weaker}
 use Rattle.model_core.specs.Core.{Read}
 use Rattle.lasp_drive.specs.Node.{NodeView, HaveNoReads, Grew, LearnsAnd}
-use Rattle.lasp_drive.specs.Reads.{Reads, no_reads, opened_more, next_read, IsNextRead, opens, closes, looks, unmet, releases, Grows, opens_next, looks_once}
+use Rattle.lasp_drive.specs.Reads.{Reads, no_reads, opened_more, next_read, IsNextRead, looks, unmet, releases, Grows, opens_next, looks_once}
 use Rattle.lasp_drive.specs.Waiting.{opened_at, IsWaiting, WaitsAt, AreWaiting, counted_on}
 use Rattle.lasp_drive.specs.declared.driver.OpenRead.{OpenRead}
 use Rattle.lasp_drive.proofs.NodeLaws.{at-set}
@@ -198,18 +198,3 @@ opened-one c p opened n new change few counts learned was = ap (option_map (λ (
   here : (o : Option Reads) → IfSome o (IsWaiting c p opened n.shown) → option_map (λ (s : Reads). s.opened) (option_map (λ s. change new.shown (releases new.shown s)) o) ≡ counted_on 1 (option_map (λ (s : Reads). s.opened) o)
   here None waits = refl
   here (Some s) waits = ap (λ (k : ℕ). Some k) (counts (releases new.shown s) ∙ one-more s.opened c waits.counted few)
-
--- a read that was opened and closed again
-pub looked : (x : ℕ) (threshold : Threshold) (met : Bool) (s : Reads) → closes s.opened (opens (next_read s x threshold) met s) ≡ looks s
-looked x threshold true s = refl
-looked x threshold false s = ap (λ (rs : List Read). record { waiting = rs; opened = opened_more s.opened }) (without s.waiting) where
-  last : Read
-  last = next_read s x threshold
-
-  left : (b : Bool) → b ≡ true → (if not b then last ∷ [] else []) ≡ []
-  left true e = refl
-  left false e = absurd cc
-
-  without : (rs : List Read) → filter (λ r. not (r.number == s.opened)) (rs ++ last ∷ []) ≡ filter (λ r. not (r.number == s.opened)) rs
-  without [] = left (s.opened == s.opened) (eq-eqb s.opened s.opened refl)
-  without (r ∷ rs) = ap (λ (more : List Read). if not (r.number == s.opened) then r ∷ more else more) (without rs)

@@ -4,14 +4,14 @@ use Rattle.std.specs.Arc.{arc_value}
 use Rattle.model_graph.specs.Graph.{Decl}
 use Rattle.model_messages.specs.Message.{Message}
 use Rattle.model_world.specs.Lawful.{Stage, opening_stage}
-use Rattle.model_world.specs.World.{Marked, Opened, Run, start, network_limit}
+use Rattle.model_world.specs.World.{Opened, Run, start, network_limit}
 use Rattle.model_known.specs.Delta.{Delta}
 use Rattle.model_known.specs.Known.{IsKnown}
 use Rattle.model_core.specs.Core.{Read}
 use Rattle.model_runs.specs.Sound.{IsSound}
-use Rattle.lasp_state.specs.State.{content_of, shape_of}
 use Rattle.lasp_drive.specs.Node.{NodeView, AreNodes, HaveNoReads}
 use Rattle.lasp_drive.specs.Waiting.{AreWaiting}
+use Rattle.lasp_drive.specs.Marks.{marked_of, HoldMarks}
 use Rattle.lasp_drive.specs.declared.driver.Mark.{Mark}
 use Rattle.lasp_drive.specs.declared.driver.OpenRead.{OpenRead}
 use Rattle.lasp_drive.specs.declared.driver.Driver.{Driver}
@@ -42,10 +42,6 @@ seen view read d = record {
   text = string_bytes d.text;
 }
 
--- what a mark keeps
-abbrev pub marked_of : Mark → Marked
-marked_of m = record { shape = shape_of (arc_value m.state); content = content_of (arc_value m.state) }
-
 -- a read that was opened
 abbrev pub opened_of : OpenRead Read → Opened
 opened_of r = record { node = r.node; var = r.read.var; threshold = r.read.threshold }
@@ -62,7 +58,7 @@ stage_of d = record { graph = d.graph; marked = map (λ (m : Mark). m.var) d.mar
 abbrev pub IsRunKnown : ℕ → Run → Type 0
 IsRunKnown many run = (all : List (List Delta)) × IsKnown many run.graph run.peers run.sent all
 
--- before command number c: the nodes are those of one run, which is sound and of which everything is known; and of its reads those wait that aren't met
+-- before command number c: the nodes are those of one run, which is sound and of which everything is known; of its reads those wait that aren't met, and the nodes that are told with a mark hold what it keeps
 pub record Stands (c : ℕ) (d : DriverView) : Type 0 where
   pub some : 1 ≤ length d.nodes
   pub few : length d.nodes ≤ 8
@@ -71,6 +67,7 @@ pub record Stands (c : ℕ) (d : DriverView) : Type 0 where
   pub sound : IsSound (length d.nodes) c (stage_of d) (run_of d)
   pub known : IsRunKnown (length d.nodes) (run_of d)
   pub waiting : AreWaiting c d.nodes d.reads
+  pub marked : HoldMarks d.nodes d.marks
 
 -- the driver stands there
 abbrev pub IsReady : {N R : Type 0} → (N → NodeView) → (R → Read) → ℕ → Driver N R → Type 0

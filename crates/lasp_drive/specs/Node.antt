@@ -15,6 +15,7 @@ use Rattle.model_world.specs.World.{Peer, fresh_peer, extended, shown_at}
 use Rattle.model_journal.specs.Entry as model
 use Rattle.model_journal.specs.Entry.{Entry}
 use Rattle.model_core.specs.Core.{Read}
+use Rattle.model_core.specs.Known.{BringsNothing}
 use Rattle.model_runs.specs.Calls.{fed}
 use Rattle.model_runs.specs.Held.{IsHeld, IsUpdate}
 use Rattle.lasp_state.specs.State as state
@@ -100,6 +101,10 @@ pub record MayUpdate (n : NodeView) (x : ℕ) (op : rust.Op) : Type 0 where
   pub may : IsUpdate n.among n.decls x (op_of op)
   pub suits_it : IsOpOf op n.number (shape_of n.among (kind_at n.decls x))
   pub room : count_at n.peer.counts n.number < 100000
+
+-- an update by which what the replica holds of the source stays as it is
+abbrev pub IsIdleUpdate : NodeView → ℕ → rust.Op → Type 0
+IsIdleUpdate n x op = BringsNothing (content_at n.peer.contents x) n.peer.counts n.number (op_of op)
 
 -- a read of a variable that its threshold suits
 pub record MayRead (n : NodeView) (x : ℕ) (threshold : Threshold) : Type 0 where

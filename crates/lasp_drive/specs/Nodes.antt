@@ -11,6 +11,7 @@ use Rattle.model_runs.specs.Calls.{fed}
 use Rattle.model_runs.specs.Held.{IsHeld}
 use Rattle.lasp_drive.specs.Node.{NodeView, IsStill, AreNodes, AreSettled}
 use Rattle.lasp_drive.specs.Waiting.{AreWaiting, opened_counts}
+use Rattle.lasp_drive.specs.Marks.{AllGrow}
 use Rattle.lasp_drive.specs.Acts.{Halts}
 use Rattle.lasp_drive.specs.declared.halt.Halt.{Halt}
 use Rattle.lasp_drive.specs.declared.driver.OpenRead.{OpenRead}
@@ -21,10 +22,11 @@ peers_of nodes = map (λ (n : NodeView). n.peer) nodes
 abbrev pub calls_of : List NodeView → List (List Entry)
 calls_of nodes = map (λ (n : NodeView). n.calls) nodes
 
--- what a node does at a point or a declaration opens no read, and the reads that the run opened wait as before unless they came to be met
+-- what a node does at a point or a declaration opens no read, the reads that the run opened wait as before unless they came to be met, and it shows at least what it showed
 pub record KeepReads (old new : List NodeView) : Type 0 where
   pub counts : opened_counts new ≡ opened_counts old
   pub waiting : (c : ℕ) (opened : List (OpenRead Read)) → AreWaiting c old opened → AreWaiting c new opened
+  pub grow : AllGrow old new
 
 -- the nodes of a run over a graph may be settled
 pub record MaySettle (lib : Library) (g : List Decl) (nodes : List NodeView) : Type 0 where

@@ -10,11 +10,13 @@ use Rattle.model_core.specs.Core.{Read}
 use Rattle.model_runs.specs.Calls.{calls}
 use Rattle.lasp_drive.specs.Node.{NodeView, AreSettled}
 use Rattle.lasp_drive.specs.Waiting.{GoOnByReads}
+use Rattle.lasp_drive.specs.Marks.{IsHeldAt}
 use Rattle.lasp_drive.specs.Calls.{GoOnByCalls, GoesOnWithin}
 use Rattle.lasp_drive.specs.Driver.{DriverView, seen, run_of, stage_of, Stands}
 use Rattle.lasp_drive.specs.Acts.{Halts}
 use Rattle.lasp_drive.specs.declared.halt.Halt.{Halt}
 use Rattle.lasp_drive.specs.declared.driver.Driver.{Driver}
+use Rattle.lasp_drive.specs.declared.driver.Mark.{Mark}
 use Rattle.lasp_script.specs.declared.command.Until.{Until}
 use Rattle.lasp_script.specs.declared.command.Until.TheVariants.{AtLeast, Above, Count, Added, Removed}
 
@@ -25,6 +27,14 @@ IsUntilWithin many (Above m) = m < many
 IsUntilWithin many (Count k) = Unit {0}
 IsUntilWithin many (Added vs) = Unit {0}
 IsUntilWithin many (Removed vs) = Unit {0}
+
+-- the mark of a threshold, if it has one, is told to be held by node p
+abbrev pub IsLeastHeld : List Mark → Until → ℕ → Type 0
+IsLeastHeld marks (AtLeast k) p = IsHeldAt marks k p
+IsLeastHeld marks (Above k) p = IsHeldAt marks k p
+IsLeastHeld marks (Count n) p = Unit {0}
+IsLeastHeld marks (Added vs) p = Unit {0}
+IsLeastHeld marks (Removed vs) p = Unit {0}
 
 -- how many reads a command opens at node p
 abbrev pub asked : ℕ → plain.Command → ℕ

@@ -16,13 +16,14 @@ pub use Rattle.lasp_state.specs.State.{op_of, IsOpOf}
 pub use Rattle.lasp_graph.specs.Decl.{decl_of}
 pub use Rattle.lasp_graph.specs.Library.{library_of}
 pub use Rattle.lasp_script.specs.Command.{until_of, command_of}
-pub use Rattle.lasp_drive.specs.Node.{NodeView, AreSettled, AreNodes}
+pub use Rattle.lasp_drive.specs.Node.{NodeView, AreSettled, AreNodes, IsIdleUpdate}
 pub use Rattle.lasp_drive.specs.Nodes.{peers_of, MaySettle, AllLearn, SettlesAll, AllExtend}
 pub use Rattle.lasp_drive.specs.Waiting.{OpensAt, LooksAt}
 pub use Rattle.lasp_drive.specs.Calls.{GoesOnWithin}
-pub use Rattle.lasp_drive.specs.Driver.{read_seen, seen, marked_of, opened_of, run_of, IsReady}
+pub use Rattle.lasp_drive.specs.Marks.{marked_of}
+pub use Rattle.lasp_drive.specs.Driver.{read_seen, seen, opened_of, run_of, IsReady}
 pub use Rattle.lasp_drive.specs.Acts.{Acts, Passes, Steps, MayAct, MayStep, HasOpened, Reaches, UnlessMemory}
-pub use Rattle.lasp_drive.specs.Play.{IsUntilWithin, MayPlay, Plays}
+pub use Rattle.lasp_drive.specs.Play.{IsUntilWithin, IsLeastHeld, MayPlay, Plays}
 pub use Rattle.lasp_drive.specs.Stretch.{is_point, MayGoOn, Advances, Crosses, PassesOn}
 pub use Rattle.lasp_drive.specs.Report.{OnlyAsked, MayPoll, AreOpened, OfTheirRun, exported}
 pub use Rattle.lasp_drive.specs.Run.{IsRunnable, RunsTo, Reports}

@@ -1,8 +1,9 @@
 //! The driver: the nodes of a run, what they sent, marked and are to read, and the lines that were printed.
 
-ghost use Rattle.std.specs.Prelude.{◌≡◌, ◌≤◌, IfOk, length, map};
+ghost use Rattle.std.specs.Prelude.{◌≡◌, ◌<◌, ◌≤◌, IfOk, length, map};
 ghost use Rattle.std.specs.Arc.{arc_value};
 ghost use Rattle.lasp_drive.specs.Node.{AreFresh};
+ghost use Rattle.lasp_drive.specs.Marks.{IsNoted};
 ghost use Rattle.lasp_drive.specs.Driver.{seen, Starts};
 
 use super::node::{FreshNode, Node};
@@ -22,6 +23,18 @@ pub struct Mark {
     pub var: u8,
     /// What it held.
     pub state: Arc<State>,
+    /// Nodes of which it is known that their source holds at least that: those where it was marked or bound.
+    pub known: Vec<u8>,
+}
+
+/// Notes with a mark that a node holds it, unless memory for that is wanting.
+pub(crate) fn note(marks: &mut Vec<Mark>, mark: u32, node: u8)
+    requires { mark < length marks.old.items }
+    ensures { IsNoted marks.old.items mark node marks.new.items }
+{
+    if !marks[mark as usize].known.contains(&node) {
+        let _ = marks[mark as usize].known.push(node);
+    }
 }
 
 /// A read that was opened at a node.

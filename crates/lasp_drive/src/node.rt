@@ -1,7 +1,7 @@
 //! What the driver asks of one node, whatever engine keeps its states.
 
 ghost use Rattle.std.specs.Prelude.{◌≡◌, ◌<◌, ◌≤◌, ◌++◌, ◌∷◌, [], ℕ, IfOk, OnOk, OnErr, IsTrue, length};
-ghost use Rattle.lasp_drive.specs.NodePrelude.{arc_value, AreCountsAtMost, Decl, is_source, kind_at, meets, content_at, first_large, updated, delivered, shown_at, message_at, FitsAll, Read, IsSentTo, BringsAsMuch, IsMessage, op_of, threshold_of, library_of, NodeView, IsFresh, ShowsNoMore, HoldsLittle, IsSettled, MayUpdate, MayRead, Updates, Delivers, Settles, Learns, LearnsAnd, OnlyLearns, TakesIn, Extends, OnlyGrew, Holds, Shows, Polls, IsNextRead, opens_next, closes_one, looks_once};
+ghost use Rattle.lasp_drive.specs.NodePrelude.{arc_value, AreCountsAtMost, HasLeast, Decl, is_source, kind_at, meets, content_at, first_large, updated, delivered, shown_at, message_at, FitsAll, Read, IsSentTo, BringsAsMuch, IsMessage, op_of, threshold_of, library_of, NodeView, IsFresh, ShowsNoMore, HoldsLittle, IsSettled, MayUpdate, IsIdleUpdate, MayRead, Updates, Delivers, Settles, Learns, LearnsAnd, OnlyLearns, TakesIn, Extends, OnlyGrew, Holds, Shows, Polls, IsNextRead, opens_next, closes_one, looks_once};
 ghost use Rattle.model_journal.specs.Entry as model;
 
 use lasp_fns::Library;
@@ -54,9 +54,10 @@ pub trait Node: Drop + Sized {
     fn recall(&self)
         ensures { ShowsNoMore (view self.now) };
 
-    /// Updates a source: its delta is joined in and the update is counted.
-    fn update(&mut self, alloc: Global, x: u8, op: &Op) -> Result<(), NodeStop>
-        requires { MayUpdate (view self.old) x op.now }
+    /// Updates a source: its delta is joined in and the update is counted. Where it is known that what the source holds stays as it is, as by a state that it holds already, an engine needn't look at a row.
+    fn update(&mut self, alloc: Global, x: u8, op: &Op, is_known: bool) -> Result<(), NodeStop>
+        requires may { MayUpdate (view self.old) x op.now }
+        requires known { IsTrue is_known → IsIdleUpdate (view self.old) x op.now }
         ensures done { Updates (updated (view self.old).number x (op_of op.now) (view self.old).peer) x result (view self.new).peer }
         ensures takes { TakesIn (model.Update x (op_of op.now)) (view self.old) result (view self.new) }
         ensures place { place self.new ≡ place self.old };
@@ -141,10 +142,17 @@ pub trait Node: Drop + Sized {
         ensures closed { LearnsAnd (closes_one (read r.now).number) (view self.old) (view self.new) }
         ensures place { place self.new ≡ place self.old };
 
-    /// Whether a variable of a settled node is at the threshold, asked by a read that waits no more then. Where memory was wanting, it isn't told which reads wait.
-    fn reached(&mut self, alloc: Global, x: u8, threshold: Threshold) -> Result<bool, AllocError>
+    /// Whether a variable of a settled node is at the threshold, asked by a read that waits no more then. Where it is known to show what the threshold asks for at least, an engine needn't look at that. Where memory was wanting, it isn't told which reads wait.
+    fn reached(
+        &mut self,
+        alloc: Global,
+        x: u8,
+        threshold: Threshold,
+        is_known: bool,
+    ) -> Result<bool, AllocError>
         requires settled { IsSettled (view self.old) }
         requires may { MayRead (view self.old) x (threshold_of threshold) }
+        requires known { IsTrue is_known → HasLeast (threshold_of threshold) (content_at (view self.old).shown x) }
         ensures reached { IfOk result (λ reached. reached ≡ meets (threshold_of threshold) (content_at (view self.old).shown x)) }
         ensures looked { OnOk result (LearnsAnd looks_once (view self.old) (view self.new)) }
         ensures learns { Learns (view self.old) (view self.new) }

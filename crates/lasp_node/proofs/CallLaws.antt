@@ -19,10 +19,9 @@ use Rattle.model_runs.specs.Calls.{fed, is_bind, unbound}
 use Rattle.model_runs.proofs.MatchLaws.{append-nothing}
 use Rattle.model_core.proofs.PeerLaws.{peer-fresh}
 use Rattle.model_world.specs.World.{shown_at}
-use Rattle.lasp_core.specs.Core.{fresh_core, declared, opened_read, opened, closed}
+use Rattle.lasp_core.specs.Core.{fresh_core, declared, opened_read, opened, closed, looked}
 use Rattle.lasp_drive.specs.Node.{TakesIn, LearnsAnd, OnlyLearns, Grew, OnlyGrew, IsFresh, IsSettled}
 use Rattle.lasp_drive.specs.Reads.{Reads, as_they_are, opens_next, closes_one, looks_once, releases, unmet, Grows}
-use Rattle.lasp_drive.proofs.WaitLaws.{looked}
 use Rattle.lasp_drive.specs.declared.node.NodeStop.{NodeStop}
 use Rattle.lasp_node.specs.View.{node_of, reads_of}
 use Rattle.lasp_node.specs.Settling.{AreBinds, HasBound}
@@ -125,10 +124,8 @@ learned-opened old new x t core is = only-reads (opens_next x t) old new core (a
 pub learned-closed : (old new : Core) (number : ℕ) → IsCore old → new ≡ closed number old → LearnsAnd (closes_one number) (node_of old) (node_of new)
 learned-closed old new number core is = only-reads (closes_one number) old new core (ap (λ (c : Core). c.frame) is) (ap (λ (c : Core). c.entries) is) (ap reads_of is)
 
-pub learned-looked : (old mid new : Core) (x number : ℕ) (t : Threshold) → IsCore old → mid ≡ opened (opened_read old x t) old → number ≡ old.opened → new ≡ closed number mid → LearnsAnd looks_once (node_of old) (node_of new)
-learned-looked old mid new x number t core first same second =
-    only-reads looks_once old new core (ap (λ (c : Core). c.frame) second ∙ ap (λ (c : Core). c.frame) first) (ap (λ (c : Core). c.entries) second ∙ ap (λ (c : Core). c.entries) first)
-    (ap reads_of second ∙ (λ i. reads_of (closed (same i) (first i))) ∙ looked x t (is_met old.frame old.entries (opened_read old x t)) (reads_of old))
+pub learned-looked : (old new : Core) → IsCore old → new ≡ looked old → LearnsAnd looks_once (node_of old) (node_of new)
+learned-looked old new core is = only-reads looks_once old new core (ap (λ (c : Core). c.frame) is) (ap (λ (c : Core). c.entries) is) (ap reads_of is)
 
 -- ---- where it is
 

@@ -41,9 +41,9 @@ impl Node for CoreNode {
         self.core.recall_states();
     }
 
-    fn update(&mut self, _alloc: Global, x: u8, op: &Op) -> Result<(), NodeStop> {
+    fn update(&mut self, _alloc: Global, x: u8, op: &Op, is_known: bool) -> Result<(), NodeStop> {
         self.core.recall();
-        match self.core.update(0, x, op) {
+        match self.core.update_with(0, x, op, is_known) {
             Ok(_) => {
                 self.core.recall();
                 Ok(())
@@ -123,12 +123,15 @@ impl Node for CoreNode {
         self.core.close_read(r);
     }
 
-    fn reached(&mut self, _alloc: Global, x: u8, threshold: Threshold) -> Result<bool, AllocError> {
+    fn reached(
+        &mut self,
+        _alloc: Global,
+        x: u8,
+        threshold: Threshold,
+        is_known: bool,
+    ) -> Result<bool, AllocError> {
         self.core.recall();
-        let read = self.core.open_read(x, threshold)?;
-        let polled = self.core.poll_read(&read);
-        self.core.close_read(&read);
-        Ok(polled?.is_some())
+        Ok(self.core.look(x, &threshold, is_known))
     }
 
     fn counts(&mut self, alloc: Global) -> Result<Counts, AllocError> {

@@ -11,6 +11,7 @@ pub mod SuitLaws
 pub mod LeastLaws
 pub mod ExtendLaws
 pub mod UpdateLaws
+pub mod StillLaws
 pub mod SettledLaws
 pub mod TakeLaws
 pub mod FinishLaws

@@ -310,7 +310,7 @@ kind-state nodes k (variant.Count counts) source e = kind-counter nodes (length 
 kind-state nodes k (variant.Max m) source e = kind-register nodes k source e
 kind-state nodes k (variant.Fold rows n) source e = absurd (no-fold nodes k source (sym (shape-exact fold (shape_of nodes k) e)))
 
-is-update : (nodes : ℕ) (g : List Decl) (x : ℕ) (o : Op) → IsSmall nodes o → IsInFormat o → IsTrue (is_source (kind_at g x)) → IsTrue (is_for nodes o (kind_at g x)) → IsUpdate nodes g x (op_of o)
+pub is-update : (nodes : ℕ) (g : List Decl) (x : ℕ) (o : Op) → IsSmall nodes o → IsInFormat o → IsTrue (is_source (kind_at g x)) → IsTrue (is_for nodes o (kind_at g x)) → IsUpdate nodes g x (op_of o)
 is-update nodes g x (op.Add v) small format source e = (kind-set nodes (kind_at g x) source e, record { size = small; parts = format })
 is-update nodes g x (op.Remove v) small format source e = (kind-set nodes (kind_at g x) source e, record { size = small; parts = format })
 is-update nodes g x (op.Insert v) small format source e = (kind-grow nodes (kind_at g x) source e, record { size = small; parts = format })

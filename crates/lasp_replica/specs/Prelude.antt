@@ -7,7 +7,7 @@ pub use Rattle.model_states.specs.Content.{Content, IsContentAtMost, IsOrdered, 
 pub use Rattle.model_states.specs.Counts.{count_at, zeros}
 pub use Rattle.model_states.specs.Threshold.{is_shape, set}
 pub use Rattle.model_states.specs.Update.{Op, delta}
-pub use Rattle.model_graph.specs.Evaluation.{equation}
+pub use Rattle.model_graph.specs.Evaluation.{content_at, equation}
 pub use Rattle.model_graph.specs.Graph.{Decl, decl_at, is_set, is_source, kind_at}
 pub use Rattle.model_graph.specs.Lawful.{IsDerived, IsGraph, variable_limit}
 pub use Rattle.model_messages.specs.Message.{Message, Sent, brought, gained, sent_at}
@@ -17,6 +17,7 @@ pub use Rattle.model_journal.specs.Journal.{counts, graph, val, vals}
 pub use Rattle.model_journal.specs.Legal.{IsLegal}
 pub use Rattle.model_runs.specs.Held.{IsSentTo}
 pub use Rattle.model_runs.specs.Part.{BringsAsMuch}
+pub use Rattle.model_core.specs.Known.{BringsNothing}
 pub use Rattle.model_readings.specs.Lawful.{IsNext}
 pub use Rattle.lasp_history.specs.History.{AreBelow, grown, no_history, rows_before, version_before}
 pub use Rattle.lasp_state.specs.State.{content_of, op_of}

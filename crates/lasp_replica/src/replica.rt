@@ -6,6 +6,7 @@ ghost use Rattle.lasp_replica.specs.Prelude.{arc_value, frame_of, entries_of, bu
 mod deliver;
 mod extend;
 mod finish;
+mod known;
 mod least;
 mod settled;
 mod sizes;

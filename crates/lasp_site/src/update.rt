@@ -72,7 +72,7 @@ fn make<N: Node>(
     ensures node { IfOk result (λ n. IsSiteNode me graph.now (N.view n)) }
     ensures among { IfOk result (λ n. (N.view n).among ≡ (N.view node).among) }
 {
-    match node.update(alloc, var, op) {
+    match node.update(alloc, var, op, false) {
         Ok(()) => Ok(node),
         Err(NodeStop::TooLarge(_)) => Err(too_large(graph, number, me, var)),
         Err(NodeStop::Memory) => Err(SiteFailure::Memory),

@@ -1,4 +1,5 @@
 pub mod Peer
 pub mod Core
+pub mod Known
 pub mod Trace
 pub mod Traced

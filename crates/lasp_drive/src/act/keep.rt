@@ -27,9 +27,16 @@ impl<N: Node> Driver<N> {
         requires { MayAct N.view N.read c self.old (Keep p x) }
         ensures { Passes N.view N.read N.place c self.old (Keep p x ∷ []) result self.new }
     {
+        let alloc = *self.marks.allocator();
+        self.nodes[p as usize].recall();
         let source = self.nodes[p as usize].source(x)?;
-        let state = past_of(*self.marks.allocator(), &source)?;
-        self.marks.push(Mark { var: x, state })?;
+        let state = past_of(alloc, &source)?;
+        let known = vec![in alloc; p]?;
+        self.marks.push(Mark {
+            var: x,
+            state,
+            known,
+        })?;
         Ok(())
     }
 

@@ -4,7 +4,7 @@ ghost use Rattle.std.specs.Prelude.{◌≡◌, ◌+◌, ◌∷◌, [], map, slic
 ghost use Rattle.lasp_drive.specs.Prelude.{meets, content_at, Show, Reach, until_of, NodeView, LooksAt, marked_of, Acts, Passes, MayAct, Reaches, UnlessMemory};
 ghost use Rattle.model_world.specs.World as world;
 
-use super::threshold::threshold_of;
+use super::threshold::{is_least_held, threshold_of};
 use crate::driver::Driver;
 use crate::halt::Halt;
 use crate::node::Node;
@@ -37,7 +37,8 @@ impl<N: Node> Driver<N> {
         ensures same { OnOk result (self.new.reads ≡ self.old.reads) }
     {
         let threshold = threshold_of(alloc, &self.marks, until)?;
-        if self.nodes[p as usize].reached(alloc, x, threshold)? {
+        let is_known = is_least_held(&self.marks, until, p);
+        if self.nodes[p as usize].reached(alloc, x, threshold, is_known)? {
             Ok(())
         } else {
             Err(Halt::NotReached(c))

@@ -1,7 +1,7 @@
 //! The thresholds of reads, with what their marks keep.
 
-ghost use Rattle.std.specs.Prelude.{◌≡◌, IfOk, length, map};
-ghost use Rattle.lasp_drive.specs.Prelude.{until_of, marked_of, IsUntilWithin};
+ghost use Rattle.std.specs.Prelude.{◌≡◌, IfOk, IsTrue, length, map};
+ghost use Rattle.lasp_drive.specs.Prelude.{until_of, marked_of, IsUntilWithin, IsLeastHeld};
 ghost use Rattle.model_world.specs.World as world;
 ghost use Rattle.lasp_state.specs.Threshold.{threshold_of};
 
@@ -21,6 +21,17 @@ fn copy_values(alloc: Global, values: &Values) -> Result<Values, AllocError>
         copy.push(values.at(i).try_clone(alloc)?)?;
     }
     Ok(copy)
+}
+
+/// Whether a node is known to hold the mark of which a command asks for at least what it keeps.
+pub(super) fn is_least_held(marks: &[Mark], until: &Until, node: u8) -> bool
+    requires { IsUntilWithin (length marks.now) until.now }
+    ensures { IsTrue result → IsLeastHeld marks.now until.now node }
+{
+    match until {
+        Until::AtLeast(mark) | Until::Above(mark) => marks[*mark as usize].known.contains(&node),
+        Until::Count(_) | Until::Added(_) | Until::Removed(_) => false,
+    }
 }
 
 /// The threshold that a command asks for. What a mark keeps is shared.

@@ -3,7 +3,7 @@
 ghost use Rattle.model_world.specs.Command as plain;
 ghost use Rattle.lasp_drive.specs.Prelude.{val_of, MayStep, Steps};
 
-use crate::driver::Driver;
+use crate::driver::{Driver, note};
 use crate::halt::Halt;
 use crate::node::Node;
 use lasp_state::Op;
@@ -76,7 +76,17 @@ impl<N: Node> Driver<N> {
         requires { MayStep N.view N.read c self.old (plain.Bind p x mark) }
         ensures { Steps N.view N.read N.place c self.old (plain.Bind p x mark) result self.new }
     {
-        let state = Arc::try_clone(&self.marks[mark as usize].state)?;
-        self.update(alloc, c, p, x, &Op::Join(state))
+        let marked = &self.marks[mark as usize];
+        let is_held = marked.known.contains(&p);
+        let state = Arc::try_clone(&marked.state)?;
+        self.nodes[p as usize].recall();
+        match self.update_with(alloc, c, p, x, &Op::Join(state), is_held) {
+            Ok(()) => {
+                self.nodes[p as usize].recall();
+                note(&mut self.marks, mark, p);
+                Ok(())
+            }
+            Err(halt) => Err(halt),
+        }
     }
 }

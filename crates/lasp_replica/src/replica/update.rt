@@ -64,7 +64,7 @@ fn is_for(op: &Op, kind: &Kind, nodes: u64) -> bool
 }
 
 /// Recalls that the values of an operation have a spelling. It walks through the value and takes no memory.
-fn recall_op(op: &Op)
+pub(super) fn recall_op(op: &Op)
     ensures { IsInFormat op.now }
 {
     match op {
@@ -94,7 +94,7 @@ pub(super) fn record_growth(histories: &mut Vec<History>, var: u8, grows: bool, 
 
 impl Replica {
     /// Why an update is refused, whatever its variable holds.
-    fn check_update(&self, var: u8, op: &Op) -> Result<(), UpdateRefused>
+    pub(super) fn check_update(&self, var: u8, op: &Op) -> Result<(), UpdateRefused>
         requires { IsReplica self.now }
         ensures { refused result ≡ update_check (length self.now.counts) self.now.me (arc_value self.now.graph) self.now.counts var op.now }
     {

@@ -4,8 +4,8 @@ use Rattle.lasp_site.proofs.NodeLaws.{node-updated}
 use Rattle.lasp_site.proofs.UpdateLaws.{may-update, do-low, do-update}
 use Rattle.lasp_site.proofs.update.make.Goals as goal
 
-pub update-requires : goal.update-requires
-update-requires g c =
+pub update-requires-clause-may : goal.update-requires-clause-may
+update-requires-clause-may g c =
     may-update c.args.me c.args.graph.now (g.N.Node.view c.args.node) c.args.var c.args.op.now c.requires.node c.requires.may
     c.requires.room
 

@@ -9,7 +9,8 @@ use Rattle.lasp_state.specs.Threshold.{threshold_of}
 use Rattle.lasp_script.specs.Command.{until_of}
 use Rattle.lasp_drive.specs.Node.{NodeView, LearnsAnd}
 use Rattle.lasp_drive.specs.Reads.{Reads, IsNextRead, opens_next}
-use Rattle.lasp_drive.specs.Driver.{read_seen, seen, marked_of}
+use Rattle.lasp_drive.specs.Marks.{marked_of}
+use Rattle.lasp_drive.specs.Driver.{read_seen, seen}
 use Rattle.lasp_drive.specs.Acts.{Acted, StopsWithin}
 use Rattle.lasp_drive.specs.Play.{IsUntilWithin}
 use Rattle.lasp_drive.specs.declared.driver.Mark.{Mark}

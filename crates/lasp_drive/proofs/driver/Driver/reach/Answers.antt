@@ -5,17 +5,20 @@ use Rattle.model_states.specs.Threshold.{Threshold, meets}
 use Rattle.model_graph.specs.Evaluation.{content_at}
 use Rattle.model_world.specs.World as world
 use Rattle.model_world.specs.World.{Reach, act}
+use Rattle.model_core.specs.Known.{HasLeast}
 use Rattle.lasp_state.specs.Threshold.{threshold_of}
 use Rattle.lasp_script.specs.Command.{until_of}
 use Rattle.lasp_drive.specs.Node.{NodeView, LearnsAnd}
 use Rattle.lasp_drive.specs.Reads.{looks_once}
-use Rattle.lasp_drive.specs.Driver.{seen, marked_of}
+use Rattle.lasp_drive.specs.Marks.{marked_of}
+use Rattle.lasp_drive.specs.Driver.{seen}
 use Rattle.lasp_drive.specs.Acts.{Acted, StopsWithin}
-use Rattle.lasp_drive.specs.Play.{IsUntilWithin}
+use Rattle.lasp_drive.specs.Play.{IsUntilWithin, IsLeastHeld}
 use Rattle.lasp_drive.specs.declared.driver.Mark.{Mark}
 use Rattle.lasp_drive.specs.declared.halt.Halt.TheVariants as halt
 use Rattle.lasp_drive.proofs.NodeLaws.{seen-at, seen-low, seen-set, same-place}
 use Rattle.lasp_drive.proofs.ActLaws.{stops-at, stops-early}
+use Rattle.lasp_drive.proofs.MarkLaws.{least-held}
 use Rattle.lasp_drive.proofs.StepLaws.{with_nodes, may-read, until-within, reach-met, reach-unmet, acted-reach, same-node}
 use Rattle.std.proofs.lemmas.Result.{err_from_is_err_and}
 use Rattle.lasp_drive.proofs.driver.Driver.reach.Goals as goal
@@ -36,6 +39,22 @@ reached-requires-clause-may g c =
     let at = seen-at g.N.Node.view c.args.self.now.nodes.items c.args.p c.index_mut.result.now (seen-low g.N.Node.view c.args.self.now.nodes.items c.args.p c.requires.lawful.0.0) c.index_mut.ensures.value in
     may-read c.args.c c.args.p c.args.x (until_of c.args.until.now) d (g.N.Node.view c.index_mut.result.now) (threshold_of c.in_ok-threshold.threshold) c.requires.ready (c.requires.lawful.0, c.requires.lawful.1) at
     (c.in_ok-threshold.ensures ∙ ap (λ (ms : List Mark). world.threshold_of (map marked_of ms) (until_of c.args.until.now)) marks)
+
+pub is_least_held-is_known-requires : goal.is_least_held-is_known-requires
+is_least_held-is_known-requires g c =
+    let marks : c.deref-2.result.now ≡ c.args.self.now.marks.items = search rules in
+    subst (λ (ms : List Mark). IsUntilWithin (length ms) c.args.until.now) (sym marks) (until-within (seen g.N.Node.view g.N.Node.read c.args.self.now) c.args.x c.args.until.now c.requires.lawful.1)
+
+pub reached-requires-clause-known : goal.reached-requires-clause-known
+reached-requires-clause-known g c is_known =
+    let d = seen g.N.Node.view g.N.Node.read c.args.self.now in
+    let until = until_of c.args.until.now in
+    let marks : c.deref.result.now ≡ c.args.self.now.marks.items = search rules in
+    let others : c.deref-2.result.now ≡ c.args.self.now.marks.items = search rules in
+    let at = seen-at g.N.Node.view c.args.self.now.nodes.items c.args.p c.index_mut.result.now (seen-low g.N.Node.view c.args.self.now.nodes.items c.args.p c.requires.lawful.0.0) c.index_mut.ensures.value in
+    subst (λ (t : Threshold). HasLeast t (content_at (g.N.Node.view c.index_mut.result.now).shown c.args.x)) (sym (c.in_ok-threshold.ensures ∙ ap (λ (ms : List Mark). world.threshold_of (map marked_of ms) until) marks))
+    (least-held d (length d.nodes) c.args.p c.args.x (g.N.Node.view c.index_mut.result.now) c.args.until.now c.requires.ready.marked at c.requires.lawful.1
+    (subst (λ (ms : List Mark). IsLeastHeld ms c.args.until.now c.args.p) others (c.is_least_held-is_known.ensures is_known)))
 
 pub returns-then-branch-clause-acts : goal.returns-then-branch-clause-acts
 returns-then-branch-clause-acts g c =

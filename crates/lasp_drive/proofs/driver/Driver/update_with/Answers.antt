@@ -7,10 +7,10 @@ use Rattle.lasp_drive.specs.declared.halt.Halt.TheVariants as halt
 use Rattle.lasp_drive.proofs.NodeLaws.{seen-at, seen-low, seen-set, update-stops, stopped-large, same-place}
 use Rattle.lasp_drive.proofs.ActLaws.{stops-at}
 use Rattle.lasp_drive.proofs.StepLaws.{with_nodes, may-update, acted-update}
-use Rattle.lasp_drive.proofs.driver.Driver.update.Goals as goal
+use Rattle.lasp_drive.proofs.driver.Driver.update_with.Goals as goal
 
-pub update-requires : goal.update-requires
-update-requires g c =
+pub update-requires-clause-may : goal.update-requires-clause-may
+update-requires-clause-may g c =
     let d = seen g.N.Node.view g.N.Node.read c.args.self.now in
     let nodes = c.args.self.now.nodes.items in
     let at = seen-at g.N.Node.view nodes c.args.p c.index_mut.result.now (seen-low g.N.Node.view nodes c.args.p c.requires.may.lawful.0.0) c.index_mut.ensures.value in
@@ -56,3 +56,8 @@ returns-in-Err-Memory-clause-acts g c =
           (stops-at c.args.c c.args.p d a halt.Memory (g.N.Node.view c.index_mut.result.now) (g.N.Node.view c.update.new.self) at c.in-Err-Memory.ensures.takes.refused.learns.calls tt);
       in_place = same-place g.N.Node.place nodes c.args.p c.index_mut.result.now c.update.new.self low c.index_mut.ensures.value c.update.ensures.place;
     }
+
+pub update-requires-clause-known : goal.update-requires-clause-known
+update-requires-clause-known g c is_known =
+    let nodes = c.args.self.now.nodes.items in
+    c.requires.known is_known (g.N.Node.view c.index_mut.result.now) (seen-at g.N.Node.view nodes c.args.p c.index_mut.result.now (seen-low g.N.Node.view nodes c.args.p c.requires.may.lawful.0.0) c.index_mut.ensures.value)
