@@ -1,0 +1,4 @@
+pub mod Version
+pub mod Log
+pub mod Rule
+pub mod Views
