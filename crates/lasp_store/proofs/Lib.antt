@@ -2,4 +2,6 @@ pub mod TurnLaws
 pub mod MessageLaws
 pub mod EvaluatedLaws
 pub mod SettleLaws
+pub mod BringLaws
 pub mod PassedLaws
+pub mod ShelfLaws

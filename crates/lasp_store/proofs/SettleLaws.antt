@@ -348,4 +348,16 @@ rejoined-peer store old new hand own-old own-new first is p free = (λ i. peer_o
   kept : IsKept (frame_of old) old.seen (old.seen ++ p.0)
   kept = kept-binds (frame_of old) old.seen p.0 (subst (λ (z : Frame × List Entry). IsLegal z.0 z.1) (λ i. (same i, r.seen i)) free.legal) (rest-binds p.0 [] r.may r.mine tt)
 
+-- and so has the core that the feed took out
+pub begun-peer : (store : LockId) (old new : Knows) (c : Core) → KnowsOwn old → KnowsOwn new → old.number ≡ 0 → HasBegun store old new c → peer_of c.frame c.entries ≡ peer_of (frame_of old) old.seen
+begun-peer store old new c own-old own-new first b = (λ i. peer_of (same i) (b.goes_on.1 i)) ∙ kept.peer where
+  same : c.frame ≡ frame_of old
+  same = sym (ap frame_in b.turn.frame) ∙ ap (λ (q : Knows). frame_of q) b.pass
+
+  r : HasRest [] b.goes_on.0 old new
+  r = rest-is old new b.goes_on.0 [] own-old own-new first (ap (λ (q : Knows). q.number) b.pass) (b.turn.seen ∙ b.goes_on.1) (ap (λ (q : Knows). q.own) b.pass ∙ sym (append-nil old.own))
+
+  kept : IsKept (frame_of old) old.seen (old.seen ++ b.goes_on.0)
+  kept = kept-binds (frame_of old) old.seen b.goes_on.0 (subst (λ (z : Frame × List Entry). IsLegal z.0 z.1) (λ i. (same i, b.goes_on.1 i)) b.core.legal) (rest-binds b.goes_on.0 [] r.may r.mine tt)
+
 pub ruleset graphs = (turn-graph)

@@ -3,3 +3,4 @@ pub mod Tried
 pub mod Settled
 pub mod Passed
 pub mod Prelude
+pub mod Shelves

@@ -12,6 +12,7 @@ pub use Rattle.model_journal.specs.Journal.{declared, graph, vals}
 pub use Rattle.model_readings.specs.Lawful.{FitsAll}
 pub use Rattle.model_core.specs.Core.{is_met}
 pub use Rattle.model_core.specs.Peer.{peer_of}
+pub use Rattle.model_runs.specs.Part.{BringsAsMuch}
 pub use Rattle.lasp_histlock.specs.History.{added}
 pub use Rattle.lasp_histlock.specs.Names.{LockId}
 pub use Rattle.lasp_histlock.specs.Passes.{after_look, after_miss, after_rejoin, after_split, first_pass, new_pass}

@@ -1,7 +1,7 @@
 //! What the feed does: updates, deliveries, declarations, and what it sends.
 
 ghost use Rattle.std.specs.Prelude.{◌≡◌, ◌↔◌, ◌+◌, ◌<◌, ◌∷◌, [], false, length, IfOk, OnOk, OnErr, IsTrue};
-ghost use Rattle.lasp_store.specs.Prelude.{AllByRecursion, arc_value, kind_at, is_source, variable_limit, entry, is_met, after_miss, op_of, decl_of, held_of, IsSmall, update_refusal, IsAnswered, IsDelivered, AreAscending, state_after, IsBusy, HadTurn, TriedTurn, IsInTurn, HasEnded, frame_of, graph_at, vals_at, counts_at, graph_seen, Tried, IfRefused};
+ghost use Rattle.lasp_store.specs.Prelude.{AllByRecursion, arc_value, kind_at, is_source, variable_limit, entry, is_met, after_miss, op_of, decl_of, held_of, IsSmall, update_refusal, IsAnswered, IsDelivered, AreAscending, state_after, IsBusy, HadTurn, TriedTurn, IsInTurn, HasEnded, frame_of, graph_at, vals_at, counts_at, graph_seen, graph, vals, peer_of, BringsAsMuch, Tried, IfRefused};
 ghost use Rattle.model_readings.specs.Lawful.{IsNext as MayFollow};
 ghost use Rattle.model_journal.specs.Entry as model;
 
@@ -88,9 +88,11 @@ impl Store {
         mut core: Core,
         number: u32,
         m: &Arc<Message>,
+        part: &Message,
     ) -> Result<Released, DeliverRefused>
         requires turn { IsInTurn self.now f.old core }
         requires first { f.old.number ≡ 0 }
+        requires part { BringsAsMuch (graph core.frame core.entries) (vals core.frame core.entries) (arc_value m.now) part.now }
         ensures ok { OnOk result (HasEnded (entry 0 (model.Deliver number (arc_value m.now)) ∷ []) f.old f.new) }
         ensures err { OnErr result (HasEnded [] f.old f.new) }
         ensures answer { IsDelivered (frame_of f.new).nodes (graph_at f.new) (vals_at f.new) (arc_value m.now) result }
@@ -98,7 +100,7 @@ impl Store {
         ensures ascending { IfOk result AreAscending }
     {
         core.recall();
-        let delivered = core.deliver(0, number, m);
+        let delivered = core.deliver_part(0, number, m, part);
         core.recall();
         self.end(f, core);
         delivered
@@ -122,7 +124,32 @@ impl Store {
         ensures ascending { IfOk result AreAscending }
     {
         let core = self.begin(rt, f);
-        self.end_deliver(f, core, number, m)
+        self.end_deliver(f, core, number, m, m)
+    }
+
+    /// The same by a message that brings as much to the sources that the feed has seen, as `Core::deliver_part`. It may wait for others.
+    pub fn deliver_part<R: Wait>(
+        &self,
+        rt: &R,
+        f: &mut Feed,
+        number: u32,
+        m: &Arc<Message>,
+        part: &Message,
+    ) -> Result<Released, DeliverRefused>
+        requires lock { f.old.lock ≡ self.now }
+        requires idle { f.old.turn ≡ false }
+        requires first { f.old.number ≡ 0 }
+        requires part { BringsAsMuch (graph_seen f.old) (peer_of (frame_of f.old) f.old.seen).contents (arc_value m.now) part.now }
+        ensures ok { OnOk result (HadTurn (entry 0 (model.Deliver number (arc_value m.now)) ∷ []) f.old f.new) }
+        ensures err { OnErr result (HadTurn [] f.old f.new) }
+        ensures answer { IsDelivered (frame_of f.new).nodes (graph_at f.new) (vals_at f.new) (arc_value m.now) result }
+        ensures met { IfOk result (AllByRecursion (λ r. IsTrue (is_met (frame_of f.new) f.new.seen r))) }
+        ensures ascending { IfOk result AreAscending }
+    {
+        f.known();
+        let core = self.begin(rt, f);
+        f.known();
+        self.end_deliver(f, core, number, m, part)
     }
 
     /// The same, where nobody else has the core. It never waits.
@@ -145,7 +172,7 @@ impl Store {
     {
         match self.try_begin(f) {
             None => Err(Try::Busy),
-            Some(core) => match self.end_deliver(f, core, number, m) {
+            Some(core) => match self.end_deliver(f, core, number, m, m) {
                 Ok(released) => Ok(released),
                 Err(why) => Err(Try::Refused(why)),
             },

@@ -21,11 +21,14 @@ mod message;
 mod reads;
 mod seated;
 mod settle;
+mod shelves;
+#[cfg(test)]
+mod spied;
 mod store;
 #[cfg(test)]
 mod tests;
 mod turn;
 
-pub use laws::{feeds_tell_the_graph, feeds_tell_the_sources, turns_go_on};
+pub use laws::{feeds_tell_the_graph, feeds_tell_the_sources, shelves_stay, turns_go_on};
 pub use seated::Seated;
 pub use store::{Feed, Hand, Store};

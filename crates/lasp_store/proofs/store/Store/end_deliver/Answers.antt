@@ -10,6 +10,6 @@ use Rattle.lasp_store.proofs.store.Store.end_deliver.Goals as goal
 
 pub returns-clause-met : goal.returns-clause-met
 returns-clause-met c =
-    let d = c.deliver-delivered.new.self in
-    at-seen (λ (X : Frame) (L : List Entry). IfOk c.deliver-delivered.result (λ reads. AllByRecursion (λ r. IsTrue (is_met X L r)) reads)) c.args.f.now c.end.new.h d c.end.ensures
-    (entered-met c.args.core d (entry 0 (model.Deliver c.args.number (arc_value c.args.m.now))) c.recall.ensures.core c.deliver-delivered.result c.deliver-delivered.ensures.ok c.deliver-delivered.ensures.released)
+    let d = c.deliver_part-delivered.new.self in
+    at-seen (λ (X : Frame) (L : List Entry). IfOk c.deliver_part-delivered.result (λ reads. AllByRecursion (λ r. IsTrue (is_met X L r)) reads)) c.args.f.now c.end.new.h d c.end.ensures
+    (entered-met c.args.core d (entry 0 (model.Deliver c.args.number (arc_value c.args.m.now))) c.recall.ensures.core c.deliver_part-delivered.result c.deliver_part-delivered.ensures.ok c.deliver_part-delivered.ensures.released)
