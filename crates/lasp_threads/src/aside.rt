@@ -4,10 +4,9 @@ ghost use Rattle.std.specs.Prelude.{◌≡◌, ◌≤◌, map, vec_capacity};
 
 use crate::shared::Shared;
 use crate::worker::Works;
-use std::sync::atomic::Ordering;
 use std::thread::{Threads, join};
 
-/// Makes a call while all workers work, each on a thread of its own where one can be had, and tells them behind it that the stretch has ended. The call is made on this thread, and the workers end where nothing is left to do for them.
+/// Makes a call while all workers wait for calls of theirs, each on a thread of its own where one can be had, and tells them behind it that the run is over. The call is made on this thread.
 #[cycle(work_beside)]
 pub(crate) fn work_beside<R: Threads, T: Sync, W: Works<T> + Send, A, F: FnOnce() -> A>(
     rt: &R,
@@ -23,7 +22,7 @@ pub(crate) fn work_beside<R: Threads, T: Sync, W: Works<T> + Send, A, F: FnOnce(
 {
     let Some(last) = workers.pop() else {
         let answer = call();
-        shared.more.store(false, Ordering::SeqCst);
+        shared.calls.end();
         return (workers, answer);
     };
     let own = move || -> W

@@ -10,6 +10,7 @@
 #![tactic(auto)]
 
 mod aside;
+mod calls;
 mod closing;
 mod hands;
 mod nodes;
@@ -20,6 +21,7 @@ mod stores;
 mod stretch;
 mod turns;
 mod worker;
+mod worth;
 
 pub use closing::close_stores;
 pub use run::drive;

@@ -7,9 +7,10 @@ ghost use Rattle.lasp_threads.specs.Spots.{AreFeeds};
 use lasp_store::{Feed, Store};
 use lasp_store_node::StoreNode;
 use std::alloc::{AllocError, Global};
+use std::sync::Wait;
 
 /// The nodes of the stores. Where there is no memory for them, the feeds stay.
-pub(crate) fn nodes_of<'a, R>(
+pub(crate) fn nodes_of<'a, R: Wait>(
     rt: &'a R,
     alloc: Global,
     stores: &'a [Store],
@@ -34,7 +35,7 @@ pub(crate) fn nodes_of<'a, R>(
 }
 
 /// Gives the feeds of nodes back. It takes no memory.
-pub(crate) fn give_feeds<R>(feeds: &mut Vec<Feed>, nodes: Vec<StoreNode<'_, R>>)
+pub(crate) fn give_feeds<R: Wait>(feeds: &mut Vec<Feed>, nodes: Vec<StoreNode<'_, R>>)
     requires none { feeds.old.items ≡ [] }
     requires room { vec_len nodes ≤ vec_capacity feeds.old }
     ensures feeds { feeds.new.items ≡ nodes.entry.items }

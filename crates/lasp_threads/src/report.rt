@@ -16,11 +16,11 @@ use lasp_fns::Library;
 use lasp_graph::Graph;
 use lasp_script::Script;
 use std::alloc::Global;
-use std::sync::Arc;
+use std::sync::{Arc, Wait};
 use std::thread::Threads;
 
 /// Runs a script on these nodes, to which nothing has happened, while the workers work in its stretches, and gives its report. The nodes come back also where the run stops.
-pub(crate) fn report_on<N: Node, R: Threads, T: Sync, W: Works<T> + Send>(
+pub(crate) fn report_on<N: Node, R: Threads + Wait, T: Sync, W: Works<T> + Send>(
     rt: &R,
     workers: Vec<W>,
     tools: &T,

@@ -29,7 +29,7 @@ use std::sync::{Arc, Wait};
 use std::thread::Threads;
 
 /// The graph once more, and the nodes of the stores. Where there is no memory for them, the feeds stay.
-fn graph_and_nodes<'a, R>(
+fn graph_and_nodes<'a, R: Wait>(
     rt: &'a R,
     alloc: Global,
     graph: &Arc<Graph>,
@@ -83,7 +83,7 @@ fn report_beside<R: Threads + Wait + RandomSource + AllocGlobal, T: Sync, W: Wor
 
 /// Runs a script on these stores with so many workers and gives its report. There are a store and its feed for each node of the script, to which nothing has happened.
 ///
-/// Between two points the calling thread feeds the stores while the workers evaluate, each on a thread of its own where one can be had; a stretch in which no command changes a node starts none. Where memory is short, there are fewer workers, or they have hands at fewer stores. The feeds are given back on every return, in no turn and with all hands of the workers, so that each store can be closed.
+/// Between two points the calling thread feeds the stores. The workers, each for the whole run on a thread of its own where one can be had, evaluate beside a stretch of 4,096 changes and more, and behind a shorter one, unless no two of them were in jobs at once behind the last ones; a stretch in which no command changes a node calls none. Where memory is short, there are fewer workers, or they have hands at fewer stores. The feeds are given back on every return, in no turn and with all hands of the workers, so that each store can be closed.
 pub fn drive<R: Threads + Wait + RandomSource + AllocGlobal + Sync, G: Gate + Sync>(
     rt: &R,
     alloc: Global,

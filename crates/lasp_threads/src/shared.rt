@@ -1,24 +1,29 @@
-//! What the workers of a stretch share.
+//! What the workers of a run share.
 
+use crate::calls::Calls;
 use crate::turns::Visits;
-use lasp_graph::Graph;
+use crate::worth::Worth;
 use std::alloc::Global;
 use std::sync::atomic::AtomicBool;
 
-/// What the workers of a stretch look at, and who feeds their stores meanwhile.
+/// What the workers of a run look at, and who feeds their stores.
 #[derive(Drop)]
 pub(crate) struct Shared {
-    /// Whether the stretch goes on.
+    pub(crate) calls: Calls,
+    /// Whether the stretch goes on to which they are called.
     pub(crate) more: AtomicBool,
     pub(crate) visits: Visits,
+    pub(crate) worth: Worth,
 }
 
 impl Shared {
-    /// A stretch that goes on, with nobody at any variable of so many nodes of the graph.
-    pub(crate) fn new(alloc: Global, graph: &Graph, nodes: u8) -> Shared {
+    /// Nobody is called yet, nor at any variable of so many nodes.
+    pub(crate) fn new(alloc: Global, nodes: u8) -> Shared {
         Shared {
-            more: AtomicBool::new(true),
-            visits: Visits::new(alloc, graph, nodes),
+            calls: Calls::new(),
+            more: AtomicBool::new(false),
+            visits: Visits::new(alloc, nodes),
+            worth: Worth::new(),
         }
     }
 }

@@ -11,8 +11,11 @@ use crate::shared::Shared;
 use crate::worker::Works;
 use lasp_drive::{Driver, Halt, Node, advance, is_point};
 use lasp_fns::Library;
+use lasp_graph::Graph;
 use lasp_script::{Command, Script};
 use std::alloc::Global;
+use std::sync::Wait;
+use std::sync::atomic::Ordering;
 use std::thread::Threads;
 
 /// Whether a command changes what a node holds. A declaration is a point, and so no part of a stretch.
@@ -36,50 +39,98 @@ fn is_change(command: &Command) -> bool {
     }
 }
 
-/// Whether a stretch from a place on changes what a node holds.
-fn has_change(script: &Script, from: u64) -> bool {
-    for i in from..script.len() {
-        let command = script.at(i);
-        if is_point(command) {
-            return false;
-        }
-        if is_change(command) {
-            return true;
-        }
-    }
-    false
+/// How many changes a stretch has at least beside which workers work. Of a shorter one they do behind it what it left.
+const MANY: u32 = 4_096;
+
+/// How the workers take part in a stretch.
+#[derive(Clone, Copy)]
+enum Part {
+    /// It changes nothing, so they aren't called.
+    Absent,
+    /// They may be called behind it.
+    Behind,
+    /// They work beside it.
+    Beside,
 }
 
-/// Does a stretch while the workers work. Where it changes nothing, none of them is started.
-fn stretch_beside<N: Node, R: Threads, T: Sync, W: Works<T> + Send>(
-    rt: &R,
-    workers: Vec<W>,
-    tools: &T,
+/// How the workers take part in the stretch from a place on.
+fn part_in(script: &Script, from: u64) -> Part {
+    let mut changes: u32 = 0;
+    for i in from..script.len() {
+        let command = script.at(i);
+        if is_point(command) || changes == MANY {
+            break;
+        }
+        if is_change(command) {
+            changes = changes.saturating_add(1);
+        }
+    }
+    match changes {
+        0 => Part::Absent,
+        MANY => Part::Beside,
+        _ => Part::Behind,
+    }
+}
+
+/// The workers, as the run's thread has them.
+#[derive(Drop)]
+struct Crew<'a, R> {
+    rt: &'a R,
+    shared: &'a Shared,
+    many: u64,
+}
+
+impl<R: Wait> Crew<'_, R> {
+    /// Calls the workers.
+    fn call(&self, graph: &Graph, goes_on: bool) {
+        self.shared.visits.learn(graph);
+        self.shared.more.store(goes_on, Ordering::SeqCst);
+        self.shared.calls.call(self.rt, self.many);
+    }
+
+    /// Tells the workers that the stretch has ended, and waits until they are through.
+    fn wait(&self) {
+        self.shared.more.store(false, Ordering::SeqCst);
+        self.shared.calls.wait(self.rt);
+    }
+
+    /// Calls them to what a short stretch has left, if that is worth while, and waits until they are through.
+    fn finish(&self, graph: &Graph) {
+        if self.shared.worth.is_due() {
+            self.call(graph, false);
+            self.wait();
+            self.shared.worth.note();
+        }
+    }
+}
+
+/// Does a stretch, beside the workers or before them. Where it changes nothing, they aren't called.
+fn stretch_beside<N: Node, R: Wait>(
+    crew: &Crew<'_, R>,
     driver: Driver<N>,
     alloc: Global,
     lib: &Library,
     script: &Script,
     from: u64,
-) -> (Vec<W>, (Driver<N>, Result<u64, Halt>))
+) -> (Driver<N>, Result<u64, Halt>)
     requires within { from ≤ length script.now.commands }
     requires may { MayGoOn (library_of lib.now) (from + 1) (seen N.view N.read driver) (drop from script.now.commands) }
-    ensures advances { Advances N.view N.read N.place (library_of lib.now) from script.now.commands driver result.1.1 result.1.0 }
-    ensures workers { map W.place result.0.items ≡ map W.place workers.items }
+    ensures { Advances N.view N.read N.place (library_of lib.now) from script.now.commands driver result.1 result.0 }
 {
-    if !has_change(script, from) {
-        return (workers, advance(driver, alloc, lib, script, from));
+    match part_in(script, from) {
+        Part::Absent => advance(driver, alloc, lib, script, from),
+        Part::Behind => {
+            let (driver, reached) = advance(driver, alloc, lib, script, from);
+            crew.finish(&driver.graph);
+            (driver, reached)
+        }
+        Part::Beside => {
+            crew.call(&driver.graph, true);
+            let (driver, reached) = advance(driver, alloc, lib, script, from);
+            crew.wait();
+            (driver, reached)
+        }
     }
-    let shared = Shared::new(alloc, &driver.graph, script.nodes());
-    work_beside(
-        rt,
-        workers,
-        tools,
-        &shared,
-        move || -> (Driver<N>, Result<u64, Halt>)
-            requires { (from ≤ length script.now.commands) × MayGoOn (library_of lib.now) (from + 1) (seen N.view N.read driver) (drop from script.now.commands) }
-            ensures { Advances N.view N.read N.place (library_of lib.entry.now) from script.entry.now.commands driver result.1 result.0 }
-        { advance(driver, alloc, lib, script, from) },
-    )
 }
 
 /// Does the point that a stretch came to, and tells where the next stretch begins. At the script's end there is none, and it begins there.
@@ -103,40 +154,59 @@ fn cross<N: Node>(
     }
 }
 
-/// Does a stretch while the workers work, and then the point behind it alone, and tells where the next stretch begins.
-fn pass_on<N: Node, R: Threads, T: Sync, W: Works<T> + Send>(
-    rt: &R,
-    workers: Vec<W>,
-    tools: &T,
+/// Does a stretch with the workers, and then the point behind it alone, and tells where the next stretch begins.
+fn pass_on<N: Node, R: Wait>(
+    crew: &Crew<'_, R>,
     driver: Driver<N>,
     alloc: Global,
     lib: &Library,
     script: &Script,
     from: u64,
-) -> (Vec<W>, Driver<N>, Result<u64, Halt>)
+) -> (Driver<N>, Result<u64, Halt>)
     requires within { from < length script.now.commands }
     requires may { MayGoOn (library_of lib.now) (from + 1) (seen N.view N.read driver) (drop from script.now.commands) }
-    ensures passes { PassesOn N.view N.read N.place (library_of lib.now) from script.now.commands driver result.2 result.1 }
-    ensures workers { map W.place result.0.items ≡ map W.place workers.items }
+    ensures { PassesOn N.view N.read N.place (library_of lib.now) from script.now.commands driver result.1 result.0 }
 {
-    let (workers, (mut driver, reached)) = stretch_beside(
-        rt, workers, tools, driver, alloc, lib, script, from,
-    );
+    let (mut driver, reached) = stretch_beside(crew, driver, alloc, lib, script, from);
     match reached {
         Ok(i) => {
             let next = cross(&mut driver, alloc, lib, script, i);
-            (workers, driver, next)
+            (driver, next)
         }
-        Err(halt) => (workers, driver, Err(halt)),
+        Err(halt) => (driver, Err(halt)),
     }
 }
 
-/// Does the commands of a script in order, while the workers work in its stretches, and settles every node at the end. Workers and driver come back also where the run stops.
-pub(crate) fn run_beside<N: Node, R: Threads, T: Sync, W: Works<T> + Send>(
-    rt: &R,
-    mut workers: Vec<W>,
-    tools: &T,
+/// Does the commands of a script in order, with the workers in its stretches, and settles every node at the end.
+fn run_with<N: Node, R: Wait>(
+    crew: &Crew<'_, R>,
     mut driver: Driver<N>,
+    alloc: Global,
+    lib: &Library,
+    script: &Script,
+) -> (Driver<N>, Result<(), Halt>)
+    requires may { MayPlay (library_of lib.now) (seen N.view N.read driver) script.now.commands }
+    ensures { Plays N.view N.read N.place driver script.now.commands result.1 result.0 }
+{
+    let mut from = 0;
+    while from < script.len() {
+        let (next, reached) = pass_on(crew, driver, alloc, lib, script, from);
+        driver = next;
+        match reached {
+            Ok(i) => from = i,
+            Err(halt) => return (driver, Err(halt)),
+        }
+    }
+    let settled = driver.point(alloc, lib, from as u32 + 1);
+    (driver, settled)
+}
+
+/// Does the commands of a script in order, while each worker waits for calls to its stretches, and settles every node at the end. Workers and driver come back also where the run stops.
+pub(crate) fn run_beside<N: Node, R: Threads + Wait, T: Sync, W: Works<T> + Send>(
+    rt: &R,
+    workers: Vec<W>,
+    tools: &T,
+    driver: Driver<N>,
     alloc: Global,
     lib: &Library,
     script: &Script,
@@ -145,16 +215,21 @@ pub(crate) fn run_beside<N: Node, R: Threads, T: Sync, W: Works<T> + Send>(
     ensures plays { Plays N.view N.read N.place driver script.now.commands result.2 result.1 }
     ensures workers { map W.place result.0.items ≡ map W.place workers.items }
 {
-    let mut from = 0;
-    while from < script.len() {
-        let (crew, next, reached) = pass_on(rt, workers, tools, driver, alloc, lib, script, from);
-        workers = crew;
-        driver = next;
-        match reached {
-            Ok(i) => from = i,
-            Err(halt) => return (workers, driver, Err(halt)),
-        }
-    }
-    let settled = driver.point(alloc, lib, from as u32 + 1);
-    (workers, driver, settled)
+    let shared = Shared::new(alloc, script.nodes());
+    let crew = Crew {
+        rt,
+        shared: &shared,
+        many: workers.len() as u64,
+    };
+    let (workers, (driver, end)) = work_beside(
+        rt,
+        workers,
+        tools,
+        &shared,
+        move || -> (Driver<N>, Result<(), Halt>)
+            requires { MayPlay (library_of lib.now) (seen N.view N.read driver) script.now.commands }
+            ensures { Plays N.view N.read N.place driver script.entry.now.commands result.1 result.0 }
+        { run_with(&crew, driver, alloc, lib, script) },
+    );
+    (workers, driver, end)
 }

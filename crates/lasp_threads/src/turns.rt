@@ -1,5 +1,6 @@
 //! Who is at which variable, so that no two workers do the same, nor what would have to be done again.
 
+use crate::worth::Worth;
 use lasp_graph::Graph;
 use lasp_workers::Gate;
 use std::alloc::Global;
@@ -9,15 +10,15 @@ use std::sync::atomic::{AtomicU64, Ordering};
 const VARIABLES: u8 = 64;
 
 /// How often workers are kept out of a variable before one is let in beside who is there.
-const PATIENCE: u64 = 1024;
+const PATIENCE: u64 = 2_048;
 
 /// Who is where. Threads share it.
 #[derive(Drop)]
 pub(crate) struct Visits {
     /// Of each variable of each node, whether a worker is there: 0 where none is, else 1 and how often others asked since.
     asked: Vec<AtomicU64>,
-    /// Of each variable of the graph, itself and those from which it follows, as bits.
-    above: Vec<u64>,
+    /// Of each variable of the graph, itself and those from which it follows, as bits; 0 of one that isn't known yet.
+    above: Vec<AtomicU64>,
 }
 
 /// A gate around another one, which lets one worker at a time to a variable, and none while another is at a variable from which it follows: what comes of that would have to be taken in, too. Where a worker stays for long, the others wait no more. The gate within is asked by who has its turn. It changes when a job is done, and never what comes of it.
@@ -25,6 +26,7 @@ pub(crate) struct Visits {
 pub(crate) struct Turns<'a, G> {
     pub(crate) gate: &'a G,
     pub(crate) visits: &'a Visits,
+    pub(crate) worth: &'a Worth,
 }
 
 /// A variable as a bit.
@@ -32,40 +34,45 @@ fn bit(var: u8) -> u64 {
     1u64.wrapping_shl(u32::from(var))
 }
 
-/// The bits of a variable; of one that isn't there, its own.
-fn bits_at(above: &[u64], var: u8) -> u64 {
-    match above.get(usize::from(var)) {
-        Some(bits) => *bits,
-        None => bit(var),
-    }
-}
-
-/// Of each variable, itself and those from which it follows. Where memory is short, of the first ones.
-fn bits_above(alloc: Global, graph: &Graph) -> Vec<u64> {
-    let mut above = Vec::new(alloc);
-    for y in 0..graph.len() {
-        let bits = match graph.at(y).kind.inputs() {
-            Some((first, second)) => bits_at(&above, first) | bits_at(&above, second),
-            None => 0,
-        };
-        if above.push(bits | bit(y as u8)).is_err() {
-            return above;
+/// So many words of zeros, or fewer where memory is short.
+fn zeros(alloc: Global, many: usize) -> Vec<AtomicU64> {
+    let mut words = Vec::new(alloc);
+    for _ in 0..many {
+        if words.push(AtomicU64::new(0)).is_err() {
+            break;
         }
     }
-    above
+    words
 }
 
 impl Visits {
     /// Nobody is anywhere. Where memory is short, nobody is kept out of the variables of the last nodes.
-    pub(crate) fn new(alloc: Global, graph: &Graph, nodes: u8) -> Visits {
-        let mut asked = Vec::new(alloc);
-        for _ in 0..usize::from(VARIABLES) * usize::from(nodes) {
-            if asked.push(AtomicU64::new(0)).is_err() {
-                break;
+    pub(crate) fn new(alloc: Global, nodes: u8) -> Visits {
+        Visits {
+            asked: zeros(alloc, usize::from(VARIABLES) * usize::from(nodes)),
+            above: zeros(alloc, usize::from(VARIABLES)),
+        }
+    }
+
+    /// Notes which variable follows from which.
+    pub(crate) fn learn(&self, graph: &Graph) {
+        for y in 0..graph.len() {
+            let bits = match graph.at(y).kind.inputs() {
+                Some((first, second)) => self.above(first) | self.above(second),
+                None => 0,
+            };
+            if let Some(above) = self.above.get(y as usize) {
+                above.store(bits | bit(y as u8), Ordering::SeqCst);
             }
         }
-        let above = bits_above(alloc, graph);
-        Visits { asked, above }
+    }
+
+    /// The bits of a variable and of those from which it follows; of one that isn't known, its own.
+    fn above(&self, var: u8) -> u64 {
+        match self.above.get(usize::from(var)) {
+            Some(above) => above.load(Ordering::SeqCst) | bit(var),
+            None => bit(var),
+        }
     }
 
     fn at(&self, node: u8, var: u8) -> Option<&AtomicU64> {
@@ -95,7 +102,7 @@ impl Visits {
 
     /// Whether a worker is at the variable, or at one from which it follows.
     fn is_busy(&self, node: u8, var: u8) -> bool {
-        let above = bits_at(&self.above, var);
+        let above = self.above(var);
         for x in 0..VARIABLES {
             if above & bit(x) != 0 && self.is_taken(node, x) {
                 return true;
@@ -133,7 +140,9 @@ impl<G: Gate> Gate for Turns<'_, G> {
             return false;
         }
         let is_admitted = self.gate.admits(worker, node, var);
-        if !is_admitted {
+        if is_admitted {
+            self.worth.begin();
+        } else {
             self.visits.end(node, var);
         }
         is_admitted
@@ -141,6 +150,7 @@ impl<G: Gate> Gate for Turns<'_, G> {
 
     fn leaves(&self, worker: u32, node: u8, var: u8) {
         self.gate.leaves(worker, node, var);
+        self.worth.end();
         self.visits.end(node, var);
     }
 

@@ -18,7 +18,7 @@ pub(crate) trait Works<T>: Drop {
 
     ghost place: { Self → Place };
 
-    /// Works until the stretch has ended and nothing is left to do.
+    /// Works at each call until that stretch has ended and nothing is left to do, and ends with the run.
     fn work(&mut self, tools: &T, shared: &Shared)
         ensures { place self.new ≡ place self.old };
 }
@@ -42,10 +42,31 @@ impl<R: Wait, G: Gate> Works<Library> for Worker<'_, R, G> {
     ghost place = { λ w. spots_of w.replicas };
 
     fn work(&mut self, lib: &Library, shared: &Shared) {
+        if !shared.calls.enter() {
+            return;
+        }
+        let mut last = 0;
+        for _ in self.rt.forever() {
+            match shared.calls.next(self.rt, last) {
+                None => return,
+                Some(number) => last = number,
+            }
+            self.work_once(lib, shared);
+            shared.calls.answer();
+        }
+    }
+}
+
+impl<R: Wait, G: Gate> Worker<'_, R, G> {
+    /// Works until the stretch has ended and nothing is left to do.
+    fn work_once(&mut self, lib: &Library, shared: &Shared)
+        ensures { spots_of self.new.replicas ≡ spots_of self.old.replicas }
+    {
         let mut steps = StepLib::new(lib);
         let turns = Turns {
             gate: self.gate,
             visits: &shared.visits,
+            worth: &shared.worth,
         };
         // what it leaves undone for want of memory the next point does
         let _ = work(

@@ -16,22 +16,25 @@ use lasp_fns::StepLib;
 use std::alloc::{AllocError, Global};
 use std::sync::Wait;
 use std::sync::atomic::{AtomicBool, Ordering};
-use std::thread::Parker;
+use std::thread::{Parker, yield_now};
 use std::time::Duration;
 
-/// How long a worker rests at first before it asks, in microseconds: what little comes together is evaluated together.
-const SHORTEST_REST: u32 = 64;
+/// How long a worker rests at first before it asks, in microseconds: what comes together is evaluated together.
+const SHORTEST_REST: u32 = 4_096;
 
 /// How long it rests at most.
-const LONGEST_REST: u32 = 16384;
+const LONGEST_REST: u32 = 262_144;
 
-/// How long it rests at most where all that is left is what the gate keeps it from.
-const LONGEST_WAIT: u32 = 1024;
+/// How long a part of a rest is, behind which it sees whether more comes.
+const PART: u32 = 256;
 
-/// In how many parts it rests, and sees before each whether more comes.
-const PARTS: u32 = 4;
+/// How often it lets others run where all that is left is what the gate keeps it from, before it rests.
+const TURNS: u32 = 64;
 
-/// Takes a job of each replica in turn, passes the gate, evaluates the job and hands its result in, round after round, and tells how many jobs were finished, held at the greatest number of 64 bits. It ends after a round that began with `more` lowered and found nothing to do. While `more` is raised, a worker rests before each round, four times as long as before the last one, 16 milliseconds at most, so that what little comes together is evaluated together; it ends its rest early where `more` is lowered. Behind that it rests only where all that is left to do is what the gate keeps it from, a millisecond at most.
+/// How long it rests at most where that is all.
+const LONGEST_WAIT: u32 = 1_024;
+
+/// Takes a job of each replica in turn, passes the gate, evaluates the job and hands its result in, round after round, and tells how many jobs were finished, held at the greatest number of 64 bits. It ends after a round that began with `more` lowered and found nothing to do. While `more` is raised, a worker rests before each round, four milliseconds at first, four times as long as before the last one, and a quarter of a second at most, so that what comes together is evaluated together; it ends its rest within a quarter of a millisecond where `more` is lowered. Behind that it waits only where all that is left to do is what the gate keeps it from: it lets others run, and then rests, a millisecond at most.
 ///
 /// A replica whose job can't be evaluated, since the library lacks a function of its graph or the result would have more than 65,536 rows, is left for the rest of the call. Where there is no memory, all jobs were given back. It may wait for others where a replica's calls do.
 pub fn work<R: Wait, J: Jobs, G: Gate>(
@@ -54,6 +57,7 @@ pub fn work<R: Wait, J: Jobs, G: Gate>(
     leave_none(items);
     let mut finished: u64 = 0;
     let mut pause: u32 = SHORTEST_REST;
+    let mut waits: u32 = 0;
     for _ in rt.forever() {
         rest_for_more(rt, pause, more);
         let is_last = !more.load(Ordering::SeqCst);
@@ -63,9 +67,7 @@ pub fn work<R: Wait, J: Jobs, G: Gate>(
             if round.is_done {
                 return Ok(finished);
             }
-            if round.finished == 0 {
-                rest(rt, LONGEST_WAIT.min(pause));
-            }
+            waits = give_way(rt, waits, round.finished);
         }
         pause = LONGEST_REST.min(4 * pause);
     }
@@ -74,12 +76,26 @@ pub fn work<R: Wait, J: Jobs, G: Gate>(
 
 /// Rests as long as more comes, for so many microseconds at most.
 fn rest_for_more<R: Wait>(rt: &R, micros: u32, more: &AtomicBool) {
-    for _ in 0..PARTS {
+    for _ in 0..micros / PART {
         if !more.load(Ordering::SeqCst) {
             return;
         }
-        rest(rt, micros / PARTS);
+        rest(rt, PART);
     }
+}
+
+/// Lets others go on behind a round that finished so many jobs, the longer the more such rounds before it finished none. Tells how many did.
+fn give_way<R: Wait>(rt: &R, waits: u32, finished: u64) -> u32 {
+    if finished > 0 {
+        return 0;
+    }
+    if waits < TURNS {
+        yield_now();
+    } else {
+        let micros = waits.saturating_sub(TURNS).saturating_mul(8);
+        rest(rt, LONGEST_WAIT.min(micros));
+    }
+    waits.saturating_add(1)
 }
 
 /// Sleeps for so many microseconds.

@@ -13,3 +13,5 @@ mod rest;
 mod turns;
 #[cfg(test)]
 mod upstream;
+#[cfg(test)]
+mod worth;

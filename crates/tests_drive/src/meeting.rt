@@ -7,7 +7,7 @@ use std::sync::Wait;
 use std::sync::atomic::{AtomicBool, AtomicU32, Ordering};
 use std::test::Fail;
 
-/// How often a worker in its job looks for another, at most: ten times as often as one that is kept out of a variable asks before it is let in.
+/// How often a worker in its job looks for another, at most: five times as often as one that is kept out of a variable asks before it is let in.
 const MOST_LOOKS: u32 = 10_000;
 
 /// A gate that holds each worker in its job until two are in theirs at once, or it has looked for another often enough.

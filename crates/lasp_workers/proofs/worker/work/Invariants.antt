@@ -13,5 +13,5 @@ invariant-loop g l = record {
       × HaveWorked g.J.Jobs.place g.J.Jobs.frame g.J.Jobs.caller g.J.Jobs.list g.J.Jobs.looks g.J.Jobs.rows_owed n (counted.ticks_of l.fn.lib) (counted.ticks_of l.lib) (pairs_of l.fn.replicas) (map pair_of l.items.items);
   left : All (IsLeftDone g.J.Jobs.frame g.J.Jobs.list (library_of (counted.library_of l.fn.lib))) l.items.items;
   library : counted.library_of l.lib ≡ counted.library_of l.fn.lib;
-  short : l.pause ≤ 16384;
+  short : l.pause ≤ 262144;
 }
