@@ -1,8 +1,9 @@
 -- What a feed that was lent keeps.
-use Rattle.std.proofs.Common.{◌≡◌, List, [], Option, Some, None, Result, Ok, Err, refl, sym, ap, subst, ◌∙◌}
+use Rattle.std.proofs.Common.{◌≡◌, List, [], ◌++◌, Option, Some, None, Result, Ok, Err, refl, sym, ap, subst, ◌∙◌, append-nil, append_assoc}
 use Rattle.std.specs.Prelude.{OnOk}
 use Rattle.model_states.specs.Content.{Content}
 use Rattle.model_world.specs.World.{shown_at}
+use Rattle.model_journal.specs.Entry.{Entry}
 use Rattle.lasp_core.specs.Watched.{IsBusy}
 use Rattle.lasp_core.specs.declared.watched.Try.{Try}
 use Rattle.lasp_core.specs.declared.watched.Try.TheVariants.{Busy, Refused}
@@ -10,9 +11,11 @@ use Rattle.lasp_histlock.specs.Names.{LockId}
 use Rattle.lasp_histlock.specs.Passes.{after_miss}
 use Rattle.lasp_drive.specs.Node.{Learns, LearnsAnd, OnlyLearns}
 use Rattle.lasp_drive.specs.Reads.{Reads, as_they_are}
+use Rattle.lasp_core.specs.Listed.{GoesOn}
 use Rattle.lasp_store.specs.Turn.{Knows, HadTurn, TriedTurn}
 use Rattle.lasp_store.specs.Settled.{KnowsOwn}
 use Rattle.lasp_store.specs.Tried.{IfRefused}
+use Rattle.lasp_store.proofs.TurnLaws.{turn-seen}
 use Rattle.lasp_store_node.specs.View.{node_of, IsFeed}
 use Rattle.lasp_store_node.specs.Lent.{IsLent, IsLentFrom}
 use Rattle.lasp_store_node.proofs.FeedLaws.{turn-learns, turn-place}
@@ -42,7 +45,10 @@ its-own store p f = record { seated = record { lock = refl; idle = f.seated.idle
 
 -- a feed that is lent
 pub just-lent : (start : Option Knows) (store : LockId) (p : Knows) → start ≡ Some p → IsFeed store p → IsLentFrom start p
-just-lent start store p is f = subst (λ (o : Option Knows). IsLentFrom o p) (sym is) (record { feed = its-own store p f; place = refl; learns = learns-nothing p })
+just-lent start store p is f = subst (λ (o : Option Knows). IsLentFrom o p) (sym is) (record { feed = its-own store p f; place = refl; learns = learns-nothing p; goes_on = ([], sym (append-nil p.seen)) })
+
+goes-on-chain : (a b c : List Entry) → GoesOn a b → GoesOn b c → GoesOn a c
+goes-on-chain a b c x y = (x.0 ++ y.0, y.1 ∙ ap (λ (l : List Entry). l ++ y.0) x.1 ∙ append_assoc a x.0 y.0)
 
 lent-turn : (start old new : Knows) → IsLent start old → KnowsOwn old → KnowsOwn new → HadTurn [] old new → IsLent start new
 lent-turn start old new l own-old own-new t = record {
@@ -52,6 +58,7 @@ lent-turn start old new l own-old own-new t = record {
   };
   place = turn-place old new [] l.feed.seated.idle t ∙ l.place;
   learns = learns-chain as_they_are start old new l.learns.learns (turn-learns as_they_are old.lock old old new refl l.feed own-old own-new t).learns;
+  goes_on = goes-on-chain start.seen old.seen new.seen l.goes_on (turn-seen [] old new t);
 }
 
 lent-miss : (start old new : Knows) → IsLent start old → new ≡ after_miss old → IsLent start new
@@ -59,6 +66,7 @@ lent-miss start old new l is = subst (IsLent start) (sym is) (record {
   feed = record { seated = record { lock = refl; idle = l.feed.seated.idle; framed = l.feed.seated.framed; legal = l.feed.seated.legal }; first = l.feed.first };
   place = l.place;
   learns = l.learns;
+  goes_on = l.goes_on;
 })
 
 polled : {A E : Type 0} (start old new : Knows) (r : Result A (Try E)) → IsLent start old → KnowsOwn old → KnowsOwn new → (IsBusy r → new ≡ after_miss old) → OnOk r (TriedTurn [] old new) → IfRefused r (λ why. TriedTurn [] old new) → IsLent start new

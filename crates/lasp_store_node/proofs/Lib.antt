@@ -1,3 +1,5 @@
 pub mod FeedLaws
 pub mod CallLaws
 pub mod LentLaws
+pub mod WindowLaws
+pub mod CountedLaws

@@ -1,7 +1,8 @@
 -- The feed of a store as a run's node has it.
 use Rattle.std.specs.Prelude.{◌≡◌, ℕ, Bool, List, Option, None}
+use Rattle.model_states.specs.Counts.{AreCountsAtMost}
 use Rattle.model_journal.specs.Entry.{Frame}
-use Rattle.model_journal.specs.Journal.{vals}
+use Rattle.model_journal.specs.Journal.{vals, counts}
 use Rattle.model_core.specs.Peer.{peer_of}
 use Rattle.model_runs.specs.Calls.{unbound}
 use Rattle.lasp_histlock.specs.Names.{LockId}
@@ -36,3 +37,7 @@ place_of p = record { lock = p.lock; number = p.number; frame = p.frame; turn = 
 pub record IsFeed (store : LockId) (p : Knows) : Type 0 where
   pub seated : IsSeated store p
   pub first : p.number ≡ 0
+
+-- the feed has seen that so much was counted
+abbrev pub AreCounted : List ℕ → Knows → Type 0
+AreCounted known p = AreCountsAtMost known (counts (frame_of p) p.seen)

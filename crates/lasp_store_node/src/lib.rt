@@ -8,7 +8,10 @@
 //! ```
 #![tactic(auto)]
 
+mod counted;
 mod lent;
 mod node;
+mod shows;
+mod window;
 
 pub use node::StoreNode;

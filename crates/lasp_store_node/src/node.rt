@@ -1,20 +1,28 @@
 //! The node: a store, asked by its feed.
 
-ghost use Rattle.std.specs.Prelude.{◌≡◌, ◌<◌, IfOk, length};
+ghost use Rattle.std.specs.Prelude.{◌≡◌, ◌<◌, IfOk, OnOk, length};
 ghost use Rattle.std.specs.Arc.{arc_value};
-ghost use Rattle.model_world.specs.World.{message_at};
+ghost use Rattle.model_graph.specs.Evaluation.{first_large};
+ghost use Rattle.model_world.specs.World.{message_at, delivered, shown_at};
 ghost use Rattle.model_journal.specs.Entry.{Frame};
+ghost use Rattle.model_journal.specs.Entry as model;
 ghost use Rattle.model_core.specs.Peer.{peer_of};
+ghost use Rattle.model_runs.specs.Held.{IsSentTo};
+ghost use Rattle.model_runs.specs.Part.{BringsAsMuch};
+ghost use Rattle.model_readings.specs.Lawful.{FitsAll};
+ghost use Rattle.lasp_graph.specs.Library.{library_of};
 ghost use Rattle.lasp_graph.specs.States.{held_of};
 ghost use Rattle.lasp_core.specs.Core.{IsOpen, state_after};
 ghost use Rattle.lasp_core.specs.Reads.{read_of};
 ghost use Rattle.lasp_state.specs.Threshold.{threshold_of};
 ghost use Rattle.lasp_histlock.specs.Passes.{first_pass};
 ghost use Rattle.lasp_store.specs.Turn.{graph_seen, frame_of};
-ghost use Rattle.lasp_drive.specs.Node.{IsFresh, OnlyLearns};
-ghost use Rattle.lasp_store_node.specs.View.{node_of, Place, place_of, IsFeed};
+ghost use Rattle.lasp_drive.specs.Node.{IsFresh, IsSettled, OnlyGrew, OnlyLearns, Settles, Delivers, TakesIn};
+ghost use Rattle.lasp_store_node.specs.View.{node_of, Place, place_of, IsFeed, AreCounted};
 
+use crate::counted::joined;
 use crate::lent::await_read;
+use crate::window::Window;
 use lasp_core::{DeliverRefused, ReadNo, Settle, UpdateRefused};
 use lasp_drive::{Node, NodeStop};
 use lasp_fns::Library;
@@ -27,19 +35,23 @@ use std::marker::Model;
 use std::random::RandomSource;
 use std::sync::{Arc, Wait};
 
-/// A node whose replica is in a store, which others may use meanwhile by hands of their own. Each call is a turn of the feed, so it may wait for who has the core; settling takes a turn or two for each variable. Contracts see it as its feed.
+/// A node whose replica is in a store, which others may use meanwhile by hands of their own. Each call is a turn of the feed, so it may wait for who has the core; settling takes a turn or two for each variable, and then publishes what is settled on a shelf of the node's, by which a state is shown without a turn. Contracts see it as its feed.
 #[derive(Drop)]
-pub struct StoreNode<'a, R> {
-    rt: &'a R,
-    store: &'a Store,
-    feed: Feed,
+pub struct StoreNode<'a, R: Wait> {
+    pub(crate) rt: &'a R,
+    pub(crate) store: &'a Store,
+    pub(crate) feed: Feed,
+    /// Where it published at the last point. It is closed before a change: what is published is shared, and a shared state is copied where it changes.
+    pub(crate) window: Option<Window<'a, R>>,
+    /// What it counted at least, as far as messages that it took told.
+    known: Option<Counts>,
 }
 
-impl<'a, R> Model for StoreNode<'a, R> {
+impl<'a, R: Wait> Model for StoreNode<'a, R> {
     ghost use Rattle.std.specs.Coded.{codes};
     ghost use Rattle.lasp_core.specs.Coded.{coded_entry, coded_frame};
     ghost use Rattle.lasp_store.specs.Turn.{Knows};
-    ghost use Rattle.lasp_store_node.specs.View.{IsFeed};
+    ghost use Rattle.lasp_store_node.specs.Window.{IsOwn};
 
     ghost Value = { Knows };
 
@@ -47,20 +59,26 @@ impl<'a, R> Model for StoreNode<'a, R> {
 
     ghost view = { λ n. n.feed };
 
-    ghost invariant = { λ n. IsFeed n.store.now n.feed };
+    ghost invariant = { λ n. IsOwn n.store.now n.feed n.window n.known };
 }
 
-impl<'a, R> StoreNode<'a, R> {
+impl<'a, R: Wait> StoreNode<'a, R> {
     /// The node of a store and its feed.
     pub fn new(rt: &'a R, store: &'a Store, feed: Feed) -> StoreNode<'a, R>
         requires { IsFeed store.now feed }
         ensures feed { result ≡ feed }
         ensures fresh { (X : Frame) → feed ≡ first_pass store.now X → IsFresh X.opening X.nodes X.replica (node_of result) }
     {
-        StoreNode { rt, store, feed }
+        StoreNode {
+            rt,
+            store,
+            feed,
+            window: None,
+            known: None,
+        }
     }
 
-    /// The feed, which is still that of the node's store and in no turn.
+    /// The feed, which is still that of the node's store and in no turn. The node's shelf is closed.
     pub fn into_feed(self) -> Feed
         ensures feed { result ≡ self.entry }
         ensures is_feed { IsFeed result.lock result }
@@ -71,7 +89,8 @@ impl<'a, R> StoreNode<'a, R> {
 
 impl<R: Wait> StoreNode<'_, R> {
     /// The state of a variable, shared.
-    fn look(&mut self, x: u8) -> Result<Arc<State>, AllocError>
+    #[tactic(auto, using(crate::proofs::WindowLaws::windows, crate::proofs::CountedLaws::stays_counted))]
+    pub(crate) fn look(&mut self, x: u8) -> Result<Arc<State>, AllocError>
         requires { x < length (graph_seen self.old) }
         ensures state { IfOk result (λ s. held_of (arc_value s) ≡ state_after (frame_of self.new) self.new.seen x) }
         ensures learns { OnlyLearns (node_of self.old) (node_of self.new) }
@@ -84,6 +103,7 @@ impl<R: Wait> StoreNode<'_, R> {
     }
 
     /// Opens a read.
+    #[tactic(auto, using(crate::proofs::WindowLaws::windows, crate::proofs::CountedLaws::stays_counted))]
     fn open(&mut self, x: u8, threshold: Threshold) -> Result<ReadNo, AllocError>
         requires { IsOpen (frame_of self.old) self.old.seen (record { number = 0; var = x; threshold = threshold_of threshold }) }
         ensures open { IfOk result (λ r. IsOpen (frame_of self.new) self.new.seen (read_of r)) }
@@ -97,6 +117,7 @@ impl<R: Wait> StoreNode<'_, R> {
     }
 
     /// What it sends.
+    #[tactic(auto, using(crate::proofs::WindowLaws::windows, crate::proofs::CountedLaws::stays_counted))]
     fn sent(&mut self, alloc: Global) -> Result<Message, AllocError>
         ensures message { IfOk result (λ m. m ≡ message_at (graph_seen self.old) (peer_of (frame_of self.old) self.old.seen)) }
         ensures learns { OnlyLearns (node_of self.old) (node_of self.new) }
@@ -107,10 +128,71 @@ impl<R: Wait> StoreNode<'_, R> {
         self.feed.known();
         message
     }
+
+    /// Takes message i, by a part that brings as much.
+    fn take(&mut self, i: u32, m: &Arc<Message>, part: &Message) -> Result<(), NodeStop>
+        requires sent { IsSentTo (node_of self.old).among (node_of self.old).decls (arc_value m.now) }
+        requires part { BringsAsMuch (node_of self.old).decls (node_of self.old).peer.contents (arc_value m.now) part.now }
+        ensures done { Delivers (delivered (node_of self.old).decls (arc_value m.now) (node_of self.old).peer) result (node_of self.new).peer }
+        ensures takes { TakesIn (model.Deliver i (arc_value m.now)) (node_of self.old) result (node_of self.new) }
+        ensures counted { OnOk result (AreCounted (arc_value m.now).counts self.new) }
+        ensures place { place_of self.new ≡ place_of self.old }
+    {
+        self.window = None;
+        self.feed.known();
+        match self.store.deliver_part(self.rt, &mut self.feed, i, m, part) {
+            Ok(_) => {
+                self.feed.known();
+                Ok(())
+            }
+            Err(DeliverRefused::TooManyRows(x)) => {
+                self.feed.known();
+                Err(NodeStop::TooLarge(x))
+            }
+            Err(DeliverRefused::Memory) => {
+                self.feed.known();
+                Err(NodeStop::Memory)
+            }
+            Err(DeliverRefused::WrongGraph) => {
+                self.feed.known();
+                unreachable!()
+            }
+        }
+    }
+
+    /// Keeps that these counts are counted.
+    fn note(&mut self, alloc: Global, counts: &Counts)
+        requires { AreCounted counts.now self.old }
+        ensures { self.new ≡ self.old }
+    {
+        self.known = joined(self.known.take(), alloc, counts);
+    }
+}
+
+impl<R: Wait> StoreNode<'_, R> {
+    /// Settles the store.
+    #[tactic(auto, using(crate::proofs::WindowLaws::windows, crate::proofs::CountedLaws::stays_counted))]
+    fn settle_all(&mut self, alloc: Global, lib: &Library) -> Result<(), NodeStop>
+        requires { FitsAll (library_of lib.now) (graph_seen self.old) }
+        ensures done { Settles (first_large 0 (shown_at (graph_seen self.old) (node_of self.old).peer)) result }
+        ensures settled { OnOk result (IsSettled (node_of self.new)) }
+        ensures grew { OnlyGrew (node_of self.old) (node_of self.new) }
+        ensures place { place_of self.new ≡ place_of self.old }
+    {
+        self.feed.known();
+        let settled = self.store.settle_all(self.rt, alloc, &mut self.feed, lib);
+        self.feed.known();
+        match settled {
+            Ok(_) => Ok(()),
+            Err(Settle::TooLarge(x)) => Err(NodeStop::TooLarge(x)),
+            Err(Settle::Memory) => Err(NodeStop::Memory),
+        }
+    }
 }
 
 impl<R: Wait + RandomSource + AllocGlobal> StoreNode<'_, R> {
     /// Opens a read and waits for it.
+    #[tactic(auto, using(crate::proofs::WindowLaws::windows, crate::proofs::CountedLaws::stays_counted))]
     fn read_to_threshold(&mut self, x: u8, threshold: Threshold) -> Result<(), AllocError>
         requires { IsOpen (frame_of self.old) self.old.seen (record { number = 0; var = x; threshold = threshold_of threshold }) }
         ensures learns { OnlyLearns (node_of self.old) (node_of self.new) }
@@ -136,7 +218,9 @@ impl<R: Wait + RandomSource + AllocGlobal> Node for StoreNode<'_, R> {
         self.feed.known();
     }
 
-    fn update(&mut self, _alloc: Global, x: u8, op: &Op) -> Result<(), NodeStop> {
+    // it looks at all rows
+    fn update(&mut self, _alloc: Global, x: u8, op: &Op, _is_known: bool) -> Result<(), NodeStop> {
+        self.window = None;
         self.feed.known();
         match self.store.update(self.rt, &mut self.feed, x, op) {
             Ok(_) => {
@@ -168,33 +252,22 @@ impl<R: Wait + RandomSource + AllocGlobal> Node for StoreNode<'_, R> {
 
     fn deliver(
         &mut self,
-        _alloc: Global,
+        alloc: Global,
         i: u32,
         m: &Arc<Message>,
-        _part: &Message,
+        part: &Message,
     ) -> Result<(), NodeStop> {
-        self.feed.known();
-        match self.store.deliver(self.rt, &mut self.feed, i, m) {
-            Ok(_) => {
-                self.feed.known();
+        match self.take(i, m, part) {
+            Ok(()) => {
+                self.note(alloc, m.counts());
                 Ok(())
             }
-            Err(DeliverRefused::TooManyRows(x)) => {
-                self.feed.known();
-                Err(NodeStop::TooLarge(x))
-            }
-            Err(DeliverRefused::Memory) => {
-                self.feed.known();
-                Err(NodeStop::Memory)
-            }
-            Err(DeliverRefused::WrongGraph) => {
-                self.feed.known();
-                unreachable!()
-            }
+            Err(stop) => Err(stop),
         }
     }
 
     fn extend(&mut self, _alloc: Global, graph: &Arc<Graph>) -> Result<(), AllocError> {
+        self.window = None;
         self.feed.known();
         let extended = self
             .store
@@ -203,21 +276,18 @@ impl<R: Wait + RandomSource + AllocGlobal> Node for StoreNode<'_, R> {
         extended
     }
 
+    #[tactic(auto, using(crate::proofs::WindowLaws::shows))]
     fn settle(&mut self, alloc: Global, lib: &Library) -> Result<(), NodeStop> {
-        self.feed.known();
-        let settled = self.store.settle_all(self.rt, alloc, &mut self.feed, lib);
-        self.feed.known();
-        match settled {
-            Ok(_) => Ok(()),
-            Err(Settle::TooLarge(x)) => Err(NodeStop::TooLarge(x)),
-            Err(Settle::Memory) => Err(NodeStop::Memory),
-        }
+        self.settle_all(alloc, lib)?;
+        self.publish(alloc);
+        Ok(())
     }
 
     fn state(&mut self, x: u8) -> Result<Arc<State>, AllocError> {
-        self.look(x)
+        self.show(x)
     }
 
+    #[tactic(auto, using(crate::proofs::WindowLaws::windows, crate::proofs::CountedLaws::stays_counted))]
     fn open_read(
         &mut self,
         _alloc: Global,
@@ -239,13 +309,20 @@ impl<R: Wait + RandomSource + AllocGlobal> Node for StoreNode<'_, R> {
         }
     }
 
+    #[tactic(auto, using(crate::proofs::WindowLaws::windows, crate::proofs::CountedLaws::stays_counted))]
     fn close_read(&mut self, r: &ReadNo) {
         self.feed.known();
         self.store.close_read(self.rt, &mut self.feed, r);
         self.feed.known();
     }
 
-    fn reached(&mut self, _alloc: Global, x: u8, threshold: Threshold) -> Result<bool, AllocError> {
+    fn reached(
+        &mut self,
+        _alloc: Global,
+        x: u8,
+        threshold: Threshold,
+        _is_known: bool,
+    ) -> Result<bool, AllocError> {
         let state = self.look(x)?;
         if !threshold.meets(&state) {
             return Ok(false);
@@ -260,8 +337,11 @@ impl<R: Wait + RandomSource + AllocGlobal> Node for StoreNode<'_, R> {
         Counts::from_slice(alloc, message.counts().as_slice())
     }
 
-    // it looks at whole messages, so there is nothing to tell yet
-    fn has_counted(&self, _counts: &Counts) -> bool {
-        false
+    // (what it counted besides may be told by a message that it took)
+    fn has_counted(&self, counts: &Counts) -> bool {
+        match &self.known {
+            Some(known) => known.len() == counts.len() && counts.is_at_most(known),
+            None => false,
+        }
     }
 }

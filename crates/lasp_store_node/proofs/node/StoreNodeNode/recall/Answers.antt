@@ -12,6 +12,6 @@ returns g c =
     subst (λ (p : Knows). ShowsNoMore (node_of p)) c.self.view_is (let p = c.self.inside.feed in
     record {
       sources = λ x low source. sym (sources-source (graph (frame_of p) p.seen) (vals (frame_of p) p.seen) x low source);
-      bounded = vals-below-eval (frame_of p) p.seen c.self.invariant.seated.legal;
+      bounded = vals-below-eval (frame_of p) p.seen c.self.invariant.feed.seated.legal;
       unmet = tt;
     })

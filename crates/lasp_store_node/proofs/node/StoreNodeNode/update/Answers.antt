@@ -1,5 +1,5 @@
-use Rattle.std.proofs.Common.{rules, inl, inr, List, Result, refl, sym, subst}
-use Rattle.model_journal.specs.Entry.{Update, Entry}
+use Rattle.std.proofs.Common.{◌∷◌, [], rules, inl, inr, List, Result, refl, sym, subst}
+use Rattle.model_journal.specs.Entry.{Update, Entry, entry}
 use Rattle.model_world.specs.World.{updated}
 use Rattle.model_core.specs.Peer.{peer_of}
 use Rattle.lasp_state.specs.State.{op_of}
@@ -9,6 +9,7 @@ use Rattle.lasp_drive.specs.Node.{MayUpdate, Updates, TakesIn}
 use Rattle.lasp_drive.specs.declared.node.NodeStop.{NodeStop}
 use Rattle.lasp_store_node.specs.View.{node_of}
 use Rattle.lasp_store_node.proofs.CallLaws.{HasTurned, takes-ok, takes-none, update-ok, update-large, update-refused}
+use Rattle.lasp_store_node.proofs.CountedLaws.{tried-own}
 use Rattle.lasp_store_node.proofs.node.StoreNodeNode.update.Goals.{in-Ok, in-Err-TooManyRows, in-Err-Memory}
 use Rattle.lasp_store_node.proofs.node.StoreNodeNode.update.Goals as goal
 
@@ -17,13 +18,13 @@ unreachable-requires g c =
     let new = c.update.new.f in
     let turned : (more : List Entry) → KnowsOwn new → HadTurn more c.self.inside.feed new → HasTurned c.self.inside.store.now more c.args.self.now new = λ more knows t.
     subst (λ (p : Knows). HasTurned c.self.inside.store.now more p new) c.self.view_is (record {
-      was = c.self.invariant;
+      was = c.self.invariant.feed;
       knew = record { own = c.known.ensures.own; allowed = c.known.ensures.allowed };
       knows = knows;
       turn = t;
     }) in
     let old = c.args.self.now in
-    let may : MayUpdate (node_of old) c.args.x c.args.op.now = record { held = c.requires.held; member = c.requires.member; var = c.requires.var; may = c.requires.may; suits_it = c.requires.suits_it; room = c.requires.room } in
+    let may : MayUpdate (node_of old) c.args.x c.args.op.now = record { held = c.requires.may.held; member = c.requires.may.member; var = c.requires.may.var; may = c.requires.may.may; suits_it = c.requires.may.suits_it; room = c.requires.may.room } in
     elim (update-refused _ old new c.args.x c.args.op.now c.in-Err.field-0 may (turned _ (record { own = c.known-in-Err.ensures.own; allowed = c.known-in-Err.ensures.allowed }) c.in-Err.ensures.err) c.in-Err.ensures.answer) [
       | inl is ↦ search rules
       | inr is ↦ search rules
@@ -34,13 +35,13 @@ returns-clause-done g c =
     let new = c.update.new.f in
     let turned : (more : List Entry) → KnowsOwn new → HadTurn more c.self.inside.feed new → HasTurned c.self.inside.store.now more c.args.self.now new = λ more knows t.
     subst (λ (p : Knows). HasTurned c.self.inside.store.now more p new) c.self.view_is (record {
-      was = c.self.invariant;
+      was = c.self.invariant.feed;
       knew = record { own = c.known.ensures.own; allowed = c.known.ensures.allowed };
       knows = knows;
       turn = t;
     }) in
     let old = c.args.self.now in
-    let may : MayUpdate (node_of old) c.args.x c.args.op.now = record { held = c.requires.held; member = c.requires.member; var = c.requires.var; may = c.requires.may; suits_it = c.requires.suits_it; room = c.requires.room } in
+    let may : MayUpdate (node_of old) c.args.x c.args.op.now = record { held = c.requires.may.held; member = c.requires.may.member; var = c.requires.may.var; may = c.requires.may.may; suits_it = c.requires.may.suits_it; room = c.requires.may.room } in
     let expected = updated (frame_of old).replica c.args.x (op_of c.args.op.now) (peer_of (frame_of old) old.seen) in
     elim c.match-update.branch [
       | in-Ok w ↦ subst (λ (r : Result (Unit {0}) NodeStop). Updates expected c.args.x r (peer_of (frame_of new) new.seen)) (sym w.result-is)
@@ -55,7 +56,7 @@ returns-clause-takes g c =
     let new = c.update.new.f in
     let turned : (more : List Entry) → KnowsOwn new → HadTurn more c.self.inside.feed new → HasTurned c.self.inside.store.now more c.args.self.now new = λ more knows t.
     subst (λ (p : Knows). HasTurned c.self.inside.store.now more p new) c.self.view_is (record {
-      was = c.self.invariant;
+      was = c.self.invariant.feed;
       knew = record { own = c.known.ensures.own; allowed = c.known.ensures.allowed };
       knows = knows;
       turn = t;
@@ -67,3 +68,7 @@ returns-clause-takes g c =
       | in-Err-TooManyRows w ↦ subst (λ (r : Result (Unit {0}) NodeStop). TakesIn a (node_of old) r (node_of new)) (sym w.result-is) (takes-none _ old new a _ (turned _ (record { own = w.known-in-Err-TooManyRows.ensures.own; allowed = w.known-in-Err-TooManyRows.ensures.allowed }) w.in-Err-TooManyRows.ensures.err))
       | in-Err-Memory w ↦ subst (λ (r : Result (Unit {0}) NodeStop). TakesIn a (node_of old) r (node_of new)) (sym w.result-is) (takes-none _ old new a _ (turned _ (record { own = w.known-in-Err-Memory.ensures.own; allowed = w.known-in-Err-Memory.ensures.allowed }) w.in-Err-Memory.ensures.err))
     ]
+
+pub invariant_of-self : goal.invariant_of-self
+invariant_of-self g c =
+    tried-own c.self.inside.store.now c.self.inside.window c.self.inside.known (entry 0 (Update c.args.x (op_of c.args.op.now)) ∷ []) c.self.inside.feed c.update.new.f c.update.result c.update.ensures.ok c.update.ensures.err c.self.invariant

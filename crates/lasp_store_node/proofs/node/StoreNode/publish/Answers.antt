@@ -1,0 +1,13 @@
+use Rattle.lasp_drive.specs.Reads.{as_they_are}
+use Rattle.lasp_store_node.proofs.FeedLaws.{turn-learns}
+use Rattle.lasp_store_node.proofs.WindowLaws.{learned-chain}
+use Rattle.lasp_store_node.proofs.node.StoreNode.publish.Goals as goal
+
+-- asking whether it is published is one call, publishing it another
+pub returns-clause-learns : goal.returns-clause-learns
+returns-clause-learns g c =
+    let asked = c.has_published.new.self in
+    let new = c.published.new.feed in
+    learned-chain c.args.self.now asked new c.has_published.ensures.learns
+    (turn-learns as_they_are _ c.self.inside.feed asked new c.self.view_is c.self.invariant.feed
+    (record { own = c.known.ensures.own; allowed = c.known.ensures.allowed }) (record { own = c.known-2.ensures.own; allowed = c.known-2.ensures.allowed }) c.published.ensures.turn)

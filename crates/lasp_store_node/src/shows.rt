@@ -1,0 +1,74 @@
+//! What a node shows at points: by its window, where that is known to have what the node has seen, else by its store.
+
+ghost use Rattle.std.specs.Prelude.{◌≡◌, ◌<◌, IfOk, IfSome, length};
+ghost use Rattle.std.specs.Arc.{arc_value};
+ghost use Rattle.lasp_graph.specs.States.{held_of};
+ghost use Rattle.lasp_core.specs.Core.{state_after};
+ghost use Rattle.lasp_store.specs.Turn.{graph_seen, frame_of};
+ghost use Rattle.lasp_drive.specs.Node.{OnlyLearns};
+ghost use Rattle.lasp_store_node.specs.View.{node_of, place_of};
+
+use crate::node::StoreNode;
+use crate::window::Window;
+use lasp_state::State;
+use std::alloc::{AllocError, Global};
+use std::sync::{Arc, Wait};
+
+impl<R: Wait> StoreNode<'_, R> {
+    /// Whether the spy sees all that the journal has.
+    #[tactic(auto, using(crate::proofs::WindowLaws::windows, crate::proofs::CountedLaws::stays_counted))]
+    fn has_published(&mut self) -> bool
+        ensures learns { OnlyLearns (node_of self.old) (node_of self.new) }
+        ensures place { place_of self.new ≡ place_of self.old }
+    {
+        let entries = self.store.length(&mut self.feed);
+        match &self.window {
+            Some(window) => window.is_after(entries),
+            None => false,
+        }
+    }
+
+    /// Publishes what the node then has seen, unless that is published. Where memory is wanting, states are shown by the store.
+    #[tactic(auto, using(crate::proofs::WindowLaws::windows, crate::proofs::CountedLaws::stays_counted))]
+    pub(crate) fn publish(&mut self, alloc: Global)
+        ensures learns { OnlyLearns (node_of self.old) (node_of self.new) }
+        ensures place { place_of self.new ≡ place_of self.old }
+    {
+        if self.has_published() {
+            return;
+        }
+        self.feed.known();
+        let window = self.window.take();
+        self.window = Window::published(window, self.rt, self.store, alloc, &mut self.feed);
+        self.feed.known();
+    }
+
+    /// The state of a variable by the window, which waits for nobody.
+    #[tactic(auto, using(crate::proofs::WindowLaws::windows, crate::proofs::CountedLaws::stays_counted, crate::proofs::WindowLaws::peeks))]
+    fn peek(&mut self, x: u8) -> Option<Arc<State>>
+        requires { x < length (graph_seen self.old) }
+        ensures state { IfSome result (λ s. held_of (arc_value s) ≡ state_after (frame_of self.new) self.new.seen x) }
+        ensures learns { OnlyLearns (node_of self.old) (node_of self.new) }
+        ensures place { place_of self.new ≡ place_of self.old }
+    {
+        let entries = self.store.length(&mut self.feed);
+        match &mut self.window {
+            Some(window) => window.peek(x, entries),
+            None => None,
+        }
+    }
+
+    /// The state of a variable, shared.
+    #[tactic(auto, using(crate::proofs::WindowLaws::shows))]
+    pub(crate) fn show(&mut self, x: u8) -> Result<Arc<State>, AllocError>
+        requires { x < length (graph_seen self.old) }
+        ensures state { IfOk result (λ s. held_of (arc_value s) ≡ state_after (frame_of self.new) self.new.seen x) }
+        ensures learns { OnlyLearns (node_of self.old) (node_of self.new) }
+        ensures place { place_of self.new ≡ place_of self.old }
+    {
+        match self.peek(x) {
+            Some(state) => Ok(state),
+            None => self.look(x),
+        }
+    }
+}
