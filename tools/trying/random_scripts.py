@@ -96,3 +96,21 @@ class RandomScript:
         threshold = self.chance.choice([[self.chance.choice(self.sets), ["added", [value]]], ["c", ["count", self.chance.randint(0, 9)]], ["a", ["removed", []]]])
         # most awaits aren't met, and a run ends there
         return [self.chance.choice(["read"] * 9 + ["await"]), node, *threshold]
+
+
+class LongScript(RandomScript):
+    """Two stretches of so many changes, each without a point, over two nodes; behind each all variables are printed. No variable comes near the limit of rows."""
+
+    def __init__(self, seed, changes):
+        self.chance = random.Random(seed)
+        self.nodes = 2
+        self.graph = [list(it) for it in SOURCES] + [["u", "union", "a", "b"], ["e", "filter", "u", "even"], ["s", "map", "a", "abs"], ["n", "fold", "u", "sum", "itself"]]
+        self.orsets, self.names = ["a", "b"], [it[0] for it in self.graph]
+        self.sent, self.marks = 0, []
+        self.commands = [["nodes", self.nodes]]
+        for _ in range(2):
+            self.commands += [self.change() for _ in range(changes)]
+            self.commands += [["print", node, name] for node in range(self.nodes) for name in self.names]
+
+    def change(self):
+        return self.update() if self.sent > 60 or self.chance.random() < 0.99 else self.message()
