@@ -12,7 +12,7 @@ use Rattle.model_sets.proofs.RowLaws.{own_mark, is-Equal}
 use Rattle.model_sets.proofs.RiseLaws.{level-some}
 use Rattle.lasp_logset.specs.Live.{IsLiveRow}
 use Rattle.lasp_logset.proofs.LiveLaws.{some-inj, got-within}
-use Rattle.lasp_logset.specs.Chains.{value_hash, newest_of, hash_at, IsLiveAt, IsBehind, AreChained, StayRows}
+use Rattle.lasp_logset.specs.Chains.{value_hash, newest_of, key_at, hash_at, IsLiveAt, IsBehind, AreChained, StayRows}
 
 -- ---- places
 
@@ -45,11 +45,12 @@ step-back rows newest older h P k b chained live at hash not_it i sought before 
 -- ---- rows that come
 
 pub stay-none : (rows : List Row) → StayRows rows rows
-stay-none rows = record { grows = omega arith; hashes = λ i h. refl; live = λ h i lt live. live }
+stay-none rows = record { grows = omega arith; keys = λ i h. refl; hashes = λ i h. refl; live = λ h i lt live. live }
 
 pub stay-more : (s t u : List Row) → StayRows s t → StayRows t u → StayRows s u
 stay-more s t u a b = record {
   grows = omega (arith, a.grows, b.grows);
+  keys = λ i h. b.keys i (omega (arith, h, a.grows)) ∙ a.keys i h;
   hashes = λ i h. b.hashes i (omega (arith, h, a.grows)) ∙ a.hashes i h;
   live = λ h i lt live. a.live h i lt (b.live h i (omega (arith, lt, a.grows)) live);
 }
@@ -60,6 +61,17 @@ grows-insert (e ∷ es) k dead = choose (eq_by_cmp key_cmp k e.0) (grows-insert 
   choose : (b : Bool) → length es ≤ length (insert_entry (eq_by_cmp key_cmp) es k dead) → length (e ∷ es) ≤ length (if b then (e.0, dead) ∷ es else e ∷ insert_entry (eq_by_cmp key_cmp) es k dead)
   choose true rest = omega arith
   choose false rest = omega (arith, rest)
+
+keys-insert : (es : List Row) (k : Key) (dead : Bool) (i : ℕ) → i < length es → key_at (insert_entry (eq_by_cmp key_cmp) es k dead) i ≡ key_at es i
+keys-insert [] k dead i h = absurd (omega (arith, h))
+keys-insert (e ∷ es) k dead zero h = choose (eq_by_cmp key_cmp k e.0) where
+  choose : (b : Bool) → key_at (if b then (e.0, dead) ∷ es else e ∷ insert_entry (eq_by_cmp key_cmp) es k dead) 0 ≡ key_at (e ∷ es) 0
+  choose true = refl
+  choose false = refl
+keys-insert (e ∷ es) k dead (suc i) h = choose (eq_by_cmp key_cmp k e.0) (keys-insert es k dead i (omega (arith, h))) where
+  choose : (b : Bool) → key_at (insert_entry (eq_by_cmp key_cmp) es k dead) i ≡ key_at es i → key_at (if b then (e.0, dead) ∷ es else e ∷ insert_entry (eq_by_cmp key_cmp) es k dead) (suc i) ≡ key_at (e ∷ es) (suc i)
+  choose true rest = refl
+  choose false rest = rest
 
 hashes-insert : (es : List Row) (k : Key) (dead : Bool) (i : ℕ) → i < length es → hash_at (insert_entry (eq_by_cmp key_cmp) es k dead) i ≡ hash_at es i
 hashes-insert [] k dead i h = absurd (omega (arith, h))
@@ -93,7 +105,7 @@ live-insert (e ∷ es) k dead up h (suc i) lt live = choose (eq_by_cmp key_cmp k
   choose false rest l = rest l
 
 pub stay-insert : (es : List Row) (k : Key) (dead : Bool) → mark es k.0 k.1 < level dead → StayRows es (insert_entry (eq_by_cmp key_cmp) es k dead)
-stay-insert es k dead up = record { grows = grows-insert es k dead; hashes = hashes-insert es k dead; live = live-insert es k dead up }
+stay-insert es k dead up = record { grows = grows-insert es k dead; keys = keys-insert es k dead; hashes = hashes-insert es k dead; live = live-insert es k dead up }
 
 -- chains stay
 pub chained-stay : (before after : List Row) (newest : List (ℕ × ℕ)) (older : List ℕ) → AreChained before newest older → StayRows before after → AreChained after newest older

@@ -5,6 +5,7 @@ pub mod ChainLaws
 pub mod WholeLaws
 pub mod PassLaws
 pub mod ShownLaws
+pub mod FewLaws
 pub mod GrownLaws
 pub mod BeginLaws
 pub mod BehindLaws

@@ -4,11 +4,10 @@ use Rattle.std.specs.Option.{option_map}
 use Rattle.std.specs.Map.{lookup}
 use Rattle.model_values.specs.Value.{Val}
 use Rattle.model_values.specs.Row.{Key, Row}
-use Rattle.lasp_logset.specs.Chains.{value_hash, newest_of, hash_at, IsBehind, AreChained, StayRows}
-use Rattle.lasp_logset.specs.Kept.{AreKept, IsSet}
+use Rattle.lasp_logset.specs.Chains.{value_hash, newest_of, hash_at, IsBehind, StayRows}
 use Rattle.lasp_logset.specs.Places.{AreFound, IsRowOf}
 use Rattle.lasp_logset.proofs.LiveLaws.{some-inj, got-within}
-use Rattle.lasp_logset.proofs.ChainLaws.{got-push, below-or-last, same-hash, hash-test, newest-linked, got-index, IsStep, chained-stay}
+use Rattle.lasp_logset.proofs.ChainLaws.{got-push, below-or-last, same-hash, hash-test, newest-linked, got-index, IsStep}
 
 pub row-here : (rows : List Row) (place : ℕ) (k : Key) (dead : Bool) (v : Val) (is : Bool) → Some (k, dead) ≡ slice_get rows place → IsTrue is ↔ (k.0 ≡ v) → IsTrue is ↔ IsRowOf rows v place
 row-here rows place k dead v is at test = (
@@ -105,12 +104,3 @@ place-step rows newest older h k x found within hash is =
 pub place-before : (rows : List Row) (newest : List (ℕ × ℕ)) (older : List ℕ) (h b x : ℕ) → AreFound rows newest older → IsBehind rows h (length older) b → 0 < b → x ≡ get_or older (b - 1) x → IsStep rows older h (b - 1) x
 place-before rows newest older h b x found behind some is =
     place-step rows newest older h (b - 1) x found (omega (arith, some, behind.within)) (behind.hash (b - 1) (omega (arith, some))) is
-
--- a set whose rows stay keeps its chains
-pub set-after : (rows rows' log : List Row) (newest : List (ℕ × ℕ)) (older : List ℕ) (all_newest : List (ℕ × ℕ)) (all_older : List ℕ) → AreKept rows' log → AreChained rows newest older → AreFound rows all_newest all_older → StayRows rows rows'
-    → IsSet rows' log newest older all_newest all_older
-set-after rows rows' log newest older all_newest all_older kept chained found stay = record {
-  kept = kept;
-  chained = chained-stay rows rows' newest older chained stay;
-  found = found-stay rows rows' all_newest all_older found stay;
-}

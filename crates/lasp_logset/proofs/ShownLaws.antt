@@ -69,7 +69,7 @@ thin-ascending last (w ∷ s) up = choose (is_eq (order_behind last w)) (λ h. t
       let rest = and-right (is_lt (order_behind last w)) (rises (Some w) s) h in
       and-both (below_all val_cmp w (entries_of (thinned (Some w) s))) (is_sorted val_cmp (entries_of (thinned (Some w) s))) (thin-below w s rest) (next rest)
 
-thin-values : (s : List Val) → IsTrue (rises None s) → thinned None s ≡ of_values s
+pub thin-values : (s : List Val) → IsTrue (rises None s) → thinned None s ≡ of_values s
 thin-values s up = same_from_held (thinned None s) (of_values s) (thin-ascending None s up) (ascending-of_values s) (λ v. omega (arith, thin-held None s v, held-of_values s v))
 
 -- ---- sorted values
@@ -130,10 +130,10 @@ thinned-values s = same_from_held (of_values (thinned None s)) (of_values s) (as
 
 -- ---- live rows of a table
 
-abbrev live_mark : Row → Val → ℕ
+abbrev pub live_mark : Row → Val → ℕ
 live_mark r v = if r.1 then 0 else is_value r.0.0 v
 
-held-live : (r : Row) (s : List Row) (v : Val) → held (live_values (r ∷ s)) v ≡ max (live_mark r v) (held (live_values s) v)
+pub held-live : (r : Row) (s : List Row) (v : Val) → held (live_values (r ∷ s)) v ≡ max (live_mark r v) (held (live_values s) v)
 held-live (k, true) s v = omega arith
 held-live (k, false) s v = omega arith
 
@@ -152,7 +152,7 @@ live-rows (r ∷ s) v apart =
     let none : mark (of_rows s) r.0.0 r.0.1 ≡ 0 = mark-of_rows s r.0.0 r.0.1 ∙ apart.0 in
     omega (arith, live-put r (of_rows s) v none, held-live r s v, live-rows s v apart.1)
 
-state-values : (rows log : List Row) → AreKept rows log → AreApart rows → of_values (live_values rows) ≡ visible (of_rows log)
+pub state-values : (rows log : List Row) → AreKept rows log → AreApart rows → of_values (live_values rows) ≡ visible (of_rows log)
 state-values rows log kept apart = same_from_held (of_values (live_values rows)) (visible (of_rows log)) (ascending-of_values (live_values rows)) (ascending-visible (of_rows log))
     (λ v. held-of_values (live_values rows) v ∙ sym (live-rows rows v apart) ∙ ap (λ (s : List Row). held (live_values s) v) (kept-state rows log kept) ∙ sym (held-visible (of_rows log) v))
 

@@ -4,7 +4,7 @@ use Rattle.std.specs.Option.{option_map, unwrap_or}
 use Rattle.std.specs.Map.{lookup}
 use Rattle.std.specs.Hash.FoldHasher as folding
 use Rattle.model_values.specs.Value.{Val}
-use Rattle.model_values.specs.Row.{Row}
+use Rattle.model_values.specs.Row.{Key, Row}
 use Rattle.lasp_logset.specs.Fed.{val_fed}
 
 abbrev pub value_hash : Val → ℕ
@@ -17,6 +17,10 @@ newest_of newest h = unwrap_or (lookup (nat_eq h) newest) 0
 -- the hash of the value of the row at a place
 abbrev pub hash_at : List Row → ℕ → Option ℕ
 hash_at rows i = option_map (λ (r : Row). value_hash r.0.0) (slice_get rows i)
+
+-- the key of the row at a place
+abbrev pub key_at : List Row → ℕ → Option Key
+key_at rows i = option_map (λ (r : Row). r.0) (slice_get rows i)
 
 -- the row at a place is live, and its value has the hash
 abbrev pub IsLiveAt : List Row → ℕ → ℕ → Type 0
@@ -38,5 +42,6 @@ pub record AreChained (rows : List Row) (newest : List (ℕ × ℕ)) (older : Li
 -- the rows of a table after others came: at each place the same key, and live only where it was
 pub record StayRows (before after : List Row) : Type 0 where
   pub grows : length before ≤ length after
+  pub keys : (i : ℕ) → i < length before → key_at after i ≡ key_at before i
   pub hashes : (i : ℕ) → i < length before → hash_at after i ≡ hash_at before i
   pub live : (h i : ℕ) → i < length before → IsLiveAt after h i → IsLiveAt before h i

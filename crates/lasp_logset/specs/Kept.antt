@@ -7,6 +7,7 @@ use Rattle.model_sets.specs.Rows.{mark, of_rows}
 use Rattle.model_sets.specs.Rises.{AreRises}
 use Rattle.model_sets.specs.Reads.{HaveSmallInts}
 use Rattle.lasp_logset.specs.Chains.{AreChained}
+use Rattle.lasp_logset.specs.Few.{AreSeen}
 use Rattle.lasp_logset.specs.Places.{AreFound}
 
 -- a table of rows tells what the log tells
@@ -17,11 +18,12 @@ pub record AreKept (rows log : List Row) : Type 0 where
   pub ints : HaveSmallInts log
   pub few : length rows ≤ length log
 
--- the table tells what the log tells, chains lead to its live rows, and others to all rows
-pub record IsSet (rows log : List Row) (newest : List (ℕ × ℕ)) (older : List ℕ) (all_newest : List (ℕ × ℕ)) (all_older : List ℕ) : Type 0 where
+-- the table tells what the log tells, chains lead to its live rows, others to all rows, and places to all values of the live rows that were looked at
+pub record IsSet (rows log : List Row) (newest : List (ℕ × ℕ)) (older : List ℕ) (all_newest : List (ℕ × ℕ)) (all_older : List ℕ) (places : List ℕ) (upto : ℕ) : Type 0 where
   pub kept : AreKept rows log
   pub chained : AreChained rows newest older
   pub found : AreFound rows all_newest all_older
+  pub seen : AreSeen rows places upto
 
 -- a log that was shared, and how many rows it tells of
 pub record IsPast (log : List Row) (rows : ℕ) : Type 0 where

@@ -1,6 +1,7 @@
 pub mod Fed
 pub mod Chains
 pub mod Places
+pub mod Few
 pub mod Kept
 pub mod Grown
 pub mod Live

@@ -148,7 +148,7 @@ pub(crate) fn hash_of(value: &Value) -> u64
 }
 
 /// Whether no live row is at a place.
-fn is_dead(rows: &IndexMap<Name, bool>, place: usize) -> bool
+pub(crate) fn is_dead(rows: &IndexMap<Name, bool>, place: usize) -> bool
     ensures { result ≡ true → (h : ℕ) → ¬ IsLiveAt rows.now.entries h place }
 {
     match rows.get_index(place) {

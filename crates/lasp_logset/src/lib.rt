@@ -12,6 +12,7 @@ mod changes;
 mod coming;
 mod deltas;
 mod entry;
+mod few;
 mod grown;
 mod hash;
 mod in_order;

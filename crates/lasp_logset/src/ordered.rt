@@ -18,7 +18,7 @@ const LOOKS: usize = 64;
 const MOST_FALLS: usize = 4;
 
 impl OrSet {
-    /// Puts the rows of the table in ascending order where some eighth of them came out of order, and no one else has the table: `sorted` costs little more than a comparison a row then. This costs 64 comparisons; where it changes the table, a sort, and an insertion for each row. What finds the rows of a value has to take all rows in anew then. Where memory is refused it does nothing.
+    /// Sees that what a table shows costs little, where no one else has it. Where its visible values are few, it finds them, at a few comparisons for each row that came since. Else it puts the rows in ascending order where some eighth of them came out of order: `sorted` costs little more than a comparison a row then. This costs 64 comparisons; where it changes the table, a sort, and an insertion for each row. What finds the rows of a value has to take all rows in anew then. Where memory is refused it does nothing.
     pub fn order_rows(&mut self)
         ensures { self.new ≡ self.old }
     {
@@ -47,7 +47,7 @@ impl OrSet {
     }
 }
 
-/// Whether no one else has the table of a set, and many of its rows stand out of order.
+/// Whether no one else has the table of a set, its visible values aren't few, and many of its rows stand out of order.
 fn is_to_order(kept: &mut Kept) -> bool
     ensures { log_in kept.new ≡ log_in kept.old }
 {
@@ -63,7 +63,7 @@ fn is_alone_to_order(shared: &mut Arc<LogSet>) -> bool
     let Some(set) = Arc::get_mut(shared) else {
         return false;
     };
-    is_unordered(set.parts().0)
+    !set.find_few() && is_unordered(set.parts().0)
 }
 
 /// Whether so many of the neighbours that are looked at stand in the wrong order that a sort of all would cost much.

@@ -5,7 +5,9 @@ ghost use Rattle.model_sets.specs.Rows.{level, mark, of_rows, IsAtMost};
 ghost use Rattle.model_sets.specs.Equations.{changed};
 ghost use Rattle.model_sets.specs.Rises.{AreRises, AreApart};
 ghost use Rattle.model_sets.specs.Reads.{HaveSmallInts};
+ghost use Rattle.model_sets.specs.Values.{of_values, live_values, visible};
 ghost use Rattle.lasp_logset.specs.Chains.{AreChained};
+ghost use Rattle.lasp_logset.specs.Few.{AreSeen};
 ghost use Rattle.lasp_logset.specs.Kept.{AreKept};
 ghost use Rattle.lasp_logset.specs.Places.{AreFound};
 ghost use Rattle.lasp_logset.specs.Weights.{IsBounded, rows_weight};
@@ -14,6 +16,7 @@ use super::chains::Chains;
 use super::changes::Changes;
 use super::coming::Coming;
 use super::entry::Entry;
+use super::few::Few;
 use super::name::Name;
 use super::near::{Hint, level_near, raises_near};
 use super::past::Past;
@@ -32,6 +35,7 @@ pub struct LogSet {
     log: Changes,
     chains: Chains,
     places: Places,
+    few: Few,
 }
 
 impl Model for LogSet {
@@ -45,7 +49,7 @@ impl Model for LogSet {
 
     ghost view = { λ a. a.log.items };
 
-    ghost invariant = { λ a. IsSet a.rows.entries a.log.items a.chains.newest.entries a.chains.older.items a.places.newest.entries a.places.older.items };
+    ghost invariant = { λ a. IsSet a.rows.entries a.log.items a.chains.newest.entries a.chains.older.items a.places.newest.entries a.places.older.items a.few.places.items a.few.upto };
 }
 
 impl LogSet {
@@ -58,6 +62,7 @@ impl LogSet {
             log: Changes::new(alloc),
             chains: Chains::new(alloc),
             places: Places::new(alloc),
+            few: Few::new(alloc),
         }
     }
 
@@ -79,6 +84,7 @@ impl LogSet {
             log: log.share()?,
             chains: Chains::new(log.allocator()),
             places: Places::new(log.allocator()),
+            few: Few::new(log.allocator()),
         })
     }
 
@@ -145,6 +151,23 @@ impl LogSet {
     {
         let _count = self.rows.len();
         (&self.rows, &self.places)
+    }
+
+    /// The rows, and what finds the values that they show where these are few.
+    pub(crate) fn looked(&self) -> (&IndexMap<Name, bool>, &Few)
+        ensures visible { of_values (live_values result.0.now.entries) ≡ visible (of_rows self.now) }
+        ensures seen { AreSeen result.0.now.entries result.1.now.places.items result.1.now.upto }
+    {
+        let _count = self.rows.len();
+        (&self.rows, &self.few)
+    }
+
+    /// Looks at the values of the rows that came since; whether all were looked at and the values are few, so that they are shown without a pass over the rows.
+    pub(crate) fn find_few(&mut self) -> bool
+        ensures { self.new ≡ self.old }
+    {
+        self.few.follow(&self.rows);
+        self.few.has_all(&self.rows)
     }
 
     /// Brings up to date what finds the live rows of a value, so that `has` and `remove_delta` don't pass over the rows that came since. It costs a look-up for each of these.

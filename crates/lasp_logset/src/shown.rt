@@ -1,6 +1,6 @@
 //! The values that a set shows.
 
-ghost use Rattle.std.specs.Prelude.{◌≡◌, ◌++◌, None, IfOk, OnOk, string_bytes};
+ghost use Rattle.std.specs.Prelude.{◌≡◌, ◌++◌, None, IfOk, IfSome, OnOk, string_bytes};
 ghost use Rattle.std.specs.Option.{option_map};
 ghost use Rattle.std.specs.Ordering.{eq_by_cmp, as_partial_cmp};
 ghost use Rattle.std.specs.Cmp.{partial_equiv_from_equiv};
@@ -10,6 +10,8 @@ ghost use Rattle.model_values.specs.Text.{shown_values};
 ghost use Rattle.model_sets.specs.Rows.{of_rows};
 ghost use Rattle.model_sets.specs.Values.{live_values, visible};
 ghost use Rattle.lasp_value.specs.Value.{val_of};
+ghost use Rattle.lasp_logset.specs.Few.{IsStanding};
+ghost use Rattle.lasp_logset.specs.Live.{IsLiveRow};
 ghost use Rattle.lasp_logset.specs.Orders.{val_equivalence, val_order};
 ghost use Rattle.lasp_logset.specs.Shown.{order_behind, thinned, rises, shown_next};
 
@@ -88,7 +90,7 @@ impl PartialOrd for Shown<'_> {
 }
 
 impl OrSet {
-    /// The visible values where they stand, ascending, each once. Of a table with rows in order, or of one value, it costs a comparison for each live row, else a sort of those that differ from the one before; of a log alone what `sorted` does.
+    /// The visible values where they stand, ascending, each once. Of a table whose values are few, and were all found by `order_rows`, it costs a comparison for each value; of one with rows in order, or of one value, it costs a comparison for each live row, else a sort of those that differ from the one before; of a log alone what `sorted` does.
     pub(crate) fn shown(&self) -> Result<Vec<Shown<'_>>, AllocError>
         ensures { IfOk result (λ values. values.items ≡ visible self.now) }
     {
@@ -109,6 +111,10 @@ impl LogSet {
         ensures { IfOk result (λ values. values.items ≡ visible (of_rows self.now)) }
     {
         let alloc = self.allocator();
+        let (rows, few) = self.looked();
+        if let Some(found) = few.shown(alloc, rows)? {
+            return Ok(found);
+        }
         let (mut values, ascend) = live_values(alloc, self.parts().0)?;
         if ascend {
             return Ok(values);
@@ -143,6 +149,39 @@ fn live_values(
         last = Some(name.value());
     }
     Ok((values, ascend))
+}
+
+/// The values of the rows at places, if all of them live and ascend.
+pub(crate) fn standing_values<'a>(
+    alloc: Global,
+    rows: &'a IndexMap<Name, bool>,
+    places: &[usize],
+) -> Result<Option<Vec<Shown<'a>>>, AllocError>
+    ensures { IfOk result (λ found. IfSome found (λ values. IsStanding rows.now.entries places.now values.items)) }
+{
+    let mut values = Vec::with_capacity(alloc, places.len())?;
+    let mut last: Option<&Value> = None;
+    for place in places {
+        let Some(value) = live_value(rows, *place) else {
+            return Ok(None);
+        };
+        if !order_behind(last, value).is_lt() {
+            return Ok(None);
+        }
+        values.push(Shown::of(value))?;
+        last = Some(value);
+    }
+    Ok(Some(values))
+}
+
+/// The value of the row at a place, if it lives.
+fn live_value(rows: &IndexMap<Name, bool>, place: usize) -> Option<&Value>
+    ensures { IfSome result (λ value. IsLiveRow rows.now.entries (val_of value.now) place) }
+{
+    match rows.get_index(place) {
+        Some((name, dead)) if !*dead => Some(name.value()),
+        _ => None,
+    }
 }
 
 /// The values of live rows, but those that repeat the one before.

@@ -57,12 +57,32 @@ fn tend(set: &mut OrSet, number: u64) {
     }
 }
 
+fn prints(alloc: Global, set: &OrSet, text: &str) -> Result<bool, AllocError> {
+    let mut out = String::new(alloc);
+    set.print_into(&mut out)?;
+    Ok(out.as_str() == text)
+}
+
+/// The text of what is visible behind so many updates.
+fn text_of(alloc: Global, updates: u64) -> Result<String, AllocError> {
+    let mut text = String::new(alloc);
+    for value in 0..7u8 {
+        if is_shown(u64::from(value), updates) {
+            text.push(if text.is_empty() { '[' } else { ',' })?;
+            text.push((b'0' + value) as char)?;
+        }
+    }
+    text.push(']')?;
+    Ok(text)
+}
+
 /// Whether a set goes so by the updates from a number on.
 fn goes_so(alloc: Global, set: &mut OrSet, from: u64, end: u64) -> Result<bool, AllocError> {
     for k in from..end {
         let is_told = update(alloc, set, k)?;
         tend(set, k / 5);
-        if !is_told || !shows(set, k) {
+        let is_printed = prints(alloc, set, text_of(alloc, k)?.as_str())?;
+        if !is_told || !is_printed || !shows(set, k) {
             return Ok(false);
         }
     }
@@ -92,12 +112,6 @@ fn count_near(set: &OrSet, value: &Value) -> Result<u64, AllocError> {
         }
     }
     Ok(count)
-}
-
-fn prints(alloc: Global, set: &OrSet, text: &str) -> Result<bool, AllocError> {
-    let mut out = String::new(alloc);
-    set.print_into(&mut out)?;
-    Ok(out.as_str() == text)
 }
 
 /// Whether a set goes on so beside a state that was kept behind 59 updates, and ends as it has to.
