@@ -4,3 +4,4 @@ pub mod LookLaws
 pub mod CoresLaws
 pub mod LaterLaws
 pub mod JobLaws
+pub mod SinceLaws

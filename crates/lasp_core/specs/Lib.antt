@@ -4,4 +4,5 @@ pub mod Core
 pub mod Listed
 pub mod Evaluated
 pub mod Watched
+pub mod Since
 pub mod Prelude

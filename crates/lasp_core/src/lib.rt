@@ -38,6 +38,7 @@ pub use laws::{
     evaluated_jobs_have_results, jobs_have_the_unread_rows, jobs_stay, reads_stay_open,
     states_are_those_after_the_entries, variables_stay,
 };
+pub use look::is_met_by;
 pub use read::{ReadNo, Released};
 pub use replica_core::Core;
 pub use watched::{Settle, Try, Watched};

@@ -7,7 +7,7 @@ ghost use Rattle.lasp_state.specs.State.{shape_of};
 use lasp_state::{State, Threshold};
 
 /// Whether a state has come to a threshold. Where it is known to hold what the threshold asks for at least, it costs the comparison of two sizes, but where these are equal for `above`.
-pub(crate) fn is_met_by(threshold: &Threshold, s: &State, is_known: bool) -> bool
+pub fn is_met_by(threshold: &Threshold, s: &State, is_known: bool) -> bool
     requires fits { IsTrue (suits (threshold_of threshold.now) (shape_of s.now)) }
     requires known { IsTrue is_known → HasLeast (threshold_of threshold.now) (content_of s.now) }
     ensures { result ≡ meets (threshold_of threshold.now) (content_of s.now) }

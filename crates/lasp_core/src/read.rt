@@ -1,9 +1,10 @@
 //! Reads that wait for a threshold, and those that a call released.
 
 ghost use Rattle.std.specs.Prelude.{◌≡◌, ◌<◌, ◌++◌, ◌∷◌, [], length, map, slice_get, Some, IfOk, IsTrue};
-ghost use Rattle.lasp_core.specs.Prelude.{arc_value, suits, meets, content_of, read_of};
+ghost use Rattle.lasp_core.specs.Prelude.{arc_value, suits, meets, content_of, read_of, HasLeast};
 ghost use Rattle.lasp_state.specs.State.{shape_of};
 
+use crate::look::is_met_by;
 use lasp_state::{State, Threshold};
 use std::alloc::{AllocError, Global};
 use std::marker::Model;
@@ -40,6 +41,15 @@ impl ReadNo {
         ensures { result ≡ meets (read_of self.now).threshold (content_of state.now) }
     {
         self.threshold.meets(state)
+    }
+
+    /// The same. Where the state is known to hold what the threshold asks for at least, that isn't asked again.
+    pub fn is_met_with(&self, state: &State, is_known: bool) -> bool
+        requires fits { IsTrue (suits (read_of self.now).threshold (shape_of state.now)) }
+        requires known { IsTrue is_known → HasLeast (read_of self.now).threshold (content_of state.now) }
+        ensures { result ≡ meets (read_of self.now).threshold (content_of state.now) }
+    {
+        is_met_by(&self.threshold, state, is_known)
     }
 
     /// The same read, which shares the threshold.

@@ -1,7 +1,7 @@
 //! The core of a replica, as callers see it.
 
 ghost use Rattle.std.specs.Prelude.{◌≡◌, ◌<◌, ◌≤◌, ◌^◌, ◌↔◌, [], IfOk, IfErr, OnOk, OnErr, IfSome, IfNone, IsTrue, is_some, length, take, slice_get, Some, vec_capacity, ℕ};
-ghost use Rattle.lasp_core.specs.Prelude.{arc_value, count_at, IsContentAtMost, suits, meets, kind_at, equation, eval, ContentsAtMost, IsDerived, variable_limit, IsClean, base, entry, entered, op_of, threshold_of, decl_of, contents_of, held_at, number_by, read_of, entry_of, IsSmall, IsSuited, BringsNothing, update_refusal, IsAnswered, IsDelivered, BringsAsMuch, IsUnclean, IsFirst, IsNext, Lacks, IsJobOf, IsJobNow, IsResultOf, fresh_core, IsOpen, opened_read, opened, looked, HasLeast, closed, rows_of, taken, returned, IsSettled, declared, IsStateOf, AreOfKind, AreAscending, AreInOrder};
+ghost use Rattle.lasp_core.specs.Prelude.{arc_value, count_at, IsContentAtMost, suits, meets, kind_at, equation, eval, ContentsAtMost, IsDerived, variable_limit, IsClean, base, entry, entered, op_of, threshold_of, decl_of, contents_of, held_at, number_by, read_of, entry_of, IsSmall, IsSuited, BringsNothing, update_refusal, IsAnswered, IsDelivered, BringsAsMuch, IsUnclean, IsFirst, IsNext, Lacks, IsJobOf, IsJobNow, IsResultOf, fresh_core, IsOpen, opened_read, opened, looked, HasLeast, closed, rows_of, taken, returned, IsSettled, declared, IsStateOf, AreOfKind, AreAscending, AreInOrder, AreStatesSince};
 ghost use Rattle.model_graph.specs.Lawful.{shape_of};
 ghost use Rattle.model_readings.specs.Lawful.{IsNext as MayFollow};
 ghost use Rattle.model_journal.specs.Entry as model;
@@ -245,6 +245,22 @@ impl Core {
         ensures ok { OnOk result (self.new ≡ opened (opened_read self.old var (threshold_of threshold)) self.old) }
         ensures err { OnErr result (self.new ≡ self.old) }
     {
+        self.open_read_with(var, threshold, false)
+    }
+
+    /// The same. Where the variable is known to hold what the threshold asks for at least, that isn't asked again.
+    pub fn open_read_with(
+        &mut self,
+        var: u8,
+        threshold: Threshold,
+        is_known: bool,
+    ) -> Result<ReadNo, AllocError>
+        requires open { IsOpen self.old.frame self.old.entries (opened_read self.old var (threshold_of threshold)) }
+        requires known { IsTrue is_known → HasLeast (threshold_of threshold) (journal.val self.old.frame self.old.entries var) }
+        ensures read { IfOk result (λ r. read_of r ≡ opened_read self.old var (threshold_of threshold)) }
+        ensures ok { OnOk result (self.new ≡ opened (opened_read self.old var (threshold_of threshold)) self.old) }
+        ensures err { OnErr result (self.new ≡ self.old) }
+    {
         let alloc = self.replica.allocator();
         let read = ReadNo {
             number: self.opened,
@@ -253,7 +269,7 @@ impl Core {
             place: 0,
         };
         ready_read(&mut self.replica, var, &read.threshold);
-        if !read.threshold.meets(self.state(var)) {
+        if !is_met_by(&read.threshold, self.state(var), is_known) {
             self.parked.push(read.twin()?)?;
         }
         self.opened = self.opened.saturating_add(1);
@@ -316,6 +332,14 @@ impl Core {
         ensures numbers { (y : ℕ) → IsDerived (journal.graph self.now.frame self.now.entries) y → (held_at result.now y).number ≡ number_by (kind_at (journal.graph self.now.frame self.now.entries) y) (held_at result.now y).content }
     {
         &self.replica.states
+    }
+
+    /// The states, of each source that is a set the rows alone that changed since the journal's first n entries. It costs an insertion for each of these rows, which are shared, and a look at each growth of a set since.
+    pub fn states_since(&self, n: u64) -> Result<States, AllocError>
+        requires { n ≤ length self.now.entries }
+        ensures { IfOk result (AreStatesSince self.now n) }
+    {
+        self.replica.states_since(n)
     }
 
     /// How many updates of each replica it knows.

@@ -23,3 +23,4 @@ pub mod BroughtLaws
 pub mod DeliverLaws
 pub mod NewsLaws
 pub mod SizeLaws
+pub mod SinceLaws

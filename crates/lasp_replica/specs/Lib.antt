@@ -1,6 +1,7 @@
 pub mod Parts
 pub mod TakenIn
 pub mod Reading
+pub mod Since
 pub mod Replica
 pub mod Jobs
 pub mod Update

@@ -31,6 +31,7 @@ pub use Rattle.lasp_replica.specs.Jobs.{AreShared, HasBound, HasStarted, HasStop
 pub use Rattle.lasp_replica.specs.Parts.{AreRowsOf, Base, IsBase, IsKept, Parts, base_at, first_input, fresh_base, fresh_state, history_at, news_of, no_set, second_input}
 pub use Rattle.lasp_replica.specs.Reading.{HasChanged, IsOfItsKind, IsSmallSet, IsStill, rows_since}
 pub use Rattle.lasp_replica.specs.Replica.{Goes, Grows, IsAnswered, IsBeginning, IsDelivered, IsOfGraph, IsReplica, IsSmall, Stays, busy_of, entries_of, frame_of, growths_at, is_for, jobs_of, kept_at, log_at, refused, seen_process, shape_for, told, update_check, update_refusal}
+pub use Rattle.lasp_replica.specs.Since.{AreSince, IsSince}
 pub use Rattle.lasp_replica.specs.TakenIn.{IsInOrder, IsTakenIn}
 pub use Rattle.lasp_replica.specs.Update.{IsGain, IsInFormat, IsPrepared, recorded}
 pub use Rattle.lasp_job.specs.Asked.{has_two}

@@ -9,6 +9,7 @@ mod finish;
 mod known;
 mod least;
 mod settled;
+mod since;
 mod sizes;
 mod take;
 mod update;

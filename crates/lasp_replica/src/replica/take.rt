@@ -30,7 +30,7 @@ fn shared(inputs: &Inputs) -> Result<Inputs, AllocError>
 
 impl Replica {
     /// The rows of variable x that changed since the first n entries. Where all of them did, it shares the set's log.
-    fn changes(&self, x: u8, n: u64) -> Result<OrSet, AllocError>
+    pub(super) fn changes(&self, x: u8, n: u64) -> Result<OrSet, AllocError>
         requires replica { IsReplica self.now }
         requires var { x < length (arc_value self.now.graph) }
         requires set { IsTrue (is_set (kind_at (arc_value self.now.graph) x)) }
