@@ -1,5 +1,5 @@
 -- A message that stands for another one at what the feed has seen does so at the core that it takes out.
-use Rattle.std.proofs.Common.{◌≡◌, ◌∙◌, ℕ, List, sym, ap, subst}
+use Rattle.std.proofs.Common.{◌≡◌, ◌∙◌, List, sym, ap, subst}
 use Rattle.model_states.specs.Content.{Content, join_contents}
 use Rattle.model_graph.specs.Graph.{Decl}
 use Rattle.model_messages.specs.Message.{Message, source_number, sent_at}

@@ -3,5 +3,6 @@ pub mod MessageLaws
 pub mod EvaluatedLaws
 pub mod SettleLaws
 pub mod BringLaws
+pub mod KnownLaws
 pub mod PassedLaws
 pub mod ShelfLaws

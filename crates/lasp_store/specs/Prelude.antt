@@ -2,15 +2,16 @@
 pub use Rattle.std.specs.Arc.{arc_value}
 pub use Rattle.std.specs.List.{AllByRecursion}
 pub use Rattle.model_states.specs.Threshold.{meets, suits}
-pub use Rattle.model_graph.specs.Evaluation.{first_large}
+pub use Rattle.model_graph.specs.Evaluation.{content_at, first_large}
 pub use Rattle.model_graph.specs.Graph.{is_source, kind_at}
 pub use Rattle.model_graph.specs.Lawful.{IsDerived, variable_limit}
 pub use Rattle.model_world.specs.World.{message_at}
 pub use Rattle.model_journal.specs.Callers.{MayMake, made_by}
 pub use Rattle.model_journal.specs.Entry.{Bind, Entry, entry}
-pub use Rattle.model_journal.specs.Journal.{declared, graph, vals}
+pub use Rattle.model_journal.specs.Journal.{counts, declared, graph, val, vals}
 pub use Rattle.model_readings.specs.Lawful.{FitsAll}
 pub use Rattle.model_core.specs.Core.{is_met}
+pub use Rattle.model_core.specs.Known.{BringsNothing, HasLeast}
 pub use Rattle.model_core.specs.Peer.{peer_of}
 pub use Rattle.model_runs.specs.Part.{BringsAsMuch}
 pub use Rattle.lasp_histlock.specs.History.{added}

@@ -1,7 +1,7 @@
 //! What the feed does: updates, deliveries, declarations, and what it sends.
 
 ghost use Rattle.std.specs.Prelude.{◌≡◌, ◌↔◌, ◌+◌, ◌<◌, ◌∷◌, [], false, length, IfOk, OnOk, OnErr, IsTrue};
-ghost use Rattle.lasp_store.specs.Prelude.{AllByRecursion, arc_value, kind_at, is_source, variable_limit, entry, is_met, after_miss, op_of, decl_of, held_of, IsSmall, update_refusal, IsAnswered, IsDelivered, AreAscending, state_after, IsBusy, HadTurn, TriedTurn, IsInTurn, HasEnded, frame_of, graph_at, vals_at, counts_at, graph_seen, graph, vals, peer_of, BringsAsMuch, Tried, IfRefused};
+ghost use Rattle.lasp_store.specs.Prelude.{AllByRecursion, arc_value, content_at, kind_at, is_source, variable_limit, entry, is_met, val, counts, BringsNothing, after_miss, op_of, decl_of, held_of, IsSmall, update_refusal, IsAnswered, IsDelivered, AreAscending, state_after, IsBusy, HadTurn, TriedTurn, IsInTurn, HasEnded, frame_of, graph_at, vals_at, counts_at, graph_seen, graph, vals, peer_of, BringsAsMuch, Tried, IfRefused};
 ghost use Rattle.model_readings.specs.Lawful.{IsNext as MayFollow};
 ghost use Rattle.model_journal.specs.Entry as model;
 
@@ -20,10 +20,12 @@ impl Store {
         mut core: Core,
         var: u8,
         op: &Op,
+        is_known: bool,
     ) -> Result<Released, UpdateRefused>
         requires turn { IsInTurn self.now f.old core }
         requires first { f.old.number ≡ 0 }
         requires small { IsSmall (frame_of f.old).nodes op.now }
+        requires known { IsTrue is_known → BringsNothing (val core.frame core.entries var) (counts core.frame core.entries) core.frame.replica (op_of op.now) }
         ensures ok { OnOk result (HasEnded (entry 0 (model.Update var (op_of op.now)) ∷ []) f.old f.new) }
         ensures err { OnErr result (HasEnded [] f.old f.new) }
         ensures answer { IsAnswered (update_refusal (frame_of f.new).nodes (frame_of f.new).replica (graph_at f.new) (vals_at f.new) (counts_at f.new) var op.now) result }
@@ -31,7 +33,7 @@ impl Store {
         ensures ascending { IfOk result AreAscending }
     {
         core.recall();
-        let updated = core.update(0, var, op);
+        let updated = core.update_with(0, var, op, is_known);
         core.recall();
         self.end(f, core);
         updated
@@ -56,7 +58,34 @@ impl Store {
         ensures ascending { IfOk result AreAscending }
     {
         let core = self.begin(rt, f);
-        self.end_update(f, core, var, op)
+        self.end_update(f, core, var, op, false)
+    }
+
+    /// The same. Where it is known that what a source holds stays as it is, as by a state that it holds already, no row is looked at. It may wait for others.
+    pub fn update_with<R: Wait>(
+        &self,
+        rt: &R,
+        f: &mut Feed,
+        var: u8,
+        op: &Op,
+        is_known: bool,
+    ) -> Result<Released, UpdateRefused>
+        requires lock { f.old.lock ≡ self.now }
+        requires idle { f.old.turn ≡ false }
+        requires first { f.old.number ≡ 0 }
+        requires small { IsSmall (frame_of f.old).nodes op.now }
+        requires source { IsTrue is_known → (var < length (graph_seen f.old)) × IsTrue (is_source (kind_at (graph_seen f.old) var)) }
+        requires known { IsTrue is_known → BringsNothing (content_at (peer_of (frame_of f.old) f.old.seen).contents var) (peer_of (frame_of f.old) f.old.seen).counts (frame_of f.old).replica (op_of op.now) }
+        ensures ok { OnOk result (HadTurn (entry 0 (model.Update var (op_of op.now)) ∷ []) f.old f.new) }
+        ensures err { OnErr result (HadTurn [] f.old f.new) }
+        ensures answer { IsAnswered (update_refusal (frame_of f.new).nodes (frame_of f.new).replica (graph_at f.new) (vals_at f.new) (counts_at f.new) var op.now) result }
+        ensures met { IfOk result (AllByRecursion (λ r. IsTrue (is_met (frame_of f.new) f.new.seen r))) }
+        ensures ascending { IfOk result AreAscending }
+    {
+        f.known();
+        let core = self.begin(rt, f);
+        f.known();
+        self.end_update(f, core, var, op, is_known)
     }
 
     /// The same, where nobody else has the core. It never waits.
@@ -75,7 +104,7 @@ impl Store {
     {
         match self.try_begin(f) {
             None => Err(Try::Busy),
-            Some(core) => match self.end_update(f, core, var, op) {
+            Some(core) => match self.end_update(f, core, var, op, false) {
                 Ok(released) => Ok(released),
                 Err(why) => Err(Try::Refused(why)),
             },

@@ -18,6 +18,7 @@ mod feed;
 mod hand;
 mod laws;
 mod message;
+mod ordered;
 mod reads;
 mod seated;
 mod settle;

@@ -1,7 +1,7 @@
 //! Reads of a store. They wait in its core, so that the entry that meets one releases it, whoever makes that.
 
 ghost use Rattle.std.specs.Prelude.{◌≡◌, ◌↔◌, ◌+◌, [], false, IfOk, IfSome, OnOk, IsTrue, is_some};
-ghost use Rattle.lasp_store.specs.Prelude.{suits, meets, arc_value, is_met, after_miss, threshold_of, held_of, IsOpen, state_after, read_of, IsBusy, HadTurn, TriedTurn, IsInTurn, HasEnded, frame_of, IfRefused};
+ghost use Rattle.lasp_store.specs.Prelude.{suits, meets, arc_value, is_met, val, after_miss, HasLeast, threshold_of, held_of, IsOpen, state_after, read_of, IsBusy, HadTurn, TriedTurn, IsInTurn, HasEnded, frame_of, IfRefused};
 
 use crate::store::{Hand, Store};
 use lasp_core::{Core, ReadNo, Try, reads_stay_open};
@@ -29,14 +29,16 @@ impl Store {
         mut core: Core,
         var: u8,
         threshold: Threshold,
+        is_known: bool,
     ) -> Result<ReadNo, AllocError>
         requires turn { IsInTurn self.now h.old core }
         requires open { IsOpen (frame_of h.old) h.old.seen (record { number = 0; var = var; threshold = threshold_of threshold }) }
+        requires known { IsTrue is_known → HasLeast (threshold_of threshold) (val (frame_of h.old) h.old.seen var) }
         ensures turn { HasEnded [] h.old h.new }
         ensures read { IfOk result (λ r. ((read_of r).var ≡ var) × ((read_of r).threshold ≡ threshold_of threshold)) }
     {
         core.recall();
-        let opened = core.open_read(var, threshold);
+        let opened = core.open_read_with(var, threshold, is_known);
         core.recall();
         self.end(h, core);
         opened
@@ -57,9 +59,29 @@ impl Store {
         ensures read { IfOk result (λ r. ((read_of r).var ≡ var) × ((read_of r).threshold ≡ threshold_of threshold)) }
         ensures open { IfOk result (λ r. IsOpen (frame_of h.new) h.new.seen (read_of r)) }
     {
+        self.open_read_with(rt, h, var, threshold, false)
+    }
+
+    /// The same. Where the variable is known to hold what the threshold asks for at least, that isn't asked again. It may wait for others.
+    pub fn open_read_with<R: Wait>(
+        &self,
+        rt: &R,
+        h: &mut Hand,
+        var: u8,
+        threshold: Threshold,
+        is_known: bool,
+    ) -> Result<ReadNo, AllocError>
+        requires lock { h.old.lock ≡ self.now }
+        requires idle { h.old.turn ≡ false }
+        requires open { IsOpen (frame_of h.old) h.old.seen (record { number = 0; var = var; threshold = threshold_of threshold }) }
+        requires known { IsTrue is_known → HasLeast (threshold_of threshold) (val (frame_of h.old) h.old.seen var) }
+        ensures turn { HadTurn [] h.old h.new }
+        ensures read { IfOk result (λ r. ((read_of r).var ≡ var) × ((read_of r).threshold ≡ threshold_of threshold)) }
+        ensures open { IfOk result (λ r. IsOpen (frame_of h.new) h.new.seen (read_of r)) }
+    {
         reads_stay_open();
         let core = self.begin(rt, h);
-        self.end_open(h, core, var, threshold)
+        self.end_open(h, core, var, threshold, is_known)
     }
 
     /// The state of a read's variable, shared, where it is at the threshold. It may wait for others.

@@ -1,6 +1,7 @@
 //! What a spy sees of a store's states, also while a hand has the core, which no public call of one thread brings about.
 
 ghost use Rattle.std.specs.Prelude.{◌≡◌, false, IfOk, IfSome};
+ghost use Rattle.lasp_snap.specs.Views.{ShelfView};
 ghost use Rattle.lasp_store.specs.Shelves.{IsShelfOf};
 
 use crate::laws::shelves_stay;
@@ -33,14 +34,26 @@ fn peek(alloc: Global, spy: &mut Spy, out: &mut String) -> Result<(), AllocError
     write!(out, "{} {}; ", text.as_str(), spy.looks())
 }
 
-/// Adds a number to the set, and publishes.
+/// Adds a number to the set.
+fn add<R: Wait>(rt: &R, store: &Store, f: &mut Feed, n: i64) -> Result<(), AllocError>
+    requires feed { (f.old.lock ≡ store.now) × (f.old.turn ≡ false) × (f.old.number ≡ 0) }
+    ensures feed { (f.new.lock ≡ store.now) × (f.new.turn ≡ false) × (f.new.number ≡ 0) }
+    ensures shelf { (s : ShelfView) → IsShelfOf f.old s → IsShelfOf f.new s }
+{
+    shelves_stay();
+    match store.update(rt, f, 0, &Op::Add(Value::Int(n))) {
+        Ok(_) => Ok(()),
+        Err(_) => Err(AllocError),
+    }
+}
+
+/// Publishes what the set holds.
 fn publish<R: Wait>(
     rt: &R,
     alloc: Global,
     store: &Store,
     f: &mut Feed,
     shelf: &mut Shelf,
-    n: i64,
 ) -> Result<Told, AllocError>
     requires feed { (f.old.lock ≡ store.now) × (f.old.turn ≡ false) × (f.old.number ≡ 0) }
     requires shelf { IsShelfOf f.old shelf.old }
@@ -49,14 +62,13 @@ fn publish<R: Wait>(
     ensures same { shelf.new.shelf ≡ shelf.old.shelf }
     ensures told { IfOk result (λ t. t.shelf ≡ shelf.new.shelf) }
 {
-    shelves_stay();
-    if store.update(rt, f, 0, &Op::Add(Value::Int(n))).is_err() || shelf.place() > 100 {
+    if shelf.place() > 100 {
         return Err(AllocError);
     }
     store.publish(rt, alloc, f, shelf)
 }
 
-/// Publishes twice, and peeks before, in between, while the hand has the core, and behind. Of the first publication alone the spy is told.
+/// Adds a number and publishes, twice, and peeks before, behind each of them, and while the hand has the core. Of the first publication alone the spy is told.
 fn play<R: Wait>(
     rt: &R,
     alloc: Global,
@@ -73,13 +85,17 @@ fn play<R: Wait>(
     requires spy { spy.old.shelf ≡ shelf.old.shelf }
 {
     peek(alloc, spy, out)?;
-    spy.learn(publish(rt, alloc, store, f, shelf, 5)?);
+    add(rt, store, f, 5)?;
+    peek(alloc, spy, out)?;
+    spy.learn(publish(rt, alloc, store, f, shelf)?);
     peek(alloc, spy, out)?;
     let core = store.begin(rt, hand);
     let beside = peek(alloc, spy, out);
     store.end(hand, core);
     beside?;
-    drop(publish(rt, alloc, store, f, shelf, 6)?);
+    add(rt, store, f, 6)?;
+    peek(alloc, spy, out)?;
+    drop(publish(rt, alloc, store, f, shelf)?);
     peek(alloc, spy, out)
 }
 
@@ -107,6 +123,9 @@ fn seen<R: Wait>(rt: &R, alloc: Global) -> Result<String, AllocError> {
 #[test]
 fn a_spy_sees_what_is_published_while_a_hand_has_the_core(rt: HostRuntime) -> Result<(), Fail> {
     let seen = seen(&rt, rt.alloc())?;
-    assert_eq!(rt; seen.as_str(), "[] 1; [5] 2; [5] 3; [5,6] 4; [5,6] 4; ");
+    assert_eq!(rt;
+        seen.as_str(),
+        "[] 1; [] 2; [5] 3; [5] 4; [5] 5; [5,6] 6; [5,6] 6; "
+    );
     Ok(())
 }
