@@ -21,18 +21,13 @@ use Rattle.model_core.proofs.ReadLaws.{all-kept, met-stays}
 use Rattle.model_journal.proofs.CleanLaws.{all-clean}
 use Rattle.lasp_replica.proofs.OneLaws.{same-or-apart}
 use Rattle.lasp_job.specs.declared.job.Job.{Job}
-use Rattle.lasp_replica.specs.Jobs.{IsUnclean, IsFirst, IsNext, IsJobNow, greatest_count, counted_up, unread_rows}
+use Rattle.lasp_replica.specs.Jobs.{IsUnclean, IsJobNow, greatest_count, counted_up, unread_rows}
 use Rattle.lasp_core.specs.Core.{taken, returned, IsSettled}
 use Rattle.lasp_core.specs.Evaluated.{evaluated}
 use Rattle.lasp_core.proofs.JobLaws.{job-derived, job-equation}
 use Rattle.lasp_node.specs.Settling.{IsIdle, IsIdleBut, AreCleanBelow, AreBinds, HasBoundIn, HasBound, rows_behind, rows_bound, rows_since}
 
--- ---- which job is next
-
--- in an idle core the next job is of the least variable that lacks something
-pub next-first : (X : Frame) (h : List Entry) (busy : List ℕ) (y : ℕ) → IsIdle busy → IsNext X h busy y → IsFirst (IsUnclean X h) y
-next-first X h busy y idle (inl first) = record { holds = first.holds.0; least = λ z low lacks. first.least z low (lacks, idle z) }
-next-first X h busy y idle (inr late) = late.1
+-- ---- which variable is next
 
 same-else : (m n : ℕ) → ((m ≡ n → ⊥) → ⊥) → m ≡ n
 same-else m n h = choose (same-or-apart m n) where
@@ -40,11 +35,10 @@ same-else m n h = choose (same-or-apart m n) where
   choose (inl same) = same
   choose (inr apart) = absurd (h apart)
 
--- every derived variable before the least that lacks something is clean
-pub clean-before-first : (c : Core) (y : ℕ) → IsFirst (IsUnclean c.frame c.entries) y → AreCleanBelow y c
-clean-before-first c y first z low derived x input =
-    same-else (applied c.frame c.entries z x) (version c.frame c.entries x)
-    (λ apart. first.least z low (record { derived = derived; lacks = λ clean. apart (clean x input) }))
+-- a derived variable that lacks nothing is clean
+clean-else : (X : Frame) (h : List Entry) (y : ℕ) → IsDerived (graph X h) y → (IsUnclean X h y → ⊥) → IsClean X h y
+clean-else X h y derived not_so x input =
+    same-else (applied X h y x) (version X h x) (λ apart. not_so (record { derived = derived; lacks = λ clean. apart (clean x input) }))
 
 -- a variable that lacks something isn't among those that are clean
 pub first-late : (c : Core) (n y : ℕ) → AreCleanBelow n c → IsUnclean c.frame c.entries y → n ≤ y
@@ -62,20 +56,19 @@ idle-out (b ∷ busy) zero idle (suc z) = idle (suc z)
 idle-out (b ∷ busy) (suc y) idle zero = idle 0
 idle-out (b ∷ busy) (suc y) idle (suc z) = idle-out busy y (λ w. idle (suc w)) z
 
--- a turn's job stands for the least variable that lacks something, of a core with that one job out
+-- a turn's job stands for a variable before which all are clean, of a core with that one job out
 pub record IsTurn (old out : Core) (n y : ℕ) : Type 0 where
   pub late : n ≤ y
   pub declared : y < length (graph old.frame old.entries)
   pub below : AreCleanBelow y out
   pub idle : IsIdleBut y out.busy
 
-pub turn-taken : (old out : Core) (n y rows : ℕ) → IsIdle old.busy → AreCleanBelow n old → IsNext old.frame old.entries old.busy y → out ≡ taken y rows old → IsTurn old out n y
-turn-taken old out n y rows idle clean next is =
-    let first = next-first old.frame old.entries old.busy y idle next in
+pub turn-taken : (old out : Core) (n y rows : ℕ) → IsIdle old.busy → y ≤ n → AreCleanBelow n old → IsUnclean old.frame old.entries y → out ≡ taken y rows old → IsTurn old out n y
+turn-taken old out n y rows idle reached clean lacks is =
     subst (λ (c : Core). IsTurn old c n y) (sym is) (record {
-      late = first-late old n y clean first.holds;
-      declared = first.holds.derived.declared;
-      below = clean-before-first old y first;
+      late = first-late old n y clean lacks;
+      declared = lacks.derived.declared;
+      below = λ z low derived. clean z (omega (arith, low, reached)) derived;
       idle = idle-out old.busy y idle;
     })
 
@@ -254,10 +247,35 @@ below-start c core idle = record { reached = 0; late = omega arith; within = ome
 pub below-bound : (many : ℕ) (a b : Core) → IsBoundBelow many a b → HasBound a b
 below-bound many a b below = bound-wider below.reached (length (graph a.frame a.entries)) a b below.within below.bound
 
--- one turn: a job of the least variable that lacks something was taken, and it or none was bound
-module _ (many : ℕ) (a b out c : Core) (y rows : ℕ) (core : IsLegal c.frame c.entries) (next : IsNext b.frame b.entries b.busy y) (is : out ≡ taken y rows b) (below : IsBoundBelow many a b) (bound : HasBoundIn y (y + 1) out c) where
+-- where all were reached, all are clean
+pub below-all : (a b : Core) (many : ℕ) → length (graph a.frame a.entries) ≤ many → IsBoundBelow many a b → IsSettled b
+below-all a b many all below y derived = below.clean y (omega (arith, all, below.late, derived.declared, ap (λ (ds : List Decl). length ds) below.bound.graph_is)) derived
+
+-- a turn at which the variable lacks nothing
+pub turn-passed : (many : ℕ) (a b : Core) → many < length (graph a.frame a.entries) → (IsUnclean b.frame b.entries many → ⊥) → IsBoundBelow many a b → IsBoundBelow (many + 1) a b
+turn-passed many a b within not_so below = choose (nat_lt many below.reached) refl where
+  choose : (c : Bool) → nat_lt many below.reached ≡ c → IsBoundBelow (many + 1) a b
+  choose true t =
+      let more : many < below.reached = grind (arith, nat_tests, t) in
+      record { reached = below.reached; late = omega (arith, more); within = below.within; bound = below.bound; clean = below.clean }
+  choose false t =
+      let most : below.reached ≤ many = grind (arith, nat_tests, t) in
+      record {
+        reached = many + 1;
+        late = omega arith;
+        within = omega (arith, within);
+        bound = bound-wider below.reached (many + 1) a b (omega (arith, most)) below.bound;
+        clean = λ z low derived. either z derived low (same-or-apart z many);
+      }
+    where
+      either : (z : ℕ) → IsDerived (graph b.frame b.entries) z → z < many + 1 → (z ≡ many) ⊎ (z ≡ many → ⊥) → IsClean b.frame b.entries z
+      either z derived low (inl same) = clean-else b.frame b.entries z derived (λ lacks. not_so (subst (IsUnclean b.frame b.entries) same lacks))
+      either z derived low (inr apart) = below.clean z (omega (arith, low, apart, below.late)) derived
+
+-- a turn at which a job of the variable was taken, and it or none was bound
+module _ (a b out c : Core) (y rows : ℕ) (core : IsLegal c.frame c.entries) (lacks : IsUnclean b.frame b.entries y) (is : out ≡ taken y rows b) (below : IsBoundBelow y a b) (bound : HasBoundIn y (y + 1) out c) where
   turn : IsTurn b out below.reached y
-  turn = turn-taken b out below.reached y rows below.bound.idle below.clean next is
+  turn = turn-taken b out below.reached y rows below.bound.idle below.late below.clean lacks is
 
   place : y < length (graph a.frame a.entries)
   place = omega (arith, turn.declared, ap (λ (ds : List Decl). length ds) below.bound.graph_is)
@@ -268,14 +286,12 @@ module _ (many : ℕ) (a b out c : Core) (y rows : ℕ) (core : IsLegal c.frame 
   pub turn-bound : HasBound a c
   turn-bound = bound-wider (y + 1) (length (graph a.frame a.entries)) a c (omega (arith, place)) both
 
-  pub turn-below : AreCleanBelow (y + 1) c → IsBoundBelow (many + 1) a c
-  turn-below clean = record { reached = y + 1; late = omega (arith, below.late, turn.late); within = omega (arith, place); bound = both; clean = clean }
+  pub turn-below : AreCleanBelow (y + 1) c → IsBoundBelow (y + 1) a c
+  turn-below clean = record { reached = y + 1; late = omega arith; within = omega (arith, place); bound = both; clean = clean }
 
-  -- where all were clean at first and the core is as it was, there was no job to take
-  pub turn-none : IsSettled a → b ≡ a → ⊥
-  turn-none settled same =
-      let first = next-first b.frame b.entries b.busy y below.bound.idle next in
-      first.holds.lacks ((subst IsSettled (sym same) settled) y first.holds.derived)
+-- where all were clean at first and the core is as it was, no variable lacks anything
+pub none-lacks : (a b : Core) (y : ℕ) → IsUnclean b.frame b.entries y → IsSettled a → b ≡ a → ⊥
+none-lacks a b y lacks settled same = lacks.lacks ((subst IsSettled (sym same) settled) y lacks.derived)
 
 -- ---- what it costs
 

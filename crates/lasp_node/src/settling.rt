@@ -1,7 +1,7 @@
 //! Settling a core: its jobs are done until none is left.
 
-ghost use Rattle.std.specs.Prelude.{◌≡◌, ◌<◌, ◌≤◌, ◌+◌, ◌++◌, ◌∷◌, [], length, OnOk};
-ghost use Rattle.lasp_node.specs.Prelude.{eval, first_large, FitsAll, Bind, entry, library_of, Settles, IsSettled, IsJobNow, greatest_count, counted_up, IsIdle, IsIdleBut, AreCleanBelow, HasBoundIn, HasBound, rows_since, TellsFirst};
+ghost use Rattle.std.specs.Prelude.{◌≡◌, ◌<◌, ◌≤◌, ◌+◌, ◌++◌, ◌∷◌, ◌↔◌, [], IsTrue, length, OnOk};
+ghost use Rattle.lasp_node.specs.Prelude.{eval, first_large, FitsAll, Bind, entry, library_of, Settles, IsSettled, IsJobNow, greatest_count, counted_up, IsIdle, IsIdleBut, AreCleanBelow, HasBoundIn, HasBound, rows_since, TellsFirst, IsUnclean};
 ghost use Rattle.model_journal.specs.Journal as journal;
 ghost use Rattle.lasp_fns.specs.Steps as counted;
 
@@ -47,6 +47,17 @@ fn do_job(alloc: Global, core: &mut Core, mut job: Job, lib: &mut StepLib) -> Re
     }
 }
 
+/// Whether a variable is derived and hasn't taken in its inputs as they are.
+fn is_unclean(core: &Core, var: u8) -> bool
+    requires { var < length (journal.graph core.now.frame core.now.entries) }
+    ensures { IsTrue result ↔ IsUnclean core.now.frame core.now.entries var }
+{
+    if core.graph().at(u64::from(var)).kind.is_source() {
+        return false;
+    }
+    !core.is_clean(var)
+}
+
 /// Brings every derived variable to what its process gives on the present sources, the least first and each once at most; one that is clean at its turn is passed over, and a core in which all are clean is left as it is. It calls the library's functions at most as often as rows changed in the inputs of the variables that it evaluates, since each was last bound.
 pub fn settle(alloc: Global, core: &mut Core, lib: &mut StepLib) -> Result<(), NodeStop>
     requires idle { IsIdle core.old.busy }
@@ -64,15 +75,14 @@ pub fn settle(alloc: Global, core: &mut Core, lib: &mut StepLib) -> Result<(), N
 {
     core.recall();
     core.owed();
-    for turn in 0..=core.graph().len() {
-        match core.take()? {
-            None => return Ok(()),
-            Some(job) => {
-                let done = do_job(alloc, core, job, lib);
-                core.recall();
-                done?;
-            }
+    for x in 0..core.graph().len() {
+        let var = x as u8;
+        if is_unclean(core, var) {
+            let job = core.take_var(var)?;
+            let done = do_job(alloc, core, job, lib);
+            core.recall();
+            done?;
         }
     }
-    unreachable!()
+    Ok(())
 }

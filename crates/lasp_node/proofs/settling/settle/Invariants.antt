@@ -6,11 +6,11 @@ use Rattle.lasp_core.specs.Core.{IsSettled}
 use Rattle.lasp_node.proofs.SettleLaws.{IsBoundBelow, HasCost}
 use Rattle.lasp_node.proofs.settling.settle.Given as goal
 
-abbrev pub invariant-loop-turn : goal.invariant-loop-turn
-invariant-loop-turn g l = record {
-  within : l.turn ≤ length (journal.graph l.fn.core.frame l.fn.core.entries);
+abbrev pub invariant-loop-x : goal.invariant-loop-x
+invariant-loop-x g l = record {
+  within : l.x ≤ length (journal.graph l.fn.core.frame l.fn.core.entries);
   core : IsCore l.core;
-  below : IsBoundBelow l.turn l.fn.core l.core;
+  below : IsBoundBelow l.x l.fn.core l.core;
   cost : HasCost l.fn.core l.core (counted.ticks_of l.fn.lib) (counted.ticks_of l.lib);
   left : IsSettled l.fn.core → l.core ≡ l.fn.core;
   unticked : IsSettled l.fn.core → counted.ticks_of l.lib ≡ counted.ticks_of l.fn.lib;
