@@ -51,6 +51,7 @@ stands-later c d ready = record {
   known = ready.known;
   waiting = all-later c d.nodes d.reads ready.waiting;
   marked = ready.marked;
+  tailed = ready.tailed;
 }
 
 pub acts-later : {A : Type 0} (c : ℕ) (d e : DriverView) (all : List Act) (result : Result A Halt) → ActsSeen c c d all result e → ActsSeen c (c + 1) d all result e

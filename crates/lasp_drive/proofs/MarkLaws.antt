@@ -39,28 +39,38 @@ use Rattle.lasp_drive.proofs.NodeLaws.{at-set, same-set, mapped-or}
 -- ---- nodes that show at least what they showed
 
 pub grow-none : (nodes : List NodeView) → AllGrow nodes nodes
-grow-none nodes p n at = (n, at, λ x threshold met. met)
+grow-none nodes p n at = (n, at, λ x threshold met. met, refl)
 
-pub grow-set : (nodes : List NodeView) (p : ℕ) (n new : NodeView) → slice_get nodes p ≡ Some n → Grows n.shown new.shown → AllGrow nodes (slice_set nodes p new)
-grow-set nodes p n new at more = at-set (λ q m. (k : NodeView) × (slice_get nodes q ≡ Some k) × Grows k.shown m.shown) nodes p new (λ q m _ there. (m, there, λ x threshold met. met)) (n, at, more)
+pub grow-set : (nodes : List NodeView) (p : ℕ) (n new : NodeView) → slice_get nodes p ≡ Some n → Grows n.shown new.shown → new.sent ≡ n.sent → AllGrow nodes (slice_set nodes p new)
+grow-set nodes p n new at more sent = at-set (λ q m. (k : NodeView) × (slice_get nodes q ≡ Some k) × Grows k.shown m.shown × (m.sent ≡ k.sent)) nodes p new (λ q m _ there. (m, there, λ x threshold met. met, refl)) (n, at, more, sent)
 
 pub grow-then : (old mid new : List NodeView) → AllGrow old mid → AllGrow mid new → AllGrow old new
 grow-then old mid new first second p n at =
     let one = second p n at in
     let two = first p one.0 one.1 in
-    (two.0, two.1, λ x threshold met. one.2 x threshold (two.2 x threshold met))
+    (two.0, two.1, λ x threshold met. one.2 x threshold (two.2 x threshold met), one.3 ∙ two.3)
+
+-- the same, whether they sent anything or not
+abbrev pub AllShow : List NodeView → List NodeView → Type 0
+AllShow old new = (p : ℕ) (n : NodeView) → slice_get new p ≡ Some n → (m : NodeView) × (slice_get old p ≡ Some m) × Grows m.shown n.shown
+
+pub show-set : (nodes : List NodeView) (p : ℕ) (n new : NodeView) → slice_get nodes p ≡ Some n → Grows n.shown new.shown → AllShow nodes (slice_set nodes p new)
+show-set nodes p n new at more = at-set (λ q m. (k : NodeView) × (slice_get nodes q ≡ Some k) × Grows k.shown m.shown) nodes p new (λ q m _ there. (m, there, λ x threshold met. met)) (n, at, more)
 
 -- ---- marks that they hold
 
-holds-grows : (old new : List NodeView) (m : Mark) (p : ℕ) → AllGrow old new → HoldsMarkAt old m p → HoldsMarkAt new m p
-holds-grows old new m p grow holds n at =
-    let was = grow p n at in
+holds-shown : (old new : List NodeView) (m : Mark) (p : ℕ) → AllShow old new → HoldsMarkAt old m p → HoldsMarkAt new m p
+holds-shown old new m p show holds n at =
+    let was = show p n at in
     was.2 m.var (model.AtLeast model.set (content_of (arc_value m.state))) (holds was.0 was.1)
 
-pub marks-grow : (old new : List NodeView) (marks : List Mark) → AllGrow old new → HoldMarks old marks → HoldMarks new marks
-marks-grow old new marks grow =
+pub marks-shown : (old new : List NodeView) (marks : List Mark) → AllShow old new → HoldMarks old marks → HoldMarks new marks
+marks-shown old new marks show =
     each-weaker (λ (m : Mark). AllByRecursion (HoldsMarkAt old m) m.known.items) (λ (m : Mark). AllByRecursion (HoldsMarkAt new m) m.known.items)
-    (λ m held. each-weaker (HoldsMarkAt old m) (HoldsMarkAt new m) (λ p holds. holds-grows old new m p grow holds) m.known.items held) marks
+    (λ m held. each-weaker (HoldsMarkAt old m) (HoldsMarkAt new m) (λ p holds. holds-shown old new m p show holds) m.known.items held) marks
+
+pub marks-grow : (old new : List NodeView) (marks : List Mark) → AllGrow old new → HoldMarks old marks → HoldMarks new marks
+marks-grow old new marks grow = marks-shown old new marks (λ p n at. let was = grow p n at in (was.0, was.1, was.2))
 
 pub marks-more : (nodes : List NodeView) (marks : List Mark) (m : Mark) → HoldMarks nodes marks → AllByRecursion (HoldsMarkAt nodes m) m.known.items → HoldMarks nodes (marks ++ m ∷ [])
 marks-more nodes marks m held one = each-append (λ (m : Mark). AllByRecursion (HoldsMarkAt nodes m) m.known.items) marks (m ∷ []) held (one, tt)

@@ -85,7 +85,7 @@ node-stays g many p n new old stays = record { graph = stays.graph ∙ old.graph
 
 -- a node that learned grew
 pub learned-grew : (n new : NodeView) → OnlyLearns n new → Grew n new
-learned-grew n new learned = record { more = learned.learns.more; released = learned.reads }
+learned-grew n new learned = record { more = learned.learns.more; released = learned.reads; sent = learned.sent }
 
 -- and is settled where it was
 pub learned-settled : (n new : NodeView) → Learns n new → IsSettled n → IsSettled new

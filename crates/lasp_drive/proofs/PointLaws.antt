@@ -107,7 +107,7 @@ extend-next {X} of f rs nodes p n new within at before is =
 
 -- ---- the first nodes
 
-at-push : {X : Type 0} (P : ℕ → X → Type 0) (xs : List X) (y : X) → ((q : ℕ) (x : X) → slice_get xs q ≡ Some x → P q x) → P (length xs) y → (q : ℕ) (x : X) → slice_get (xs ++ y ∷ []) q ≡ Some x → P q x
+pub at-push : {X : Type 0} (P : ℕ → X → Type 0) (xs : List X) (y : X) → ((q : ℕ) (x : X) → slice_get xs q ≡ Some x → P q x) → P (length xs) y → (q : ℕ) (x : X) → slice_get (xs ++ y ∷ []) q ≡ Some x → P q x
 at-push P [] y each here zero x e = subst (λ w. P zero w) (let same : y ≡ x = cc in same) here
 at-push P [] y each here (suc q) x e = absurd cc
 at-push P (z ∷ xs) y each here zero x e = each zero x e
@@ -138,6 +138,7 @@ fresh-next g many p nodes new all is = record {
   peers = fresh-push (λ (n : NodeView). n.peer) p (fresh_peer g many) nodes new all.peers is.peer;
   calls = fresh-push (λ (n : NodeView). n.calls) p [] nodes new all.calls is.calls;
   reads = at-push (λ q n. HasNoReads n) nodes new all.reads is.reads;
+  sent = at-push (λ q n. n.sent ≡ None) nodes new all.sent is.sent;
 }
 
 -- ---- all nodes of a run, one after the other
@@ -147,7 +148,7 @@ keep-reads : (old now : List NodeView) (p : ℕ) (n new : NodeView) → KeepRead
 keep-reads old now p n new kept at grew = record {
   counts = same-set opened_count now p n new at (opened-kept new.shown n.reads new.reads grew.released) ∙ kept.counts;
   waiting = λ c opened all. all-called c p now opened n new at grew (kept.waiting c opened all);
-  grow = grow-then old now (slice_set now p new) kept.grow (grow-set now p n new at grew.more);
+  grow = grow-then old now (slice_set now p new) kept.grow (grow-set now p n new at grew.more grew.sent);
 }
 
 -- the nodes were asked one after the other

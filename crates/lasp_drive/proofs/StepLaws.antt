@@ -1,6 +1,6 @@
 -- What each act leaves: a driver that stands where the world has come to.
 use Rattle.std.proofs.Common.{refl, sym, ap, subst, ◌∙◌, arith}
-use Rattle.std.specs.Prelude.{◌≡◌, ℕ, ◌+◌, ◌<◌, ◌≤◌, List, [], ◌∷◌, ◌++◌, map, length, slice_get, slice_set, slice_index_or, replicate, Some, None, Ok, Err, nat_lt, Bool, true, false, if◌then◌else◌, IsTrue, OnOk, Result}
+use Rattle.std.specs.Prelude.{◌≡◌, ℕ, ◌+◌, ◌<◌, ◌≤◌, List, [], ◌∷◌, ◌++◌, map, length, slice_get, slice_set, slice_index_or, replicate, Option, Some, None, IfSome, Ok, Err, nat_lt, Bool, true, false, if◌then◌else◌, IsTrue, OnOk, Result}
 use Rattle.std.specs.List.{AllByRecursion, Contains}
 use Rattle.std.proofs.lemmas.List.{length-set, length-map, map-append, get_or-set_same}
 use Rattle.std.proofs.lemmas.Option.{slice_get_within, get_or_from_slice_get}
@@ -36,12 +36,14 @@ use Rattle.model_runs.proofs.SoundLaws.{sound-start, sound-update, sound-take, s
 use Rattle.std.specs.Arc.{arc_value}
 use Rattle.lasp_state.specs.State.{IsOpOf, op_of, content_of}
 use Rattle.lasp_state.specs.declared.op.Op as rust
-use Rattle.lasp_drive.specs.Node.{NodeView, IsNode, IsStill, ShowsNoMore, IsIdleUpdate, AreNodes, AreSettled, Grew, LearnsAnd, OnlyLearns, MayUpdate, MayRead, AreFresh}
+use Rattle.lasp_drive.specs.Node.{NodeView, IsNode, IsStill, ShowsNoMore, IsIdleUpdate, AreNodes, AreSettled, Grew, LearnsAnd, OnlyLearns, Sends, IsTailOf, MayUpdate, MayRead, AreFresh}
 use Rattle.lasp_drive.specs.Nodes.{peers_of, MaySettle, AllLearn, AllSettled, SettlesAll, AllExtend}
 use Rattle.lasp_drive.specs.Reads.{IsNextRead, opens_next, looks_once}
 use Rattle.lasp_drive.specs.Waiting.{AreWaiting, opened_count, GoOnByReads}
 use Rattle.lasp_drive.specs.Calls.{GoOnByCalls}
 use Rattle.lasp_drive.specs.Marks.{marked_of, HoldsMark, HoldsMarkAt, HoldMarks, AllGrow, IsNoted}
+use Rattle.lasp_drive.specs.Tails.{AreTailed}
+use Rattle.lasp_drive.specs.declared.node.Tail.{Tail}
 use Rattle.lasp_drive.specs.Driver.{DriverView, opened_of, run_of, stage_of, IsRunKnown, Stands, Starts}
 use Rattle.lasp_drive.specs.Acts.{MayDo, Acted, ActsSeen}
 use Rattle.lasp_script.specs.Command.{until_of}
@@ -53,15 +55,16 @@ use Rattle.lasp_drive.specs.declared.halt.Halt.{Halt}
 use Rattle.lasp_drive.specs.declared.driver.Mark.{Mark}
 use Rattle.lasp_drive.specs.declared.driver.OpenRead.{OpenRead}
 use Rattle.lasp_drive.proofs.NodeLaws.{mapped-or, same-set, nodes-set, node-stays, learned-grew, peer-here, held-here, update-here, suits-here, room-here, var-here, suited-here, update-done, deliver-done, sent-here, with_peers}
-use Rattle.lasp_drive.proofs.WaitLaws.{all-later, all-called, all-looked, all-opened, all-fresh, opened-kept, opened-one}
+use Rattle.lasp_drive.proofs.WaitLaws.{all-later, all-released, all-called, all-looked, all-opened, all-fresh, opened-kept, opened-one}
 use Rattle.lasp_drive.proofs.CallLaws.{calls-stay, calls-set, updated-there, updated-elsewhere, taken-there, taken-elsewhere, calls-each, counts-stay, one-opened}
 use Rattle.lasp_drive.proofs.ActLaws.{acted-one, acted-then, stops-still}
-use Rattle.lasp_drive.proofs.MarkLaws.{grow-set, mark-var, marks-grow, kept-held, marks-more, mark-held, idle-source, joined-held}
+use Rattle.lasp_drive.proofs.MarkLaws.{grow-set, show-set, mark-var, marks-shown, marks-grow, kept-held, marks-more, mark-held, idle-source, joined-held}
+use Rattle.lasp_drive.proofs.TailLaws.{tailed-start, tailed-grow, tailed-post, tailed-extend, short-sent}
 use Rattle.lasp_drive.proofs.KnownLaws.{known-start, known-update, known-keep, known-post, known-take, known-show, known-open, known-extend}
 
 -- the driver with these nodes
 abbrev pub with_nodes : DriverView → List NodeView → DriverView
-with_nodes d nodes = record { graph = d.graph; nodes = nodes; sent = d.sent; limit = d.limit; marks = d.marks; reads = d.reads; text = d.text }
+with_nodes d nodes = record { graph = d.graph; nodes = nodes; sent = d.sent; limit = d.limit; tails = d.tails; marks = d.marks; reads = d.reads; text = d.text }
 
 -- as many nodes of the same run, whose world is sound
 stands-with : (c next : ℕ) (d : DriverView) (nodes : List NodeView) → Stands c d → length nodes ≡ length d.nodes → AreNodes d.graph (length d.nodes) nodes → IsSound (length d.nodes) next (stage_of d) (with_peers (run_of d) (peers_of nodes))
@@ -75,6 +78,7 @@ stands-with c next d nodes ready size each sound known waiting grow = record {
   known = subst (λ (many : ℕ). IsRunKnown many (with_peers (run_of d) (peers_of nodes))) (sym size) known;
   waiting = waiting;
   marked = marks-grow d.nodes nodes d.marks grow ready.marked;
+  tailed = tailed-grow d.graph d.nodes nodes d.sent d.tails grow ready.tailed;
 }
 
 -- no read was opened
@@ -95,7 +99,7 @@ acted-learns c p d n new ready at learned =
     let same : run_of d ≡ with_peers (run_of d) (peers_of nodes) = ap (with_peers (run_of d)) (sym peers) in
     record {
       ready = stands-with c c d nodes ready (length-set d.nodes p new) (nodes-set d.graph (length d.nodes) d.nodes p new ready.nodes (node-stays d.graph (length d.nodes) p n new (ready.nodes p n at) learned.learns.still))
-          (subst (λ (run : Run). IsSound (length d.nodes) c (stage_of d) run) same ready.sound) (subst (IsRunKnown (length d.nodes)) same ready.known) (all-called c p d.nodes d.reads n new at grew ready.waiting) (grow-set d.nodes p n new at grew.more);
+          (subst (λ (run : Run). IsSound (length d.nodes) c (stage_of d) run) same ready.sound) (subst (IsRunKnown (length d.nodes)) same ready.known) (all-called c p d.nodes d.reads n new at grew ready.waiting) (grow-set d.nodes p n new at grew.more grew.sent);
       size = length-set d.nodes p new;
       stage = refl;
       run = ap (λ (run : Run). Ok run) same;
@@ -138,7 +142,7 @@ acted-update c p x op d n new ready may at still is small calls grew =
     (stands-with c (c + 1) d (slice_set d.nodes p new) ready (length-set d.nodes p new) (nodes-set d.graph (length d.nodes) d.nodes p new ready.nodes (node-stays d.graph (length d.nodes) p n new here still))
     (sound-update (length d.nodes) c p x (stage_of d) op (run_of d) (with_peers (run_of d) (peers_of (slice_set d.nodes p new))) ready.sound may.2 may.0.0 may.0.1 may.1 done)
     (known-update (length d.nodes) c (run_of d) (with_peers (run_of d) (peers_of (slice_set d.nodes p new))) ready.known p x op may.0.0 may.0.1 may.1 done)
-    (all-later-called c d p n new at grew ready.waiting) (grow-set d.nodes p n new at grew.more))
+    (all-later-called c d p n new at grew ready.waiting) (grow-set d.nodes p n new at grew.more grew.sent))
     (length-set d.nodes p new) refl done
     (calls-set d.nodes p n new (λ q. call_of (run_of d) q (Update p x op)) at (calls ∙ ap (λ (h : List Entry). n.calls ++ h) (sym (updated-there (run_of d) p x op))) (updated-elsewhere (run_of d) p x op))
     (none-opened d.nodes p n new at grew)
@@ -265,7 +269,7 @@ acted-take c p i d n new m ready may at same still is small calls grew =
     (stands-with c c d (slice_set d.nodes p new) ready (length-set d.nodes p new) (nodes-set d.graph (length d.nodes) d.nodes p new ready.nodes (node-stays d.graph (length d.nodes) p n new here still))
     (sound-take (length d.nodes) c p i (stage_of d) (run_of d) (with_peers (run_of d) (peers_of (slice_set d.nodes p new))) ready.sound may.0 may.1 done)
     (known-take (length d.nodes) c (run_of d) (with_peers (run_of d) (peers_of (slice_set d.nodes p new))) ready.known p i done)
-    (all-called c p d.nodes d.reads n new at grew ready.waiting) (grow-set d.nodes p n new at grew.more))
+    (all-called c p d.nodes d.reads n new at grew ready.waiting) (grow-set d.nodes p n new at grew.more grew.sent))
     (length-set d.nodes p new) refl done
     (calls-set d.nodes p n new (λ q. call_of (run_of d) q (Take p i)) at
     (calls ∙ ap (λ (k : Message). n.calls ++ fed (model.Deliver i k) ∷ []) same ∙ ap (λ (h : List Entry). n.calls ++ h) (sym (taken-there (run_of d) p i))) (taken-elsewhere (run_of d) p i))
@@ -273,15 +277,15 @@ acted-take c p i d n new m ready may at same still is small calls grew =
 
 -- the driver with one message more
 abbrev pub with_sent : DriverView → List Message → ℕ → DriverView
-with_sent d sent limit = record { graph = d.graph; nodes = d.nodes; sent = sent; limit = limit; marks = d.marks; reads = d.reads; text = d.text }
+with_sent d sent limit = record { graph = d.graph; nodes = d.nodes; sent = sent; limit = limit; tails = d.tails; marks = d.marks; reads = d.reads; text = d.text }
 
 length-more : {X : Type 0} (xs : List X) (y : X) → length (xs ++ y ∷ []) ≡ length xs + 1
 length-more [] y = refl
 length-more (x ∷ xs) y = omega (arith, length-more xs y)
 
 -- the same nodes stand in another world
-stands-in : (c : ℕ) (d e : DriverView) → Stands c d → e.nodes ≡ d.nodes → e.graph ≡ d.graph → e.limit ≡ d.limit → e.reads ≡ d.reads → IsSound (length d.nodes) c (stage_of e) (run_of e) → IsRunKnown (length d.nodes) (run_of e) → HoldMarks d.nodes e.marks → Stands c e
-stands-in c d e ready nodes graph limit reads sound known marked = record {
+stands-in : (c : ℕ) (d e : DriverView) → Stands c d → e.nodes ≡ d.nodes → e.graph ≡ d.graph → e.limit ≡ d.limit → e.reads ≡ d.reads → IsSound (length d.nodes) c (stage_of e) (run_of e) → IsRunKnown (length d.nodes) (run_of e) → HoldMarks d.nodes e.marks → e.sent ≡ d.sent → e.tails ≡ d.tails → Stands c e
+stands-in c d e ready nodes graph limit reads sound known marked sent tails = record {
   some = omega (arith, ready.some, ap (λ (ns : List NodeView). length ns) nodes);
   few = omega (arith, ready.few, ap (λ (ns : List NodeView). length ns) nodes);
   nodes = subst (λ (g : List Decl). AreNodes g (length e.nodes) e.nodes) (sym graph) (subst (λ (ns : List NodeView). AreNodes d.graph (length ns) ns) (sym nodes) ready.nodes);
@@ -290,20 +294,59 @@ stands-in c d e ready nodes graph limit reads sound known marked = record {
   known = subst (λ (many : ℕ). IsRunKnown many (run_of e)) (sym (ap (λ (ns : List NodeView). length ns) nodes)) known;
   waiting = subst (λ (rs : List (OpenRead Read)). AreWaiting c e.nodes rs) (sym reads) (subst (λ (ns : List NodeView). AreWaiting c ns d.reads) (sym nodes) ready.waiting);
   marked = subst (λ (ns : List NodeView). HoldMarks ns e.marks) (sym nodes) marked;
+  tailed = subst (λ (g : List Decl). AreTailed g e.nodes e.sent e.tails) (sym graph)
+      (subst (λ (ns : List NodeView). AreTailed d.graph ns e.sent e.tails) (sym nodes)
+      (subst (λ (ms : List Message). AreTailed d.graph d.nodes ms e.tails) (sym sent)
+      (subst (λ (ts : List (Option Tail)). AreTailed d.graph d.nodes d.sent ts) (sym tails) ready.tailed)));
 }
 
-pub acted-post : (c p : ℕ) (d : DriverView) (m : Message) → Stands c d → p < length d.nodes → act c (run_of d) (Post p) ≡ Ok (run_of (with_sent d (d.sent ++ m ∷ []) d.limit)) → Acted c c d (Post p ∷ []) (with_sent d (d.sent ++ m ∷ []) d.limit)
-acted-post c p d m ready member done =
-    let e = with_sent d (d.sent ++ m ∷ []) d.limit in
-    let stage : stage_of e ≡ record { graph = d.graph; marked = map (λ (m : Mark). m.var) d.marks; sent = length d.sent + 1 } = ap (λ (n : ℕ). record { graph = d.graph; marked = map (λ (m : Mark). m.var) d.marks; sent = n }) (length-more d.sent m) in
-    acted-one c c d e (Post p)
-    (stands-in c d e ready refl refl refl refl (subst (λ s. IsSound (length d.nodes) c s (run_of e)) (sym stage) (sound-post (length d.nodes) c p (stage_of d) (run_of d) (run_of e) ready.sound member done)) (known-post (length d.nodes) c (run_of d) (run_of e) ready.known p done) ready.marked)
-    refl stage done (calls-stay d.nodes d.nodes refl) (counts-stay d.nodes d.nodes refl)
+-- the driver with these nodes, messages, and what is kept of them
+abbrev pub with_tails : DriverView → List NodeView → List Message → ℕ → List (Option Tail) → DriverView
+with_tails d nodes sent limit tails = record { graph = d.graph; nodes = nodes; sent = sent; limit = limit; tails = tails; marks = d.marks; reads = d.reads; text = d.text }
+
+-- the driver with these nodes and a message more
+abbrev pub with_letter : DriverView → List NodeView → Message → Option Tail → DriverView
+with_letter d nodes m t = with_tails d nodes (d.sent ++ m ∷ []) d.limit (d.tails ++ t ∷ [])
+
+pub acted-post : (c p : ℕ) (d : DriverView) (n new : NodeView) (m : Message) (t : Option Tail) → Stands c d → p < length d.nodes → slice_get d.nodes p ≡ Some n → m ≡ message_at n.decls n.peer → IfSome t (IsTailOf n) → Sends (length d.sent) n new
+    → act c (run_of d) (Post p) ≡ Ok (run_of (with_sent d (d.sent ++ m ∷ []) d.limit)) → Acted c c d (Post p ∷ []) (with_letter d (slice_set d.nodes p new) m t)
+acted-post c p d n new m t ready member at whole tail sends posted = acted-one c c d e (Post p)
+    (record {
+      some = omega (arith, ready.some, size);
+      few = omega (arith, ready.few, size);
+      nodes = subst (λ (many : ℕ). AreNodes d.graph many nodes) (sym size) (nodes-set d.graph (length d.nodes) d.nodes p new ready.nodes (node-stays d.graph (length d.nodes) p n new here sends.learns.still));
+      limit = ready.limit;
+      sound = subst (λ (many : ℕ). IsSound many c (stage_of e) (run_of e)) (sym size) (subst (λ s. IsSound (length d.nodes) c s (run_of e)) (sym stage) (sound-post (length d.nodes) c p (stage_of d) (run_of d) (run_of e) ready.sound member done));
+      known = subst (λ (many : ℕ). IsRunKnown many (run_of e)) (sym size) (known-post (length d.nodes) c (run_of d) (run_of e) ready.known p done);
+      waiting = all-released c p d.nodes d.reads n new at sends.learns.more sends.reads ready.waiting;
+      marked = marks-shown d.nodes nodes d.marks (show-set d.nodes p n new at sends.learns.more) ready.marked;
+      tailed = tailed-post d.graph d.nodes d.sent d.tails p n new m t ready.tailed at here.graph
+          (subst (λ (r : Peer). length r.contents ≡ length d.graph) (peer-here d.nodes p n at) (ready.sound.held p member).long) (whole ∙ ap (λ (g : List Decl). message_at g n.peer) here.graph) tail sends;
+    })
+    size stage done (none-called d.nodes p n new at sends.learns.calls) (counts-stay d.nodes nodes (same-set opened_count d.nodes p n new at (opened-kept new.shown n.reads new.reads sends.reads)))
+  where
+    nodes : List NodeView
+    nodes = slice_set d.nodes p new
+
+    e : DriverView
+    e = with_letter d nodes m t
+
+    here : IsNode d.graph (length d.nodes) p n
+    here = ready.nodes p n at
+
+    size : length nodes ≡ length d.nodes
+    size = length-set d.nodes p new
+
+    done : act c (run_of d) (Post p) ≡ Ok (run_of e)
+    done = posted ∙ ap (λ (ps : List Peer). Ok (with_peers (run_of (with_sent d (d.sent ++ m ∷ []) d.limit)) ps)) (sym (same-set (λ (n : NodeView). n.peer) d.nodes p n new at sends.learns.peer))
+
+    stage : stage_of e ≡ record { graph = d.graph; marked = map (λ (m : Mark). m.var) d.marks; sent = length d.sent + 1 }
+    stage = ap (λ (n : ℕ). record { graph = d.graph; marked = map (λ (m : Mark). m.var) d.marks; sent = n }) (length-more d.sent m)
 
 -- ---- marks
 
 abbrev pub with_marks : DriverView → List Mark → DriverView
-with_marks d marks = record { graph = d.graph; nodes = d.nodes; sent = d.sent; limit = d.limit; marks = marks; reads = d.reads; text = d.text }
+with_marks d marks = record { graph = d.graph; nodes = d.nodes; sent = d.sent; limit = d.limit; tails = d.tails; marks = marks; reads = d.reads; text = d.text }
 
 abbrev marked : Shape → Content → Marked
 marked shape content = record { shape = shape; content = content }
@@ -323,7 +366,7 @@ acted-keep c p x d n m ready may at var shape content held =
     let stage : stage_of e ≡ record { graph = d.graph; marked = map (λ (m : Mark). m.var) d.marks ++ x ∷ []; sent = length d.sent } =
     ap (λ (vs : List ℕ). record { graph = d.graph; marked = vs; sent = length d.sent }) (map-append (λ (m : Mark). m.var) d.marks (m ∷ []) ∙ ap (λ (v : ℕ). map (λ (m : Mark). m.var) d.marks ++ v ∷ []) var) in
     acted-one c c d e (Keep p x)
-    (stands-in c d e ready refl refl refl refl (subst (λ s. IsSound (length d.nodes) c s (run_of e)) (sym stage) (sound-keep (length d.nodes) c p x (stage_of d) (run_of d) (run_of e) ready.sound may.0.0 may.0.1 may.1 done)) (known-keep (length d.nodes) c (run_of d) (run_of e) ready.known p x done) (marks-more d.nodes d.marks m ready.marked held))
+    (stands-in c d e ready refl refl refl refl (subst (λ s. IsSound (length d.nodes) c s (run_of e)) (sym stage) (sound-keep (length d.nodes) c p x (stage_of d) (run_of d) (run_of e) ready.sound may.0.0 may.0.1 may.1 done)) (known-keep (length d.nodes) c (run_of d) (run_of e) ready.known p x done) (marks-more d.nodes d.marks m ready.marked held) refl refl)
     refl stage done (calls-stay d.nodes d.nodes refl) (counts-stay d.nodes d.nodes refl)
 
 -- the node whose source was marked holds the mark
@@ -347,7 +390,7 @@ acted-noted c next k p d e all marks done noted holds =
     record {
       ready = stands-in next e (with_marks e marks) done.ready refl refl refl refl
           (subst (λ (s : Stage). IsSound (length e.nodes) next s (run_of (with_marks e marks))) (sym stage) (subst (λ (r : Run). IsSound (length e.nodes) next (stage_of e) r) (sym run) done.ready.sound))
-          (subst (IsRunKnown (length e.nodes)) (sym run) done.ready.known) (noted.held e.nodes holds done.ready.marked);
+          (subst (IsRunKnown (length e.nodes)) (sym run) done.ready.known) (noted.held e.nodes holds done.ready.marked) refl refl;
       size = done.size;
       stage = stage ∙ done.stage;
       run = done.run ∙ ap (λ (r : Run). Ok r) (sym run);
@@ -374,7 +417,7 @@ shown-here g nodes p x n settled at graph =
     ap (λ (cs : List Content). content_at cs x) (settled p n at ∙ ap (λ (h : List Decl). shown_at h n.peer) graph ∙ ap (shown_at g) (sym (peer-here nodes p n at)))
 
 abbrev pub with_text : DriverView → List ℕ → DriverView
-with_text d text = record { graph = d.graph; nodes = d.nodes; sent = d.sent; limit = d.limit; marks = d.marks; reads = d.reads; text = text }
+with_text d text = record { graph = d.graph; nodes = d.nodes; sent = d.sent; limit = d.limit; tails = d.tails; marks = d.marks; reads = d.reads; text = text }
 
 -- the line of a print
 pub show-done : (c p x : ℕ) (d : DriverView) (n : NodeView) (decl : Decl) (name shown text : List ℕ) → Stands c d → AreSettled d.nodes → slice_get d.nodes p ≡ Some n → slice_get d.graph x ≡ Some decl → name ≡ decl.name
@@ -391,7 +434,7 @@ show-done c p x d n decl name shown text ready settled at there named showing is
 
 pub acted-show : (c p x : ℕ) (d : DriverView) (text : List ℕ) → Stands c d → act c (run_of d) (Show p x) ≡ Ok (run_of (with_text d text)) → Acted c c d (Show p x ∷ []) (with_text d text)
 acted-show c p x d text ready done =
-    acted-one c c d (with_text d text) (Show p x) (stands-in c d (with_text d text) ready refl refl refl refl (sound-show (length d.nodes) c p x (stage_of d) (run_of d) (run_of (with_text d text)) ready.sound done) (known-show (length d.nodes) c (run_of d) (run_of (with_text d text)) ready.known p x done) ready.marked)
+    acted-one c c d (with_text d text) (Show p x) (stands-in c d (with_text d text) ready refl refl refl refl (sound-show (length d.nodes) c p x (stage_of d) (run_of d) (run_of (with_text d text)) ready.sound done) (known-show (length d.nodes) c (run_of d) (run_of (with_text d text)) ready.known p x done) ready.marked refl refl)
     refl refl done (calls-stay d.nodes d.nodes refl) (counts-stay d.nodes d.nodes refl)
 
 -- ---- reads
@@ -408,7 +451,7 @@ may-read c p x until d n t ready may at is =
 
 -- the driver with these nodes and reads
 abbrev pub with_both : DriverView → List NodeView → List (OpenRead Read) → DriverView
-with_both d nodes reads = record { graph = d.graph; nodes = nodes; sent = d.sent; limit = d.limit; marks = d.marks; reads = reads; text = d.text }
+with_both d nodes reads = record { graph = d.graph; nodes = nodes; sent = d.sent; limit = d.limit; tails = d.tails; marks = d.marks; reads = reads; text = d.text }
 
 abbrev pub open_read : ℕ → Read → OpenRead Read
 open_read p r = record { node = p; read = r }
@@ -436,7 +479,8 @@ acted-open c p x until d n new r ready may at few next learned =
           (sound-later (length d.nodes) c (stage_of d) (run_of e) (sound-open (length d.nodes) c p x (stage_of d) until (run_of d) (run_of e) ready.sound may.0.0 may.0.1 (sound-suits (length d.nodes) c x (stage_of d) until (run_of d) ready.sound may.0.1 may.1) done));
       known = subst (λ (many : ℕ). IsRunKnown many (run_of e)) (sym size) (known-open (length d.nodes) c (run_of d) (run_of e) ready.known p x until done);
       waiting = all-opened c p x t d.nodes d.reads n new r (omega (arith, few)) at next learned ready.waiting;
-      marked = marks-grow d.nodes nodes d.marks (grow-set d.nodes p n new at learned.learns.more) ready.marked;
+      marked = marks-grow d.nodes nodes d.marks (grow-set d.nodes p n new at learned.learns.more learned.sent) ready.marked;
+      tailed = tailed-grow d.graph d.nodes nodes d.sent d.tails (grow-set d.nodes p n new at learned.learns.more learned.sent) ready.tailed;
     })
     size refl done (none-called d.nodes p n new at learned.learns.calls)
     (one-opened d.nodes p n new at (opened-one c p d.reads n new (opens_next x t) (omega (arith, few)) (λ s. refl) learned (ready.waiting p n at)))
@@ -471,7 +515,7 @@ acted-reach c p x until d n new ready at few learned reached =
     (stands-with c (c + 1) d nodes ready (length-set d.nodes p new) (nodes-set d.graph (length d.nodes) d.nodes p new ready.nodes (node-stays d.graph (length d.nodes) p n new (ready.nodes p n at) learned.learns.still))
     (subst (λ (run : Run). IsSound (length d.nodes) (c + 1) (stage_of d) run) same (sound-later (length d.nodes) c (stage_of d) (run_of d) ready.sound))
     (subst (IsRunKnown (length d.nodes)) same ready.known)
-    (all-looked c p d.nodes d.reads n new (omega (arith, few)) at learned ready.waiting) (grow-set d.nodes p n new at learned.learns.more))
+    (all-looked c p d.nodes d.reads n new (omega (arith, few)) at learned ready.waiting) (grow-set d.nodes p n new at learned.learns.more learned.sent))
     (length-set d.nodes p new) refl (reached ∙ ap (λ (run : Run). Ok run) same) (none-called d.nodes p n new at learned.learns.calls)
     (one-opened d.nodes p n new at (opened-one c p d.reads n new looks_once (omega (arith, few)) (λ s. refl) learned (ready.waiting p n at)))
 
@@ -485,7 +529,7 @@ acted-point c d nodes ready all done =
     all.size refl (done ∙ ap (λ (run : Run). Ok run) same) (calls-stay d.nodes nodes all.calls) (counts-stay d.nodes nodes all.reads.counts)
 
 abbrev pub with_graph : DriverView → List Decl → List NodeView → DriverView
-with_graph d graph nodes = record { graph = graph; nodes = nodes; sent = d.sent; limit = d.limit; marks = d.marks; reads = d.reads; text = d.text }
+with_graph d graph nodes = record { graph = graph; nodes = nodes; sent = d.sent; limit = d.limit; tails = d.tails; marks = d.marks; reads = d.reads; text = d.text }
 
 pub acted-extend : (c : ℕ) (decl : Decl) (d : DriverView) (nodes : List NodeView) → Stands c d → AllExtend (d.graph ++ decl ∷ []) decl d.nodes nodes → Acted c c d (Extend decl ∷ []) (with_graph d (d.graph ++ decl ∷ []) nodes)
 acted-extend c decl d nodes ready all =
@@ -503,6 +547,7 @@ acted-extend c decl d nodes ready all =
       known = subst (λ (many : ℕ). IsRunKnown many (run_of e)) (sym all.size) (known-extend (length d.nodes) c (run_of d) (run_of e) ready.known decl done);
       waiting = all.reads.waiting c d.reads ready.waiting;
       marked = marks-grow d.nodes nodes d.marks all.reads.grow ready.marked;
+      tailed = tailed-extend d.graph decl d.sent (short-sent (length d.nodes) (run_of d) ready.known) nodes d.tails (tailed-grow d.graph d.nodes nodes d.sent d.tails all.reads.grow ready.tailed);
     })
     all.size refl done (calls-each d.nodes nodes (fed (model.Extend decl) ∷ []) all.calls) (counts-stay d.nodes nodes all.reads.counts)
 
@@ -520,8 +565,8 @@ settled-point c g old new (Err why) all = tt
 
 -- ---- the start
 
-pub starts-fresh : (g : List Decl) (many : ℕ) (d : DriverView) → 1 ≤ many → many ≤ 8 → AreFresh g many many d.nodes → d.graph ≡ g → d.sent ≡ [] → d.limit ≡ network_limit → d.marks ≡ [] → d.reads ≡ [] → d.text ≡ [] → Starts g many d
-starts-fresh g many d some few fresh graph sent limit marks reads text =
+pub starts-fresh : (g : List Decl) (many : ℕ) (d : DriverView) → 1 ≤ many → many ≤ 8 → AreFresh g many many d.nodes → d.graph ≡ g → d.sent ≡ [] → d.limit ≡ network_limit → d.tails ≡ [] → d.marks ≡ [] → d.reads ≡ [] → d.text ≡ [] → Starts g many d
+starts-fresh g many d some few fresh graph sent limit tails marks reads text =
     let run : run_of d ≡ start g many =
     ap (λ (h : List Decl). record { graph = h; peers = peers_of d.nodes; sent = d.sent; marks = map marked_of d.marks; reads = map opened_of d.reads; text = d.text }) graph
     ∙ ap (λ (ps : List Peer). record { graph = g; peers = ps; sent = d.sent; marks = map marked_of d.marks; reads = map opened_of d.reads; text = d.text }) fresh.peers
@@ -545,6 +590,7 @@ starts-fresh g many d some few fresh graph sent limit marks reads text =
         known = subst (λ (k : ℕ). IsRunKnown k (run_of d)) (sym fresh.size) (subst (IsRunKnown many) (sym run) (known-start many g));
         waiting = subst (λ (rs : List (OpenRead Read)). AreWaiting 1 d.nodes rs) (sym reads) (all-fresh d.nodes fresh.reads);
         marked = subst (HoldMarks d.nodes) (sym marks) tt;
+        tailed = subst (λ (ms : List Message). AreTailed d.graph d.nodes ms d.tails) (sym sent) (subst (λ (ts : List (Option Tail)). AreTailed d.graph d.nodes [] ts) (sym tails) (tailed-start d.graph d.nodes fresh.sent));
       };
       run = run;
       stage = stage;

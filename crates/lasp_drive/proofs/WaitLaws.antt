@@ -127,9 +127,9 @@ opens-waiting c p x threshold opened shown s r few here was =
 
 -- ---- a node after a call
 
-pub still-waiting : (c p : ℕ) (opened : List (OpenRead Read)) (n new : NodeView) → Grew n new → WaitsAt c p opened n → WaitsAt c p opened new
-still-waiting c p opened n new grew was =
-    told-map (IsWaiting c p opened n.shown) (IsWaiting c p opened new.shown) n.reads new.reads (releases new.shown) grew.released (λ s waits. released-waiting c p opened n.shown new.shown s grew.more waits) was
+released-still : (c p : ℕ) (opened : List (OpenRead Read)) (n new : NodeView) → Grows n.shown new.shown → new.reads ≡ option_map (releases new.shown) n.reads → WaitsAt c p opened n → WaitsAt c p opened new
+released-still c p opened n new more released was =
+    told-map (IsWaiting c p opened n.shown) (IsWaiting c p opened new.shown) n.reads new.reads (releases new.shown) released (λ s waits. released-waiting c p opened n.shown new.shown s more waits) was
 
 looked-waiting : (c p : ℕ) (opened : List (OpenRead Read)) (n new : NodeView) → c < 2 ^ 64 - 1 → LearnsAnd looks_once n new → WaitsAt c p opened n → WaitsAt (c + 1) p opened new
 looked-waiting c p opened n new few learned was =
@@ -161,10 +161,14 @@ waiting-later c p opened n was =
 pub all-later : (c : ℕ) (nodes : List NodeView) (opened : List (OpenRead Read)) → AreWaiting c nodes opened → AreWaiting (c + 1) nodes opened
 all-later c nodes opened all q n at = waiting-later c q opened n (all q n at)
 
+pub all-released : (c p : ℕ) (nodes : List NodeView) (opened : List (OpenRead Read)) (n new : NodeView) → slice_get nodes p ≡ Some n → Grows n.shown new.shown → new.reads ≡ option_map (releases new.shown) n.reads → AreWaiting c nodes opened
+    → AreWaiting c (slice_set nodes p new) opened
+all-released c p nodes opened n new at more released all =
+    at-set (λ q m. WaitsAt c q opened m) nodes p new (λ q m other there. all q m there) (released-still c p opened n new more released (all p n at))
+
 pub all-called : (c p : ℕ) (nodes : List NodeView) (opened : List (OpenRead Read)) (n new : NodeView) → slice_get nodes p ≡ Some n → Grew n new → AreWaiting c nodes opened
     → AreWaiting c (slice_set nodes p new) opened
-all-called c p nodes opened n new at grew all =
-    at-set (λ q m. WaitsAt c q opened m) nodes p new (λ q m other there. all q m there) (still-waiting c p opened n new grew (all p n at))
+all-called c p nodes opened n new at grew all = all-released c p nodes opened n new at grew.more grew.released all
 
 pub all-looked : (c p : ℕ) (nodes : List NodeView) (opened : List (OpenRead Read)) (n new : NodeView) → c < 2 ^ 64 - 1 → slice_get nodes p ≡ Some n → LearnsAnd looks_once n new → AreWaiting c nodes opened
     → AreWaiting (c + 1) (slice_set nodes p new) opened

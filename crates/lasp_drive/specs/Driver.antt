@@ -1,5 +1,5 @@
 -- What contracts see of a driver: a run of the world, and the nodes that do it.
-use Rattle.std.specs.Prelude.{◌≡◌, ℕ, ◌≤◌, [], List, map, length, replicate, string_bytes}
+use Rattle.std.specs.Prelude.{◌≡◌, ℕ, ◌≤◌, [], List, map, length, replicate, string_bytes, Option}
 use Rattle.std.specs.Arc.{arc_value}
 use Rattle.model_graph.specs.Graph.{Decl}
 use Rattle.model_messages.specs.Message.{Message}
@@ -12,16 +12,19 @@ use Rattle.model_runs.specs.Sound.{IsSound}
 use Rattle.lasp_drive.specs.Node.{NodeView, AreNodes, HaveNoReads}
 use Rattle.lasp_drive.specs.Waiting.{AreWaiting}
 use Rattle.lasp_drive.specs.Marks.{marked_of, HoldMarks}
+use Rattle.lasp_drive.specs.Tails.{AreTailed}
+use Rattle.lasp_drive.specs.declared.node.Tail.{Tail}
 use Rattle.lasp_drive.specs.declared.driver.Mark.{Mark}
 use Rattle.lasp_drive.specs.declared.driver.OpenRead.{OpenRead}
 use Rattle.lasp_drive.specs.declared.driver.Driver.{Driver}
 
--- a driver: its graph so far, its nodes, what was sent and how many bytes that may have, the marks, the reads, and the printed lines
+-- a driver: its graph so far, its nodes, what was sent and how many bytes that may have, what is kept of each message for those who have the one before, the marks, the reads, and the printed lines
 pub record DriverView : Type 0 where
   pub graph : List Decl
   pub nodes : List NodeView
   pub sent : List Message
   pub limit : ℕ
+  pub tails : List (Option Tail)
   pub marks : List Mark
   pub reads : List (OpenRead Read)
   pub text : List ℕ
@@ -37,6 +40,7 @@ seen view read d = record {
   nodes = map view d.nodes.items;
   sent = d.network.sent;
   limit = d.network.limit;
+  tails = d.tails.items;
   marks = d.marks.items;
   reads = map (read_seen read) d.reads.items;
   text = string_bytes d.text;
@@ -58,7 +62,7 @@ stage_of d = record { graph = d.graph; marked = map (λ (m : Mark). m.var) d.mar
 abbrev pub IsRunKnown : ℕ → Run → Type 0
 IsRunKnown many run = (all : List (List Delta)) × IsKnown many run.graph run.peers run.sent all
 
--- before command number c: the nodes are those of one run, which is sound and of which everything is known; of its reads those wait that aren't met, and the nodes that are told with a mark hold what it keeps
+-- before command number c: the nodes are those of one run, which is sound and of which everything is known; of its reads those wait that aren't met, the nodes that are told with a mark hold what it keeps, and what is kept of a message stands behind its sender's message before
 pub record Stands (c : ℕ) (d : DriverView) : Type 0 where
   pub some : 1 ≤ length d.nodes
   pub few : length d.nodes ≤ 8
@@ -68,6 +72,7 @@ pub record Stands (c : ℕ) (d : DriverView) : Type 0 where
   pub known : IsRunKnown (length d.nodes) (run_of d)
   pub waiting : AreWaiting c d.nodes d.reads
   pub marked : HoldMarks d.nodes d.marks
+  pub tailed : AreTailed d.graph d.nodes d.sent d.tails
 
 -- the driver stands there
 abbrev pub IsReady : {N R : Type 0} → (N → NodeView) → (R → Read) → ℕ → Driver N R → Type 0

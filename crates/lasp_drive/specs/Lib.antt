@@ -2,6 +2,7 @@ pub mod Reads
 pub mod Node
 pub mod NodePrelude
 pub mod Marks
+pub mod Tails
 pub mod Driver
 pub mod Calls
 pub mod Waiting

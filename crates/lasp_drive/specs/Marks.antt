@@ -26,9 +26,9 @@ HoldsMarkAt nodes m p = (n : NodeView) → slice_get nodes p ≡ Some n → Hold
 abbrev pub HoldMarks : List NodeView → List Mark → Type 0
 HoldMarks nodes marks = AllByRecursion (λ (m : Mark). AllByRecursion (HoldsMarkAt nodes m) m.known.items) marks
 
--- each node shows at least what it showed
+-- each node shows at least what it showed, and sent nothing
 abbrev pub AllGrow : List NodeView → List NodeView → Type 0
-AllGrow old new = (p : ℕ) (n : NodeView) → slice_get new p ≡ Some n → (m : NodeView) × (slice_get old p ≡ Some m) × Grows m.shown n.shown
+AllGrow old new = (p : ℕ) (n : NodeView) → slice_get new p ≡ Some n → (m : NodeView) × (slice_get old p ≡ Some m) × Grows m.shown n.shown × (n.sent ≡ m.sent)
 
 -- the mark at a place, if it is there, is told to be held by node p
 abbrev pub IsHeldAt : List Mark → ℕ → ℕ → Type 0

@@ -11,22 +11,29 @@ use Rattle.model_graph.specs.Evaluation.{content_at, first_large}
 use Rattle.model_graph.specs.Lawful.{shape_of}
 use Rattle.model_graph.specs.Order.{ContentsAtMost}
 use Rattle.model_world.specs.Line.{shown_content}
-use Rattle.model_world.specs.World.{Peer, fresh_peer, extended, shown_at}
+use Rattle.model_world.specs.World.{Peer, fresh_peer, extended, shown_at, message_at}
 use Rattle.model_journal.specs.Entry as model
 use Rattle.model_journal.specs.Entry.{Entry}
 use Rattle.model_core.specs.Core.{Read}
 use Rattle.model_core.specs.Known.{BringsNothing}
 use Rattle.model_runs.specs.Calls.{fed}
 use Rattle.model_runs.specs.Held.{IsHeld, IsUpdate}
+use Rattle.model_runs.specs.Part.{IsTail}
 use Rattle.lasp_state.specs.State as state
 use Rattle.lasp_state.specs.State.{op_of, IsOpOf, shown_state}
 use Rattle.lasp_state.specs.declared.op.Op as rust
 use Rattle.lasp_state.specs.declared.state.State.{State}
 use Rattle.lasp_drive.specs.Reads.{Reads, no_reads, as_they_are, releases, Grows}
+use Rattle.lasp_drive.specs.declared.node.Tail.{Tail}
 use Rattle.lasp_drive.specs.declared.node.NodeStop.{NodeStop}
 use Rattle.lasp_drive.specs.declared.node.NodeStop.TheVariants as node
 
--- a node: its graph, its number, how many nodes there are, its sources and counts, its calls (the entries of its journal that are no results), what its variables hold, and, where it is its caller's alone, its reads
+-- the number of a message, and what the node held that sent it
+pub record Posted : Type 0 where
+  pub number : ℕ
+  pub contents : List Content
+
+-- a node: its graph, its number, how many nodes there are, its sources and counts, its calls (the entries of its journal that are no results), what its variables hold, where it is its caller's alone, its reads, and, where it keeps that, what it last sent
 pub record NodeView : Type 0 where
   pub decls : List Decl
   pub number : ℕ
@@ -35,6 +42,7 @@ pub record NodeView : Type 0 where
   pub calls : List Entry
   pub shown : List Content
   pub reads : Option Reads
+  pub sent : Option Posted
 
 -- ---- what a node is
 
@@ -59,12 +67,16 @@ HasNoReads n = IfSome n.reads (λ s. s ≡ no_reads)
 abbrev pub HaveNoReads : List NodeView → Type 0
 HaveNoReads nodes = (p : ℕ) (n : NodeView) → slice_get nodes p ≡ Some n → HasNoReads n
 
+abbrev pub HaveSentNothing : List NodeView → Type 0
+HaveSentNothing nodes = (p : ℕ) (n : NodeView) → slice_get nodes p ≡ Some n → n.sent ≡ None
+
 -- nothing has happened to the node
 pub record IsFresh (g : List Decl) (many p : ℕ) (n : NodeView) : Type 0 where
   pub node : IsNode g many p n
   pub peer : n.peer ≡ fresh_peer g many
   pub calls : n.calls ≡ []
   pub reads : HasNoReads n
+  pub sent : n.sent ≡ None
 
 -- the first so many nodes of a run, to which nothing has happened
 pub record AreFresh (g : List Decl) (many p : ℕ) (nodes : List NodeView) : Type 0 where
@@ -73,6 +85,7 @@ pub record AreFresh (g : List Decl) (many p : ℕ) (nodes : List NodeView) : Typ
   pub peers : map (λ (n : NodeView). n.peer) nodes ≡ replicate p (fresh_peer g many)
   pub calls : map (λ (n : NodeView). n.calls) nodes ≡ replicate p []
   pub reads : HaveNoReads nodes
+  pub sent : HaveSentNothing nodes
 
 -- what always holds of a node: it shows of a source what its replica holds, of no variable more than the graph gives on the sources, and of the reads that are told none waits whose variable has come to its threshold
 pub record ShowsNoMore (n : NodeView) : Type 0 where
@@ -131,10 +144,11 @@ Settles large (Ok done) = large ≡ None
 Settles large (Err (node.TooLarge x)) = large ≡ Some x
 Settles large (Err node.Memory) = Unit {0}
 
--- each variable holds at least what it held, and the reads that so came to be met wait no more
+-- each variable holds at least what it held, the reads that so came to be met wait no more, and nothing was sent
 pub record Grew (old new : NodeView) : Type 0 where
   pub more : Grows old.shown new.shown
   pub released : new.reads ≡ option_map (releases new.shown) old.reads
+  pub sent : new.sent ≡ old.sent
 
 -- a node that was asked something is the node that it was, with the sources, counts and calls that it had. It may have learned results that others handed in: what it shows grew by them, and not at all where it showed what its graph gives on its sources
 pub record Learns (old new : NodeView) : Type 0 where
@@ -144,14 +158,28 @@ pub record Learns (old new : NodeView) : Type 0 where
   pub more : Grows old.shown new.shown
   pub settled : IsSettled old → new.shown ≡ old.shown
 
--- the same, and of its reads those that came to be met wait no more, and the call made this of them
+-- the same, nothing was sent, and of its reads those that came to be met wait no more, and the call made this of them
 pub record LearnsAnd (change : List Content → Reads → Reads) (old new : NodeView) : Type 0 where
   pub learns : Learns old new
   pub reads : new.reads ≡ option_map (λ s. change new.shown (releases new.shown s)) old.reads
+  pub sent : new.sent ≡ old.sent
 
 -- the same of a call that leaves the reads
 abbrev pub OnlyLearns : NodeView → NodeView → Type 0
 OnlyLearns old new = LearnsAnd as_they_are old new
+
+-- the same of a call that sends what the node holds, as message i
+pub record Sends (i : ℕ) (old new : NodeView) : Type 0 where
+  pub learns : Learns old new
+  pub reads : new.reads ≡ option_map (releases new.shown) old.reads
+  pub sent : IfSome new.sent (λ s. s ≡ record { number = i; contents = old.peer.contents })
+
+-- joined behind what the node last sent, the rows are what it holds
+pub record IsTailOf (n : NodeView) (t : Tail) : Type 0 where
+  pub posted : Posted
+  pub sent : n.sent ≡ Some posted
+  pub number : t.before ≡ posted.number
+  pub rows : IsTail n.decls posted.contents n.peer.contents (message_at n.decls n.peer) (arc_value t.rows)
 
 -- a call that was done is the last of the node's calls, and what it shows grew; by one that was refused the node learned at most
 pub record TakesIn {A E : Type 0} (a : model.Act) (old : NodeView) (result : Result A E) (new : NodeView) : Type 0 where

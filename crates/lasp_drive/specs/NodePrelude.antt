@@ -14,5 +14,5 @@ pub use Rattle.model_wire.specs.Lawful.{IsMessage}
 pub use Rattle.lasp_state.specs.State.{op_of}
 pub use Rattle.lasp_state.specs.Threshold.{threshold_of}
 pub use Rattle.lasp_graph.specs.Library.{library_of}
-pub use Rattle.lasp_drive.specs.Node.{NodeView, IsFresh, ShowsNoMore, HoldsLittle, IsSettled, MayUpdate, IsIdleUpdate, MayRead, Updates, Delivers, Settles, Learns, LearnsAnd, OnlyLearns, TakesIn, Extends, OnlyGrew, Holds, Shows, Polls}
+pub use Rattle.lasp_drive.specs.Node.{NodeView, IsFresh, ShowsNoMore, HoldsLittle, IsSettled, MayUpdate, IsIdleUpdate, MayRead, Updates, Delivers, Settles, Learns, LearnsAnd, OnlyLearns, TakesIn, Extends, OnlyGrew, Sends, IsTailOf, Holds, Shows, Polls}
 pub use Rattle.lasp_drive.specs.Reads.{IsNextRead, opens_next, closes_one, looks_once}

@@ -22,7 +22,7 @@ peers_of nodes = map (λ (n : NodeView). n.peer) nodes
 abbrev pub calls_of : List NodeView → List (List Entry)
 calls_of nodes = map (λ (n : NodeView). n.calls) nodes
 
--- what a node does at a point or a declaration opens no read, the reads that the run opened wait as before unless they came to be met, and it shows at least what it showed
+-- what a node does at a point or a declaration opens no read, the reads that the run opened wait as before unless they came to be met, it shows at least what it showed, and it sends nothing
 pub record KeepReads (old new : List NodeView) : Type 0 where
   pub counts : opened_counts new ≡ opened_counts old
   pub waiting : (c : ℕ) (opened : List (OpenRead Read)) → AreWaiting c old opened → AreWaiting c new opened

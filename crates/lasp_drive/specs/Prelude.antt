@@ -7,7 +7,7 @@ pub use Rattle.model_graph.specs.Evaluation.{content_at}
 pub use Rattle.model_graph.specs.Lawful.{shape_of, variable_limit}
 pub use Rattle.model_readings.specs.Lawful.{IsGraph, IsNext, FitsAll}
 pub use Rattle.model_scripts.specs.Progress.{grown}
-pub use Rattle.model_world.specs.World.{Update, Keep, Post, Take, Point, Show, Open, Reach, Extend, takes, sync_acts, ended, peer_at, shown_content_at}
+pub use Rattle.model_world.specs.World.{Update, Keep, Post, Take, Point, Show, Open, Reach, Extend, takes, sync_acts, ended, peer_at, sent_number, shown_content_at}
 pub use Rattle.model_world.specs.Report.{known_lines, read_lines, report_of}
 pub use Rattle.model_runs.specs.Calls.{fed}
 pub use Rattle.model_runs.specs.Part.{BringsAsMuch}

@@ -6,7 +6,7 @@ ghost use Rattle.lasp_drive.specs.Node.{AreFresh};
 ghost use Rattle.lasp_drive.specs.Marks.{IsNoted};
 ghost use Rattle.lasp_drive.specs.Driver.{seen, Starts};
 
-use super::node::{FreshNode, Node};
+use super::node::{FreshNode, Node, Tail};
 use lasp_gossip::Network;
 use lasp_graph::Graph;
 use lasp_state::State;
@@ -55,6 +55,8 @@ pub struct Driver<N: Node> {
     pub nodes: Vec<N>,
     /// The messages.
     pub network: Network,
+    /// What each message has beyond its sender's message before, where that was told.
+    pub tails: Vec<Option<Tail>>,
     /// The marks.
     pub marks: Vec<Mark>,
     /// The reads.
@@ -92,6 +94,7 @@ impl<N: Node> Driver<N> {
             graph,
             nodes,
             network: Network::new(alloc, NETWORK_LIMIT),
+            tails: Vec::new(alloc),
             marks: Vec::new(alloc),
             reads: Vec::new(alloc),
             text: String::new(alloc),

@@ -20,6 +20,6 @@ mod text;
 pub use beside::{Alone, Beside};
 pub use driver::{Driver, Mark, OpenRead};
 pub use halt::Halt;
-pub use node::{FreshNode, Node, NodeStop};
+pub use node::{FreshNode, Letter, Node, NodeStop, Tail};
 pub use play::{advance, drive_on, export_on, is_point, run_on, run_through};
 pub use text::{push_counts, push_state};

@@ -1,7 +1,7 @@
 //! What the driver asks of one node, whatever engine keeps its states.
 
-ghost use Rattle.std.specs.Prelude.{◌≡◌, ◌<◌, ◌≤◌, ◌++◌, ◌∷◌, [], ℕ, IfOk, OnOk, OnErr, IsTrue, length};
-ghost use Rattle.lasp_drive.specs.NodePrelude.{arc_value, AreCountsAtMost, HasLeast, Decl, is_source, kind_at, meets, content_at, first_large, updated, delivered, shown_at, message_at, FitsAll, Read, IsSentTo, BringsAsMuch, IsMessage, op_of, threshold_of, library_of, NodeView, IsFresh, ShowsNoMore, HoldsLittle, IsSettled, MayUpdate, IsIdleUpdate, MayRead, Updates, Delivers, Settles, Learns, LearnsAnd, OnlyLearns, TakesIn, Extends, OnlyGrew, Holds, Shows, Polls, IsNextRead, opens_next, closes_one, looks_once};
+ghost use Rattle.std.specs.Prelude.{◌≡◌, ◌<◌, ◌≤◌, ◌++◌, ◌∷◌, [], ℕ, IfOk, IfSome, OnOk, OnErr, IsTrue, length};
+ghost use Rattle.lasp_drive.specs.NodePrelude.{arc_value, AreCountsAtMost, HasLeast, Decl, is_source, kind_at, meets, content_at, first_large, updated, delivered, shown_at, message_at, FitsAll, Read, IsSentTo, BringsAsMuch, IsMessage, op_of, threshold_of, library_of, NodeView, IsFresh, ShowsNoMore, HoldsLittle, IsSettled, MayUpdate, IsIdleUpdate, MayRead, Updates, Delivers, Settles, Learns, LearnsAnd, OnlyLearns, TakesIn, Extends, OnlyGrew, Sends, IsTailOf, Holds, Shows, Polls, IsNextRead, opens_next, closes_one, looks_once};
 ghost use Rattle.model_journal.specs.Entry as model;
 
 use lasp_fns::Library;
@@ -32,6 +32,24 @@ impl From<AllocError> for NodeStop {
     fn from(_error: AllocError) -> NodeStop {
         NodeStop::Memory
     }
+}
+
+/// What a node holds beyond its message before: a message of the same counts and names as the whole, with which a replica that has that message comes as far as with the whole.
+#[derive(Drop)]
+pub struct Tail {
+    /// The number of the message before.
+    pub before: u32,
+    /// What came since.
+    pub rows: Arc<Message>,
+}
+
+/// What a node sends.
+#[derive(Drop)]
+pub struct Letter {
+    /// The message.
+    pub whole: Message,
+    /// What it has beyond the node's message before, if the node tells that.
+    pub tail: Option<Tail>,
 }
 
 /// One node of a run. Others may use what stands behind it: by a call it may learn results that they handed in meanwhile, so asking it changes it, too. What it answers is told of the node as it was before the call.
@@ -70,11 +88,20 @@ pub trait Node: Drop + Sized {
         ensures learns { OnlyLearns (view self.old) (view self.new) }
         ensures place { place self.new ≡ place self.old };
 
-    /// What it sends: its counts and what its sources hold.
+    /// What it would send: its counts and what its sources hold.
     fn message(&mut self, alloc: Global) -> Result<Message, AllocError>
         requires { IsMessage (message_at (view self.old).decls (view self.old).peer) }
         ensures message { IfOk result (λ m. m ≡ message_at (view self.old).decls (view self.old).peer) }
         ensures learns { OnlyLearns (view self.old) (view self.new) }
+        ensures place { place self.new ≡ place self.old };
+
+    /// Sends that as message i. An engine that keeps what it held when it last sent also gives what came since.
+    fn letter(&mut self, alloc: Global, i: u32) -> Result<Letter, AllocError>
+        requires { IsMessage (message_at (view self.old).decls (view self.old).peer) }
+        ensures whole { IfOk result (λ l. l.whole ≡ message_at (view self.old).decls (view self.old).peer) }
+        ensures tail { IfOk result (λ l. IfSome l.tail (IsTailOf (view self.old))) }
+        ensures sends { OnOk result (Sends i (view self.old) (view self.new)) }
+        ensures err { OnErr result (OnlyLearns (view self.old) (view self.new)) }
         ensures place { place self.new ≡ place self.old };
 
     /// Takes message i of all that were sent: its sources are joined in, and the counts become the larger ones. The part brings as much to what the node holds, so it may be looked at in place of the message.

@@ -1,6 +1,7 @@
 -- The calls and the reads that a node's core has after a call.
-use Rattle.std.proofs.Common.{ℕ, ◌≡◌, ◌+◌, Bool, true, false, cond, not, if◌then◌else◌, refl, sym, ap, subst, ◌∙◌}
-use Rattle.std.specs.Prelude.{List, [], ◌∷◌, ◌++◌, length, Some, Result, Ok, Err, OnOk, OnErr, IsTrue}
+use Rattle.std.proofs.Common.{ℕ, ◌≡◌, ◌+◌, ◌≤◌, Bool, true, false, cond, not, if◌then◌else◌, refl, sym, ap, subst, ◌∙◌, arith}
+use Rattle.std.specs.Prelude.{List, [], ◌∷◌, ◌++◌, length, take, Option, Some, None, Result, Ok, Err, OnOk, OnErr, IsTrue}
+use Rattle.std.specs.Option.{option_map}
 use Rattle.std.specs.List.{AllByRecursion}
 use Rattle.model_states.specs.Content.{Content}
 use Rattle.model_states.specs.Threshold.{Threshold, meets}
@@ -11,6 +12,7 @@ use Rattle.model_journal.specs.Journal.{graph, vals, val}
 use Rattle.model_journal.specs.Legal.{IsLegal}
 use Rattle.model_journal.proofs.JournalLaws.{journal-later}
 use Rattle.model_journal.proofs.LegalLaws.{legal-first}
+use Rattle.model_journal.proofs.PlaceLaws.{take-front, take-whole}
 use Rattle.model_core.specs.Core.{Core, Read, IsCore, IsParked, is_met, entered}
 use Rattle.model_core.specs.Peer.{peer_of}
 use Rattle.model_core.proofs.ReadLaws.{meets-grows}
@@ -20,10 +22,11 @@ use Rattle.model_runs.proofs.MatchLaws.{append-nothing}
 use Rattle.model_core.proofs.PeerLaws.{peer-fresh}
 use Rattle.model_world.specs.World.{shown_at}
 use Rattle.lasp_core.specs.Core.{fresh_core, declared, opened_read, opened, closed, looked}
-use Rattle.lasp_drive.specs.Node.{TakesIn, LearnsAnd, OnlyLearns, Grew, OnlyGrew, IsFresh, IsSettled}
+use Rattle.lasp_drive.specs.Node.{Posted, TakesIn, LearnsAnd, OnlyLearns, Grew, OnlyGrew, Sends, IsFresh, IsSettled}
 use Rattle.lasp_drive.specs.Reads.{Reads, as_they_are, opens_next, closes_one, looks_once, releases, unmet, Grows}
 use Rattle.lasp_drive.specs.declared.node.NodeStop.{NodeStop}
-use Rattle.lasp_node.specs.View.{node_of, reads_of}
+use Rattle.lasp_node.specs.View.{node_of, reads_of, posted_at, entries_sent}
+use Rattle.lasp_node.specs.declared.node.LastSent.{LastSent}
 use Rattle.lasp_node.specs.Settling.{AreBinds, HasBound}
 
 -- what is no result in one list and in another behind it
@@ -92,17 +95,34 @@ parked-unmet X h (r ∷ rs) all =
 pub reads-released : (c : Core) → IsCore c → reads_of c ≡ releases (vals c.frame c.entries) (reads_of c)
 reads-released c core = ap (λ (rs : List Read). record { waiting = rs; opened = c.opened }) (parked-unmet c.frame c.entries c.parked core.parked)
 
-pub declared-grew : (old new : Core) (e : Entry) → new ≡ declared e old → IsCore new → Grew (node_of old) (node_of new)
-declared-grew old new e is core = record {
+-- ---- what it last sent
+
+-- entries that come behind leave what it held then
+pub posted-kept : (sent : Option LastSent) (old new : Core) (more : List Entry) → entries_sent sent ≤ length old.entries → new.frame ≡ old.frame → new.entries ≡ old.entries ++ more → option_map (posted_at new) sent ≡ option_map (posted_at old) sent
+posted-kept None old new more early frame entries = refl
+posted-kept (Some s) old new more early frame entries =
+    let first : take s.entries new.entries ≡ take s.entries old.entries = ap (take s.entries) entries ∙ take-front old.entries more s.entries early in
+    λ i. Some (record { number = s.number; contents = (peer_of (frame i) (first i)).contents })
+
+-- all that it holds
+pub posted-now : (s : LastSent) (c : Core) → s.entries ≡ length c.entries → posted_at c s ≡ record { number = s.number; contents = (peer_of c.frame c.entries).contents }
+posted-now s c all =
+    let whole : take s.entries c.entries ≡ c.entries = take-whole c.entries s.entries (omega (arith, all)) in
+    λ i. record { number = s.number; contents = (peer_of c.frame (whole i)).contents }
+
+pub declared-grew : (sent : Option LastSent) (old new : Core) (e : Entry) → entries_sent sent ≤ length old.entries → new ≡ declared e old → IsCore new → Grew (node_of old sent) (node_of new sent)
+declared-grew sent old new e early is core = record {
   more = declared-grows old new e is core.legal;
   released = ap (λ (s : Reads). Some s) (reads-released new core ∙ ap (releases (vals new.frame new.entries)) (ap reads_of is));
+  sent = posted-kept sent old new (e ∷ []) early (ap (λ (c : Core). c.frame) is) (ap (λ (c : Core). c.entries) is);
 }
 
 -- ---- a core that was asked
 
 -- its journal is as it was, and a call made this of its reads
-only-reads : (change : List Content → Reads → Reads) (old new : Core) → IsCore old → new.frame ≡ old.frame → new.entries ≡ old.entries → reads_of new ≡ change (vals old.frame old.entries) (reads_of old) → LearnsAnd change (node_of old) (node_of new)
-only-reads change old new core frame entries reads = record {
+only-reads : (change : List Content → Reads → Reads) (sent : Option LastSent) (old new : Core) → IsCore old → new.frame ≡ old.frame → new.entries ≡ old.entries → reads_of new ≡ change (vals old.frame old.entries) (reads_of old)
+    → LearnsAnd change (node_of old sent) (node_of new sent)
+only-reads change sent old new core frame entries reads = record {
   learns = record {
     still = record { graph = (λ i. graph (frame i) (entries i)); replica = ap (λ (X : Frame). X.replica) frame; nodes = ap (λ (X : Frame). X.nodes) frame };
     peer = (λ i. peer_of (frame i) (entries i));
@@ -111,21 +131,22 @@ only-reads change old new core frame entries reads = record {
     settled = λ settled. shown;
   };
   reads = ap (λ (s : Reads). Some s) (reads ∙ ap (change (vals old.frame old.entries)) (reads-released old core) ∙ (λ i. change (sym shown i) (releases (sym shown i) (reads_of old))));
+  sent = (λ i. option_map (λ (s : LastSent). record { number = s.number; contents = (peer_of (frame i) (take s.entries (entries i))).contents }) sent);
 } where
   shown : vals new.frame new.entries ≡ vals old.frame old.entries
   shown = (λ i. vals (frame i) (entries i))
 
-pub learned-none : (old new : Core) → IsCore old → new ≡ old → OnlyLearns (node_of old) (node_of new)
-learned-none old new core is = only-reads as_they_are old new core (ap (λ (c : Core). c.frame) is) (ap (λ (c : Core). c.entries) is) (ap reads_of is)
+pub learned-none : (sent : Option LastSent) (old new : Core) → IsCore old → new ≡ old → OnlyLearns (node_of old sent) (node_of new sent)
+learned-none sent old new core is = only-reads as_they_are sent old new core (ap (λ (c : Core). c.frame) is) (ap (λ (c : Core). c.entries) is) (ap reads_of is)
 
-pub learned-opened : (old new : Core) (x : ℕ) (t : Threshold) → IsCore old → new ≡ opened (opened_read old x t) old → LearnsAnd (opens_next x t) (node_of old) (node_of new)
-learned-opened old new x t core is = only-reads (opens_next x t) old new core (ap (λ (c : Core). c.frame) is) (ap (λ (c : Core). c.entries) is) (ap reads_of is)
+pub learned-opened : (sent : Option LastSent) (old new : Core) (x : ℕ) (t : Threshold) → IsCore old → new ≡ opened (opened_read old x t) old → LearnsAnd (opens_next x t) (node_of old sent) (node_of new sent)
+learned-opened sent old new x t core is = only-reads (opens_next x t) sent old new core (ap (λ (c : Core). c.frame) is) (ap (λ (c : Core). c.entries) is) (ap reads_of is)
 
-pub learned-closed : (old new : Core) (number : ℕ) → IsCore old → new ≡ closed number old → LearnsAnd (closes_one number) (node_of old) (node_of new)
-learned-closed old new number core is = only-reads (closes_one number) old new core (ap (λ (c : Core). c.frame) is) (ap (λ (c : Core). c.entries) is) (ap reads_of is)
+pub learned-closed : (sent : Option LastSent) (old new : Core) (number : ℕ) → IsCore old → new ≡ closed number old → LearnsAnd (closes_one number) (node_of old sent) (node_of new sent)
+learned-closed sent old new number core is = only-reads (closes_one number) sent old new core (ap (λ (c : Core). c.frame) is) (ap (λ (c : Core). c.entries) is) (ap reads_of is)
 
-pub learned-looked : (old new : Core) → IsCore old → new ≡ looked old → LearnsAnd looks_once (node_of old) (node_of new)
-learned-looked old new core is = only-reads looks_once old new core (ap (λ (c : Core). c.frame) is) (ap (λ (c : Core). c.entries) is) (ap reads_of is)
+pub learned-looked : (sent : Option LastSent) (old new : Core) → IsCore old → new ≡ looked old → LearnsAnd looks_once (node_of old sent) (node_of new sent)
+learned-looked sent old new core is = only-reads looks_once sent old new core (ap (λ (c : Core). c.frame) is) (ap (λ (c : Core). c.entries) is) (ap reads_of is)
 
 -- ---- where it is
 
@@ -136,45 +157,58 @@ frame-stays (Err e) old new next same none is = ap (λ (c : Core). c.frame) is
 
 -- ---- a node after a call
 
+-- it is the node that it was, and has sent what it holds
+pub sends-all : (before : Option LastSent) (s : LastSent) (c : Core) (i : ℕ) → IsCore c → s.number ≡ i → s.entries ≡ length c.entries → Sends i (node_of c before) (node_of c (Some s))
+sends-all before s c i core number all = record {
+  learns = record { still = record { graph = refl; replica = refl; nodes = refl }; peer = refl; calls = refl; more = λ x threshold met. met; settled = λ settled. refl };
+  reads = ap (λ (rs : Reads). Some rs) (reads-released c core);
+  sent = posted-now s c all ∙ ap (λ (n : ℕ). record { number = n; contents = (peer_of c.frame c.entries).contents }) number;
+}
+
 -- one entry more, which leaves the graph
-pub takes-ok : (old new : Core) (a : Act) → is_bind a ≡ false → graph old.frame (old.entries ++ entry 0 a ∷ []) ≡ graph old.frame old.entries → new ≡ entered (entry 0 a) old → IsLegal new.frame new.entries
-    → TakesIn {A = Unit {0}} {E = NodeStop} a (node_of old) (Ok tt) (node_of new)
-takes-ok old new a free kept is legal = record {
+pub takes-ok : (sent : Option LastSent) (old new : Core) (a : Act) → entries_sent sent ≤ length old.entries → is_bind a ≡ false → graph old.frame (old.entries ++ entry 0 a ∷ []) ≡ graph old.frame old.entries → new ≡ entered (entry 0 a) old → IsLegal new.frame new.entries
+    → TakesIn {A = Unit {0}} {E = NodeStop} a (node_of old sent) (Ok tt) (node_of new sent)
+takes-ok sent old new a early free kept is legal = record {
   still = record {
     graph = ap (λ (c : Core). graph c.frame c.entries) is ∙ kept;
     replica = ap (λ (c : Core). c.frame.replica) is;
     nodes = ap (λ (c : Core). c.frame.nodes) is;
   };
   calls = entered-calls old new a free is;
-  grew = record { more = entered-grows old new (entry 0 a) is legal; released = ap (λ (s : Reads). Some s) (entered-reads old new (entry 0 a) is) };
+  grew = record { more = entered-grows old new (entry 0 a) is legal; released = ap (λ (s : Reads). Some s) (entered-reads old new (entry 0 a) is); sent = posted-kept sent old new (entry 0 a ∷ []) early (ap (λ (c : Core). c.frame) is) (ap (λ (c : Core). c.entries) is) };
   refused = tt;
 }
 
 -- a core that is as it was
-pub takes-none : (old new : Core) (a : Act) (why : NodeStop) → IsCore old → new ≡ old → TakesIn {A = Unit {0}} {E = NodeStop} a (node_of old) (Err why) (node_of new)
-takes-none old new a why core same = let learned = learned-none old new core same in record { still = learned.learns.still; calls = tt; grew = tt; refused = learned }
+pub takes-none : (sent : Option LastSent) (old new : Core) (a : Act) (why : NodeStop) → IsCore old → new ≡ old → TakesIn {A = Unit {0}} {E = NodeStop} a (node_of old sent) (Err why) (node_of new sent)
+takes-none sent old new a why core same = let learned = learned-none sent old new core same in record { still = learned.learns.still; calls = tt; grew = tt; refused = learned }
 
-pub settled-grew : (old new : Core) → HasBound old new → IsLegal new.frame new.entries → OnlyGrew (node_of old) (node_of new)
-settled-grew old new bound legal = record {
+pub settled-grew : (sent : Option LastSent) (old new : Core) → entries_sent sent ≤ length old.entries → HasBound old new → IsLegal new.frame new.entries → OnlyGrew (node_of old sent) (node_of new sent)
+settled-grew sent old new early bound legal = record {
   still = record { graph = bound.graph_is; replica = ap (λ (X : Frame). X.replica) bound.frame; nodes = ap (λ (X : Frame). X.nodes) bound.frame };
   peer = bound.peer;
   calls = settled-calls old new bound;
-  grew = record { more = settled-grows old new bound legal; released = ap (λ (s : Reads). Some s) (settled-reads old new bound) };
+  grew = record { more = settled-grows old new bound legal; released = ap (λ (s : Reads). Some s) (settled-reads old new bound); sent = posted-kept sent old new bound.binds.0 early bound.frame bound.binds.1 };
 }
 
 -- what it shows is what its graph gives on its sources as they are
-pub settled-shown : (old new : Core) → HasBound old new → vals new.frame new.entries ≡ shown_at (graph old.frame old.entries) (peer_of old.frame old.entries) → IsSettled (node_of new)
-settled-shown old new bound shown =
+pub settled-shown : (sent : Option LastSent) (old new : Core) → HasBound old new → vals new.frame new.entries ≡ shown_at (graph old.frame old.entries) (peer_of old.frame old.entries) → IsSettled (node_of new sent)
+settled-shown sent old new bound shown =
     shown ∙ ap (λ (g : List Decl). shown_at g (peer_of old.frame old.entries)) (sym bound.graph_is) ∙ ap (shown_at (graph new.frame new.entries)) (sym bound.peer)
 
-pub fresh-node : (g : List Decl) (me nodes : ℕ) (c : Core) → c ≡ fresh_core g me nodes → IsFresh g nodes me (node_of c)
-fresh-node g me nodes c is = subst (λ (k : Core). IsFresh g nodes me (node_of k)) (sym is) (record {
+pub fresh-node : (g : List Decl) (me nodes : ℕ) (c : Core) → c ≡ fresh_core g me nodes → IsFresh g nodes me (node_of c None)
+fresh-node g me nodes c is = subst (λ (k : Core). IsFresh g nodes me (node_of k None)) (sym is) (record {
   node = record { graph = refl; replica = refl; nodes = refl };
   peer = peer-fresh (record { opening = g; replica = me; nodes = nodes });
   calls = refl;
   reads = refl;
+  sent = refl;
 })
 
 pub on-err : {A E P Q : Type 0} (r : Result A E) → (P → Q) → OnErr r P → OnErr r Q
 on-err (Ok a) f p = tt
 on-err (Err e) f p = f p
+
+pub if-err : {A E Q : Type 0} (r : Result A E) → Q → OnErr r Q
+if-err (Ok a) q = tt
+if-err (Err e) q = q

@@ -1,3 +1,4 @@
 pub mod SettleLaws
 pub mod NodeLaws
+pub mod TailLaws
 pub mod CallLaws

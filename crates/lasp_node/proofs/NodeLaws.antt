@@ -81,10 +81,12 @@ below-each : (cs : List ℕ) (most : ℕ) → ((q : ℕ) → count_at cs q < mos
 below-each [] most low = tt
 below-each (n ∷ cs) most low = (low 0, below-each cs most (λ q. low (suc q)))
 
+pub counts-below : (c : Core) → IsCore c → AreBelow 100001 (counts c.frame c.entries)
+counts-below c core = below-each (counts c.frame c.entries) 100001 (λ q. omega (arith, (journal-valid c.frame c.entries core.legal).counts q))
+
 pub message-lawful : (c : Core) → IsCore c → IsGraph (graph c.frame c.entries) → IsMessage (message_at (graph c.frame c.entries) (peer_of c.frame c.entries))
 message-lawful c core lawful =
-    held-message c.frame.nodes (graph c.frame c.entries) (peer_of c.frame c.entries) lawful (omega (arith, core.legal.member)) core.few core.held
-    (below-each (counts c.frame c.entries) 100001 (λ q. omega (arith, (journal-valid c.frame c.entries core.legal).counts q)))
+    held-message c.frame.nodes (graph c.frame c.entries) (peer_of c.frame c.entries) lawful (omega (arith, core.legal.member)) core.few core.held (counts-below c core)
 
 -- ---- declarations
 

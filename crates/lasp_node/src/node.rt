@@ -1,16 +1,16 @@
 //! The node: a core, settled between the acts of a run.
 
-ghost use Rattle.std.specs.Prelude.{◌≡◌};
+ghost use Rattle.std.specs.Prelude.{◌≡◌, ◌≤◌, IfOk, IfSome, length};
 ghost use Rattle.std.specs.Coded.{Coded-set, Π_prop, coded_ℕ};
 ghost use Rattle.model_journal.specs.Entry.{Frame};
 ghost use Rattle.lasp_core.specs.Reads.{read_of};
 ghost use Rattle.lasp_node.specs.Settling.{IsIdle};
-ghost use Rattle.lasp_node.specs.View.{node_of};
+ghost use Rattle.lasp_node.specs.Prelude.{IsTailOf, entries_sent, node_of};
 
-use super::message::message_of;
+use super::message::{message_of, tail_since};
 use super::settling::settle;
 use lasp_core::{Core, DeliverRefused, ReadNo, UpdateRefused};
-use lasp_drive::{FreshNode, Node, NodeStop};
+use lasp_drive::{FreshNode, Letter, Node, NodeStop, Tail};
 use lasp_fns::{Library, StepLib};
 use lasp_graph::Graph;
 use lasp_state::{Op, State, Threshold};
@@ -18,17 +18,44 @@ use lasp_wire::{Counts, Message};
 use std::alloc::{AllocError, Global};
 use std::sync::Arc;
 
+/// The number of the message that a node last sent, and how many entries its journal had then.
+#[derive(Clone, Copy, Drop)]
+struct LastSent {
+    number: u32,
+    entries: u64,
+}
+
 /// A node that keeps a replica core and evaluates changed rows alone.
 #[derive(Drop)]
 pub struct CoreNode {
     core: Core,
+    sent: Option<LastSent>,
     ghost idle: { IsIdle core.busy } by { Π_prop (λ y. Coded-set coded_ℕ _ _) },
+    ghost early: { entries_sent sent ≤ length core.entries },
+}
+
+impl CoreNode {
+    /// What came since it last sent, if it ever did.
+    fn tail(&self, alloc: Global) -> Result<Option<Tail>, AllocError>
+        ensures { IfOk result (λ tail. IfSome tail (IsTailOf (node_of self.now.core self.now.sent))) }
+    {
+        match &self.sent {
+            None => Ok(None),
+            Some(last) => {
+                let rows = tail_since(alloc, &self.core, last.entries)?;
+                Ok(Some(Tail {
+                    before: last.number,
+                    rows: Arc::new(alloc, rows)?,
+                }))
+            }
+        }
+    }
 }
 
 impl Node for CoreNode {
     type Read = ReadNo;
 
-    ghost view = { λ n. node_of n.core };
+    ghost view = { λ n. node_of n.core n.sent };
 
     ghost Place = { Frame };
 
@@ -62,6 +89,17 @@ impl Node for CoreNode {
     fn message(&mut self, alloc: Global) -> Result<Message, AllocError> {
         self.core.recall();
         message_of(alloc, &self.core)
+    }
+
+    fn letter(&mut self, alloc: Global, i: u32) -> Result<Letter, AllocError> {
+        self.core.recall();
+        let whole = message_of(alloc, &self.core)?;
+        let tail = self.tail(alloc)?;
+        self.sent = Some(LastSent {
+            number: i,
+            entries: self.core.journal_len(),
+        });
+        Ok(Letter { whole, tail })
     }
 
     fn deliver(
@@ -154,6 +192,7 @@ impl FreshNode for CoreNode {
         let share = Arc::try_clone(graph)?;
         Ok(CoreNode {
             core: Core::new(alloc, share, replica, nodes)?,
+            sent: None,
         })
     }
 }

@@ -91,7 +91,7 @@ takes-ok store old new a free none h =
         nodes = ap (λ (X : Frame). X.nodes) frame;
       };
       calls = after-calls store (entry 0 a ∷ []) old new h ∙ ap (λ (l : List Entry). unbound old.seen ++ l) free;
-      grew = record { more = feed-grows old new frame (turn-seen (entry 0 a ∷ []) old new h.turn) h.turn.legal; released = refl };
+      grew = record { more = feed-grows old new frame (turn-seen (entry 0 a ∷ []) old new h.turn) h.turn.legal; released = refl; sent = refl };
       refused = tt;
     }
 
@@ -112,7 +112,7 @@ extends-ok store old new e d same h =
           ∙ peer-extended (frame_of new) (looked_at new) (legal-found store more old new h) (entry 0 (Extend e)) e refl
           ∙ (λ i. extended (frame i).nodes (same i) (peer-found store more old new h i));
       calls = after-calls store more old new h ∙ ap (λ (c : Decl). unbound old.seen ++ fed (Extend c) ∷ []) same;
-      grew = record { more = feed-grows old new frame (turn-seen more old new h.turn) h.turn.legal; released = refl };
+      grew = record { more = feed-grows old new frame (turn-seen more old new h.turn) h.turn.legal; released = refl; sent = refl };
     }
 
 -- ---- updates

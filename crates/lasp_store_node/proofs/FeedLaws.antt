@@ -101,6 +101,7 @@ settled-learns change old new own-old own-new first legal s same = record {
     settled = λ settled. (λ i. vals (frame i) (on i)) ∙ binds-add-nothing (frame_of old) old.seen s.seen.0 there s.seen.2 settled;
   };
   reads = refl;
+  sent = refl;
 } where
   frame : frame_of new ≡ frame_of old
   frame = ap (λ (p : Knows). frame_of p) s.pass
@@ -154,7 +155,7 @@ binds-unbound (e ∷ more) are = ap (λ (b : Bool). cond (not b) (e ∷ unbound 
 pub settled-grew : (old new : Knows) → KnowsOwn old → KnowsOwn new → old.number ≡ 0 → IsLegal (frame_of new) new.seen → HasSettled old new → OnlyGrew (node_of old) (node_of new)
 settled-grew old new own-old own-new first legal s =
     let learned = settled-learns as_they_are old new own-old own-new first legal s (ap unbound s.own.1 ∙ unbound-append old.own s.own.0 ∙ ap (λ (l : List Entry). unbound old.own ++ l) (binds-unbound s.own.0 s.own.2) ∙ append-nil (unbound old.own)) in
-    record { still = learned.learns.still; peer = learned.learns.peer; calls = learned.learns.calls; grew = record { more = learned.learns.more; released = refl } }
+    record { still = learned.learns.still; peer = learned.learns.peer; calls = learned.learns.calls; grew = record { more = learned.learns.more; released = refl; sent = refl } }
 
 -- ---- where it is
 
@@ -169,4 +170,5 @@ fresh-node lock X p is = subst (λ (q : Knows). IsFresh X.opening X.nodes X.repl
   peer = peer-fresh X;
   calls = refl;
   reads = tt;
+  sent = refl;
 })

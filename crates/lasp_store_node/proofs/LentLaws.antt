@@ -1,23 +1,30 @@
 -- What a feed that was lent keeps.
-use Rattle.std.proofs.Common.{◌≡◌, List, [], ◌++◌, Option, Some, None, Result, Ok, Err, refl, sym, ap, subst, ◌∙◌, append-nil, append_assoc}
-use Rattle.std.specs.Prelude.{OnOk}
+use Rattle.std.proofs.Common.{◌≡◌, ℕ, List, [], ◌++◌, Option, Some, None, Result, Ok, Err, refl, sym, ap, subst, ◌∙◌, append-nil, append_assoc}
+use Rattle.std.specs.Prelude.{OnOk, IfOk}
 use Rattle.model_states.specs.Content.{Content}
+use Rattle.model_states.specs.Threshold.{Threshold, AtLeast, Above, Count, Added, Removed}
+use Rattle.model_graph.specs.Evaluation.{content_at}
 use Rattle.model_world.specs.World.{shown_at}
-use Rattle.model_journal.specs.Entry.{Entry}
+use Rattle.model_journal.specs.Entry.{Entry, Frame}
+use Rattle.model_journal.specs.Journal.{val}
+use Rattle.model_core.specs.Known.{HasLeast}
+use Rattle.lasp_core.specs.Core.{IsOpen}
+use Rattle.lasp_core.specs.Reads.{read_of}
+use Rattle.lasp_core.specs.declared.read.ReadNo.{ReadNo}
 use Rattle.lasp_core.specs.Watched.{IsBusy}
 use Rattle.lasp_core.specs.declared.watched.Try.{Try}
 use Rattle.lasp_core.specs.declared.watched.Try.TheVariants.{Busy, Refused}
 use Rattle.lasp_histlock.specs.Names.{LockId}
 use Rattle.lasp_histlock.specs.Passes.{after_miss}
 use Rattle.lasp_drive.specs.Node.{Learns, LearnsAnd, OnlyLearns}
-use Rattle.lasp_drive.specs.Reads.{Reads, as_they_are}
+use Rattle.lasp_drive.specs.Reads.{Grows, Reads, as_they_are}
 use Rattle.lasp_core.specs.Listed.{GoesOn}
 use Rattle.lasp_store.specs.Turn.{Knows, HadTurn, TriedTurn}
 use Rattle.lasp_store.specs.Settled.{KnowsOwn}
 use Rattle.lasp_store.specs.Tried.{IfRefused}
 use Rattle.lasp_store.proofs.TurnLaws.{turn-seen}
 use Rattle.lasp_store_node.specs.View.{node_of, IsFeed}
-use Rattle.lasp_store_node.specs.Lent.{IsLent, IsLentFrom}
+use Rattle.lasp_store_node.specs.Lent.{IsHeld, IsLent, IsLentFrom}
 use Rattle.lasp_store_node.proofs.FeedLaws.{turn-learns, turn-place}
 
 -- what a node learns by two calls it learns by both
@@ -31,6 +38,7 @@ learns-chain change a b c x y = record {
     settled = λ settled. y.settled (x.settled settled ∙ settled ∙ (λ i. shown_at (sym x.still.graph i) (sym x.peer i))) ∙ x.settled settled;
   };
   reads = refl;
+  sent = refl;
 }
 
 -- it learns nothing by no call
@@ -38,6 +46,7 @@ learns-nothing : (a : Knows) → OnlyLearns (node_of a) (node_of a)
 learns-nothing a = record {
   learns = record { still = record { graph = refl; replica = refl; nodes = refl }; peer = refl; calls = refl; more = λ v threshold met. met; settled = λ settled. refl };
   reads = refl;
+  sent = refl;
 }
 
 its-own : (store : LockId) (p : Knows) → IsFeed store p → IsFeed p.lock p
@@ -82,3 +91,19 @@ lent-polled (Some start) old new r l own-old own-new busy ok refused = polled st
 pub lent-lock : (start : Option Knows) (store : LockId) (old new : Knows) → IsLentFrom start old → IsLentFrom start new → old.lock ≡ store → new.lock ≡ store
 lent-lock None store old new l m is = absurd l
 lent-lock (Some start) store old new l m is = ap (λ q. q.lock) m.place ∙ sym (ap (λ q. q.lock) l.place) ∙ is
+
+-- ---- the read that it is lent to
+
+-- what was opened is held where what was asked for is
+pub read-held : {E : Type 0} (r : Result ReadNo E) (X : Frame) (seen : List Entry) (x : ℕ) (w : Threshold) → HasLeast w (val X seen x) → IfOk r (λ read. ((read_of read).var ≡ x) × ((read_of read).threshold ≡ w))
+    → IfOk r (λ read. IsOpen X seen (read_of read)) → IfOk r (λ read. IsHeld X seen (read_of read))
+read-held (Ok read) X seen x w has is may = record { may = may; least = subst (λ (z : ℕ × Threshold). HasLeast z.1 (val X seen z.0)) (λ i. (sym is.0 i, sym is.1 i)) has }
+read-held (Err why) X seen x w has is may = tt
+
+-- what a threshold asks for at least is shown where more is
+pub least-shown : (old new : List Content) (x : ℕ) (w : Threshold) → Grows old new → HasLeast w (content_at old x) → HasLeast w (content_at new x)
+least-shown old new x (AtLeast shape b) more has = more x (AtLeast shape b) has
+least-shown old new x (Above shape b) more has = more x (AtLeast shape b) has
+least-shown old new x (Count k) more has = tt
+least-shown old new x (Added vs) more has = tt
+least-shown old new x (Removed vs) more has = tt

@@ -83,7 +83,7 @@ module _ (a b c : Knows) where
     still = record { graph = l.still.graph ∙ x.still.graph; replica = l.still.replica ∙ x.still.replica; nodes = l.still.nodes ∙ x.still.nodes };
     peer = l.peer ∙ x.peer;
     calls = l.calls ∙ x.calls;
-    grew = record { more = λ v threshold met. l.more v threshold (x.grew.more v threshold met); released = refl };
+    grew = record { more = λ v threshold met. l.more v threshold (x.grew.more v threshold met); released = refl; sent = refl };
   }
 
   pub learned-chain : OnlyLearns (node_of a) (node_of b) → OnlyLearns (node_of b) (node_of c) → OnlyLearns (node_of a) (node_of c)

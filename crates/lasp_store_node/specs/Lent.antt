@@ -1,6 +1,11 @@
--- A feed that was lent.
-use Rattle.std.specs.Prelude.{◌≡◌, Option, Some, None}
+-- A feed that was lent, and the read that it is lent to.
+use Rattle.std.specs.Prelude.{◌≡◌, List, Option, Some, None}
+use Rattle.model_journal.specs.Entry.{Entry, Frame}
+use Rattle.model_journal.specs.Journal.{val}
+use Rattle.model_core.specs.Core.{Read}
+use Rattle.model_core.specs.Known.{HasLeast}
 use Rattle.lasp_drive.specs.Node.{OnlyLearns}
+use Rattle.lasp_core.specs.Core.{IsOpen}
 use Rattle.lasp_core.specs.Listed.{GoesOn}
 use Rattle.lasp_store.specs.Turn.{Knows}
 use Rattle.lasp_store_node.specs.View.{node_of, place_of, IsFeed}
@@ -16,3 +21,8 @@ pub record IsLent (start p : Knows) : Type 0 where
 abbrev pub IsLentFrom : Option Knows → Knows → Type 0
 IsLentFrom None p = ⊥
 IsLentFrom (Some start) p = IsLent start p
+
+-- a read that may be polled, of a variable that is known to hold what its threshold asks for at least
+pub record IsHeld (X : Frame) (seen : List Entry) (r : Read) : Type 0 where
+  pub may : IsOpen X seen r
+  pub least : HasLeast r.threshold (val X seen r.var)

@@ -9,7 +9,7 @@ use Rattle.lasp_histlock.specs.Names.{LockId}
 use Rattle.lasp_drive.specs.Node.{NodeView}
 use Rattle.lasp_store.specs.Turn.{Knows, IsSeated, frame_of, graph_seen}
 
--- the node that the feed has seen. Its reads aren't told: others may open and close reads at its store
+-- the node that the feed has seen. Its reads aren't told: others may open and close reads at its store. Nor is what it last sent: it doesn't keep that
 abbrev pub node_of : Knows → NodeView
 node_of p = record {
   decls = graph_seen p;
@@ -19,6 +19,7 @@ node_of p = record {
   calls = unbound p.seen;
   shown = vals (frame_of p) p.seen;
   reads = None;
+  sent = None;
 }
 
 -- the feed's store and replica, whether it is in a turn, and the hands that were made there and came back

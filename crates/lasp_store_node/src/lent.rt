@@ -1,11 +1,14 @@
 //! A feed that is lent to a read that waits, and comes back whatever becomes of the read.
 
-ghost use Rattle.std.specs.Prelude.{◌≡◌, Option, Some, None};
-ghost use Rattle.lasp_core.specs.Core.{IsOpen};
+ghost use Rattle.std.specs.Prelude.{◌≡◌, Option, Some, None, IfSome, IsTrue, is_some};
+ghost use Rattle.std.specs.Arc.{arc_value};
+ghost use Rattle.model_states.specs.Threshold.{meets, suits};
+ghost use Rattle.model_core.specs.Known.{HasLeast};
+ghost use Rattle.lasp_graph.specs.States.{held_of};
 ghost use Rattle.lasp_core.specs.Reads.{read_of};
 ghost use Rattle.lasp_store.specs.Turn.{Knows, frame_of};
 ghost use Rattle.lasp_store_node.specs.View.{IsFeed};
-ghost use Rattle.lasp_store_node.specs.Lent.{IsLent, IsLentFrom};
+ghost use Rattle.lasp_store_node.specs.Lent.{IsHeld, IsLent, IsLentFrom};
 
 use core::mem::replace_with;
 use futures::executor::block_on;
@@ -77,10 +80,23 @@ impl<'a, L: Loan> Lent<'a, L> {
     }
 }
 
+/// The state, where it is at the read's threshold, of which it is known to hold what that asks for at least.
+fn reached(r: &ReadNo, state: Arc<State>) -> Option<Arc<State>>
+    requires fits { IsTrue (suits (read_of r.now).threshold (held_of (arc_value state)).shape) }
+    requires known { HasLeast (read_of r.now).threshold (held_of (arc_value state)).content }
+    ensures met { is_some result ≡ meets (read_of r.now).threshold (held_of (arc_value state)).content }
+    ensures state { IfSome result (λ s. held_of (arc_value s) ≡ held_of (arc_value state)) }
+{
+    if r.is_met_with(&state, true) {
+        Some(state)
+    } else {
+        None
+    }
+}
+
 impl<L: Loan> Watched for Lent<'_, L> {
     ghost use Rattle.std.specs.Prelude.{ℕ, length};
     ghost use Rattle.lasp_histlock.specs.Names.{LockId};
-    ghost use Rattle.lasp_core.specs.Core as core;
     ghost use Rattle.lasp_core.specs.Core.{state_after};
     ghost use Rattle.lasp_store.specs.Turn.{frame_of};
 
@@ -96,14 +112,17 @@ impl<L: Loan> Watched for Lent<'_, L> {
 
     ghost IsFresh = { λ p. length p.seen ≡ p.told };
 
-    ghost IsOpen = { λ p r. core.IsOpen (frame_of p) p.seen r };
+    ghost IsOpen = { λ p r. IsHeld (frame_of p) p.seen r };
 
     fn try_poll(&mut self, r: &ReadNo) -> Result<Option<Arc<State>>, Try<AllocError>> {
         reads_stay_open();
         self.feed.known();
-        let polled = self.store.try_poll_read(&mut self.feed, r);
+        let looked = self.store.try_look(&mut self.feed, r.var());
         self.feed.known();
-        polled
+        match looked {
+            Ok(state) => Ok(reached(r, state)),
+            Err(why) => Err(why),
+        }
     }
 }
 
@@ -116,7 +135,7 @@ fn read_lent<R: Wait + RandomSource + AllocGlobal, L: Loan>(
 ) -> (Feed, Answer)
     requires feed { IsFeed store.now feed }
     requires start { L.start ≡ Some feed }
-    requires open { IsOpen (frame_of feed) feed.seen (read_of read) }
+    requires held { IsHeld (frame_of feed) feed.seen (read_of read) }
     ensures { IsLentFrom L.start result.0 }
 {
     let mut lent = Lent::<'_, L>::new(store, feed);
@@ -133,7 +152,7 @@ fn lend<R: Wait + RandomSource + AllocGlobal>(
     read: ReadNo,
 ) -> (Feed, Answer)
     requires feed { IsFeed store.now feed }
-    requires open { IsOpen (frame_of feed) feed.seen (read_of read) }
+    requires held { IsHeld (frame_of feed) feed.seen (read_of read) }
     ensures { IsLent feed result.0 }
 {
     read_lent::<R, Brand>(rt, store, feed, read)
@@ -147,14 +166,14 @@ pub(crate) fn await_read<R: Wait + RandomSource + AllocGlobal>(
     read: ReadNo,
 ) -> Result<(), AllocError>
     requires feed { IsFeed store.now feed.old }
-    requires open { IsOpen (frame_of feed.old) feed.old.seen (read_of read) }
+    requires held { IsHeld (frame_of feed.old) feed.old.seen (read_of read) }
     ensures { IsLent feed.old feed.new }
 {
     let answer = replace_with(
         feed,
         read,
         |feed: Feed, read: ReadNo| -> (Feed, Answer)
-            requires { IsFeed store.now feed × IsOpen (frame_of feed) feed.seen (read_of read) }
+            requires { IsFeed store.now feed × IsHeld (frame_of feed) feed.seen (read_of read) }
             ensures { IsLent feed result.0 }
         { lend(rt, store, feed, read) },
     );

@@ -6,6 +6,8 @@ ghost use Rattle.model_graph.specs.Evaluation.{first_large};
 ghost use Rattle.model_world.specs.World.{message_at, delivered, shown_at};
 ghost use Rattle.model_journal.specs.Entry.{Frame};
 ghost use Rattle.model_journal.specs.Entry as model;
+ghost use Rattle.model_journal.specs.Journal.{val};
+ghost use Rattle.model_core.specs.Known.{HasLeast};
 ghost use Rattle.model_core.specs.Peer.{peer_of};
 ghost use Rattle.model_runs.specs.Held.{IsSentTo};
 ghost use Rattle.model_runs.specs.Part.{BringsAsMuch};
@@ -18,13 +20,15 @@ ghost use Rattle.lasp_state.specs.Threshold.{threshold_of};
 ghost use Rattle.lasp_histlock.specs.Passes.{first_pass};
 ghost use Rattle.lasp_store.specs.Turn.{graph_seen, frame_of};
 ghost use Rattle.lasp_drive.specs.Node.{IsFresh, IsSettled, OnlyGrew, OnlyLearns, Settles, Delivers, TakesIn};
+ghost use Rattle.lasp_store_node.specs.Lent.{IsHeld};
 ghost use Rattle.lasp_store_node.specs.View.{node_of, Place, place_of, IsFeed, AreCounted};
 
 use crate::counted::joined;
 use crate::lent::await_read;
+use crate::shows::MOST_VARS;
 use crate::window::Window;
-use lasp_core::{DeliverRefused, ReadNo, Settle, UpdateRefused};
-use lasp_drive::{Node, NodeStop};
+use lasp_core::{DeliverRefused, ReadNo, Settle, UpdateRefused, is_met_by};
+use lasp_drive::{Letter, Node, NodeStop};
 use lasp_fns::Library;
 use lasp_graph::Graph;
 use lasp_state::{Op, State, Threshold};
@@ -45,6 +49,8 @@ pub struct StoreNode<'a, R: Wait> {
     pub(crate) window: Option<Window<'a, R>>,
     /// What it counted at least, as far as messages that it took told.
     known: Option<Counts>,
+    /// Which variables were shown.
+    pub(crate) shown: [bool; MOST_VARS],
 }
 
 impl<'a, R: Wait> Model for StoreNode<'a, R> {
@@ -75,6 +81,7 @@ impl<'a, R: Wait> StoreNode<'a, R> {
             feed,
             window: None,
             known: None,
+            shown: [false; MOST_VARS],
         }
     }
 
@@ -102,16 +109,19 @@ impl<R: Wait> StoreNode<'_, R> {
         state
     }
 
-    /// Opens a read.
+    /// Opens a read of a variable that is known to hold what the threshold asks for at least.
     #[tactic(auto, using(crate::proofs::WindowLaws::windows, crate::proofs::CountedLaws::stays_counted))]
     fn open(&mut self, x: u8, threshold: Threshold) -> Result<ReadNo, AllocError>
-        requires { IsOpen (frame_of self.old) self.old.seen (record { number = 0; var = x; threshold = threshold_of threshold }) }
-        ensures open { IfOk result (λ r. IsOpen (frame_of self.new) self.new.seen (read_of r)) }
+        requires open { IsOpen (frame_of self.old) self.old.seen (record { number = 0; var = x; threshold = threshold_of threshold }) }
+        requires known { HasLeast (threshold_of threshold) (val (frame_of self.old) self.old.seen x) }
+        ensures held { IfOk result (λ r. IsHeld (frame_of self.new) self.new.seen (read_of r)) }
         ensures learns { OnlyLearns (node_of self.old) (node_of self.new) }
         ensures place { place_of self.new ≡ place_of self.old }
     {
         self.feed.known();
-        let read = self.store.open_read(self.rt, &mut self.feed, x, threshold);
+        let read = self
+            .store
+            .open_read_with(self.rt, &mut self.feed, x, threshold, true);
         self.feed.known();
         read
     }
@@ -191,10 +201,11 @@ impl<R: Wait> StoreNode<'_, R> {
 }
 
 impl<R: Wait + RandomSource + AllocGlobal> StoreNode<'_, R> {
-    /// Opens a read and waits for it.
+    /// Opens a read of a variable that is known to be at its threshold, and waits for it.
     #[tactic(auto, using(crate::proofs::WindowLaws::windows, crate::proofs::CountedLaws::stays_counted))]
     fn read_to_threshold(&mut self, x: u8, threshold: Threshold) -> Result<(), AllocError>
-        requires { IsOpen (frame_of self.old) self.old.seen (record { number = 0; var = x; threshold = threshold_of threshold }) }
+        requires open { IsOpen (frame_of self.old) self.old.seen (record { number = 0; var = x; threshold = threshold_of threshold }) }
+        requires known { HasLeast (threshold_of threshold) (val (frame_of self.old) self.old.seen x) }
         ensures learns { OnlyLearns (node_of self.old) (node_of self.new) }
         ensures place { place_of self.new ≡ place_of self.old }
     {
@@ -218,11 +229,11 @@ impl<R: Wait + RandomSource + AllocGlobal> Node for StoreNode<'_, R> {
         self.feed.known();
     }
 
-    // it looks at all rows
-    fn update(&mut self, _alloc: Global, x: u8, op: &Op, _is_known: bool) -> Result<(), NodeStop> {
+    fn update(&mut self, _alloc: Global, x: u8, op: &Op, is_known: bool) -> Result<(), NodeStop> {
         self.window = None;
         self.feed.known();
-        match self.store.update(self.rt, &mut self.feed, x, op) {
+        let store = self.store;
+        match store.update_with(self.rt, &mut self.feed, x, op, is_known) {
             Ok(_) => {
                 self.feed.known();
                 Ok(())
@@ -248,6 +259,12 @@ impl<R: Wait + RandomSource + AllocGlobal> Node for StoreNode<'_, R> {
 
     fn message(&mut self, alloc: Global) -> Result<Message, AllocError> {
         self.sent(alloc)
+    }
+
+    // it doesn't keep what it sent
+    fn letter(&mut self, alloc: Global, _i: u32) -> Result<Letter, AllocError> {
+        let whole = self.sent(alloc)?;
+        Ok(Letter { whole, tail: None })
     }
 
     fn deliver(
@@ -321,10 +338,10 @@ impl<R: Wait + RandomSource + AllocGlobal> Node for StoreNode<'_, R> {
         _alloc: Global,
         x: u8,
         threshold: Threshold,
-        _is_known: bool,
+        is_known: bool,
     ) -> Result<bool, AllocError> {
         let state = self.look(x)?;
-        if !threshold.meets(&state) {
+        if !is_met_by(&threshold, &state, is_known) {
             return Ok(false);
         }
         // it is at the threshold: where waiting is refused, the look has told so

@@ -14,6 +14,9 @@ use lasp_state::State;
 use std::alloc::{AllocError, Global};
 use std::sync::{Arc, Wait};
 
+/// As many variables a graph has at most.
+pub(crate) const MOST_VARS: usize = 64;
+
 impl<R: Wait> StoreNode<'_, R> {
     /// Whether the spy sees all that the journal has.
     #[tactic(auto, using(crate::proofs::WindowLaws::windows, crate::proofs::CountedLaws::stays_counted))]
@@ -28,6 +31,18 @@ impl<R: Wait> StoreNode<'_, R> {
         }
     }
 
+    /// Closes the window, as what is shared isn't put in order, and sees that what was shown once is published in order.
+    #[tactic(auto, using(crate::proofs::WindowLaws::windows, crate::proofs::CountedLaws::stays_counted))]
+    fn order_shown(&mut self)
+        ensures learns { OnlyLearns (node_of self.old) (node_of self.new) }
+        ensures place { place_of self.new ≡ place_of self.old }
+    {
+        self.window = None;
+        self.feed.known();
+        self.store.order_rows(self.rt, &mut self.feed, &self.shown);
+        self.feed.known();
+    }
+
     /// Publishes what the node then has seen, unless that is published. Where memory is wanting, states are shown by the store.
     #[tactic(auto, using(crate::proofs::WindowLaws::windows, crate::proofs::CountedLaws::stays_counted))]
     pub(crate) fn publish(&mut self, alloc: Global)
@@ -37,9 +52,9 @@ impl<R: Wait> StoreNode<'_, R> {
         if self.has_published() {
             return;
         }
+        self.order_shown();
         self.feed.known();
-        let window = self.window.take();
-        self.window = Window::published(window, self.rt, self.store, alloc, &mut self.feed);
+        self.window = Window::open(self.rt, self.store, alloc, &mut self.feed);
         self.feed.known();
     }
 
@@ -58,6 +73,15 @@ impl<R: Wait> StoreNode<'_, R> {
         }
     }
 
+    /// Notes that a variable is shown.
+    fn note_shown(&mut self, x: u8)
+        ensures { self.new ≡ self.old }
+    {
+        if let Some(is_shown) = self.shown.get_mut(x as usize) {
+            *is_shown = true;
+        }
+    }
+
     /// The state of a variable, shared.
     #[tactic(auto, using(crate::proofs::WindowLaws::shows))]
     pub(crate) fn show(&mut self, x: u8) -> Result<Arc<State>, AllocError>
@@ -66,6 +90,7 @@ impl<R: Wait> StoreNode<'_, R> {
         ensures learns { OnlyLearns (node_of self.old) (node_of self.new) }
         ensures place { place_of self.new ≡ place_of self.old }
     {
+        self.note_shown(x);
         match self.peek(x) {
             Some(state) => Ok(state),
             None => self.look(x),

@@ -15,7 +15,7 @@ use std::alloc::Global;
 use std::marker::Model;
 use std::sync::{Arc, Wait};
 
-/// As many versions a shelf publishes at most, and as many readings its spy takes.
+/// As many readings a spy takes at most.
 const MOST: u64 = 9_223_372_036_854_775_807;
 
 /// A shelf of a node's feed, and a spy there. The shelf is closed where the window is dropped. Contracts see it as the shelf.
@@ -51,7 +51,12 @@ impl<'a, R: Wait> Model for Window<'a, R> {
 
 impl<'a, R: Wait> Window<'a, R> {
     /// A window where the feed has published what it then has seen; none where memory is wanting.
-    fn open(rt: &'a R, store: &Store, alloc: Global, feed: &mut Feed) -> Option<Window<'a, R>>
+    pub(crate) fn open(
+        rt: &'a R,
+        store: &Store,
+        alloc: Global,
+        feed: &mut Feed,
+    ) -> Option<Window<'a, R>>
         requires { IsFeed store.now feed.old }
         ensures turn { HadTurn [] feed.old feed.new }
         ensures shelf { IfSome result (IsShelfOf feed.new) }
@@ -65,44 +70,6 @@ impl<'a, R: Wait> Window<'a, R> {
                 }
             },
             Err(_) => None,
-        }
-    }
-
-    /// Publishes what the feed then has seen, or nothing where memory is wanting.
-    fn publish(&mut self, store: &Store, alloc: Global, feed: &mut Feed)
-        requires feed { IsFeed store.now feed.old }
-        requires shelf { IsShelfOf feed.old self.old }
-        requires few { length self.old.published < 2 ^ 63 }
-        ensures turn { HadTurn [] feed.old feed.new }
-        ensures shelf { IsShelfOf feed.new self.new }
-    {
-        // what isn't published now is with the next version
-        let _ = store.publish(self.rt, alloc, feed, &mut self.shelf);
-    }
-
-    /// The window behind a publication, opened where there is none yet or its shelf is full.
-    pub(crate) fn published(
-        window: Option<Window<'a, R>>,
-        rt: &'a R,
-        store: &Store,
-        alloc: Global,
-        feed: &mut Feed,
-    ) -> Option<Window<'a, R>>
-        requires feed { IsFeed store.now feed.old }
-        requires shelf { IfSome window (IsShelfOf feed.old) }
-        ensures turn { HadTurn [] feed.old feed.new }
-        ensures shelf { IfSome result (IsShelfOf feed.new) }
-    {
-        match window {
-            Some(mut window) => {
-                if window.shelf.place() < MOST {
-                    window.publish(store, alloc, feed);
-                    Some(window)
-                } else {
-                    Window::open(rt, store, alloc, feed)
-                }
-            }
-            None => Window::open(rt, store, alloc, feed),
         }
     }
 

@@ -65,6 +65,7 @@ fresh-learned g many old new fresh learn none = record {
   peers = learn.peers ∙ fresh.peers;
   calls = learn.calls ∙ fresh.calls;
   reads = none;
+  sent = λ p n at. let was = learn.reads.grow p n at in was.3 ∙ fresh.sent p was.0 was.1;
 }
 
 pub ended-learned : (g : List Decl) (script : Script) (old new : List NodeView) → HaveEnded g script old → AllLearn old new → HaveEnded g script new

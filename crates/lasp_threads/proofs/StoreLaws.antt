@@ -1,6 +1,6 @@
 -- Feeds before a run over their stores, and when they are given back.
 use Rattle.std.proofs.Common.{◌≡◌, ℕ, ◌+◌, ◌<◌, ◌≤◌, true, List, [], ◌∷◌, ◌++◌, map, length, replicate, inl, inr, ◌⊎◌, refl, sym, ap, subst, ◌∙◌, arith}
-use Rattle.std.specs.Prelude.{Some, slice_get, All}
+use Rattle.std.specs.Prelude.{Some, None, slice_get, All}
 use Rattle.std.proofs.lemmas.List.{length-map}
 use Rattle.std.proofs.lemmas.Option.{slice_get_within, get_or_from_slice_get}
 use Rattle.model_graph.specs.Graph.{Decl}
@@ -81,6 +81,7 @@ first-fresh g many stores feeds size are = subst (λ (n : ℕ). AreFresh g n n (
       ∙ ap (λ (n : ℕ). replicate n (fresh_peer g (length stores))) are.size;
   calls = map-twice node_of (λ (n : NodeView). n.calls) feeds ∙ map-same (λ (f : Knows). (node_of f).calls) [] feeds (λ p f at. (fresh p f at).calls) ∙ ap (λ (n : ℕ). replicate n []) are.size;
   reads = feeds-unread feeds;
+  sent = λ p n at. let from = mapped-from node_of feeds p n at in subst (λ (m : NodeView). m.sent ≡ None) (sym from.2) refl;
 }) where
   fresh : (p : ℕ) (f : Knows) → slice_get feeds p ≡ Some f → IsFresh g (length stores) p (node_of f)
   fresh p f at =

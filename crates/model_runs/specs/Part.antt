@@ -15,3 +15,9 @@ pub record BringsAsMuch (g : List Decl) (contents : List Content) (m part : Mess
   pub wide : length part.counts ≡ length m.counts
   pub begins : IsBeginning m g → IsBeginning part g
   pub brings : (x : ℕ) → x < length g → IsTrue (is_source (kind_at g x)) → join_contents (content_at contents x) (sent_at part.sources (source_number g x)) ≡ join_contents (content_at contents x) (sent_at m.sources (source_number g x))
+
+-- what a message has behind these contents: its sources, joined behind them, give what is held now, and it counts and names what the whole message does
+pub record IsTail (g : List Decl) (before now : List Content) (whole tail : Message) : Type 0 where
+  pub counts : tail.counts ≡ whole.counts
+  pub named : map (λ (s : Sent). s.decl) tail.sources ≡ map (λ (s : Sent). s.decl) whole.sources
+  pub joins : (x : ℕ) → x < length g → IsTrue (is_source (kind_at g x)) → join_contents (content_at before x) (sent_at tail.sources (source_number g x)) ≡ content_at now x

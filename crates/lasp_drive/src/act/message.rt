@@ -1,11 +1,11 @@
 //! Messages: a node sends, and a node takes what was sent.
 
-ghost use Rattle.std.specs.Prelude.{◌≡◌, ◌∷◌, [], IfOk, Some, map, slice_get};
-ghost use Rattle.lasp_drive.specs.Prelude.{arc_value, peer_at, peers_of, BringsAsMuch, Post, Take, MayAct, Passes};
+ghost use Rattle.std.specs.Prelude.{◌≡◌, ◌∷◌, [], ◌<◌, ℕ, length, IfOk, IfSome, Some, map, slice_get};
+ghost use Rattle.lasp_drive.specs.Prelude.{arc_value, peer_at, peers_of, sent_number, BringsAsMuch, Post, Take, IsReady, MayAct, Passes};
 
 use crate::driver::Driver;
 use crate::halt::Halt;
-use crate::node::{Node, NodeStop};
+use crate::node::{Letter, Node, NodeStop};
 use lasp_gossip::SendRefused;
 use lasp_wire::{Counts, Message};
 use std::alloc::{AllocError, Global};
@@ -18,10 +18,13 @@ impl<N: Node> Driver<N> {
         ensures { Passes N.view N.read N.place c self.old (Post p ∷ []) result self.new }
     {
         self.graph.recall();
-        self.network.len();
-        let message = self.nodes[p as usize].message(alloc)?;
-        match self.network.send(message) {
-            Ok(_) => Ok(()),
+        let number = self.network.len() as u32;
+        let Letter { whole, tail } = self.nodes[p as usize].letter(alloc, number)?;
+        match self.network.send(whole) {
+            Ok(_) => {
+                self.tails.push(tail)?;
+                Ok(())
+            }
             Err(SendRefused::NetworkFull) => Err(Halt::NetworkFull(c)),
             Err(SendRefused::Memory) => Err(Halt::Memory),
         }
@@ -49,7 +52,27 @@ impl<N: Node> Driver<N> {
         }
     }
 
-    /// Node p takes message i. Where the node counts all that the message does, a message without sources goes along, so that an engine may look at that alone.
+    /// What message i has beyond its sender's message before, where that was told and node p counts all that the message before does.
+    fn tail_for(&self, p: u8, i: u32) -> Result<Option<Arc<Message>>, AllocError>
+        requires ready { (c : ℕ) × IsReady N.view N.read c self.now }
+        requires node { p < length self.now.nodes.items }
+        requires message { i < length self.now.network.sent }
+        ensures { IfOk result (λ tail. IfSome tail (λ part. BringsAsMuch (arc_value self.now.graph) (peer_at (peers_of (map N.view self.now.nodes.items)) p).contents (sent_number self.now.network.sent i) (arc_value part))) }
+    {
+        match &self.tails[i as usize] {
+            Some(tail) => {
+                let before = self.network.receive(tail.before)?;
+                if self.nodes[p as usize].has_counted(before.counts()) {
+                    Ok(Some(Arc::try_clone(&tail.rows)?))
+                } else {
+                    Ok(None)
+                }
+            }
+            None => Ok(None),
+        }
+    }
+
+    /// Node p takes message i. Where the node counts all that the message does, a message without sources goes along, and where it counts all that its sender's message before does, what came since, so that an engine may look at that alone.
     pub fn take(&mut self, alloc: Global, c: u32, p: u8, i: u32) -> Result<(), Halt>
         requires { MayAct N.view N.read c self.old (Take p i) }
         ensures { Passes N.view N.read N.place c self.old (Take p i ∷ []) result self.new }
@@ -59,7 +82,10 @@ impl<N: Node> Driver<N> {
             let nothing = without_sources(alloc, &message)?;
             return self.hand(alloc, c, p, i, &message, &nothing);
         }
-        self.hand(alloc, c, p, i, &message, &message)
+        match self.tail_for(p, i)? {
+            Some(tail) => self.hand(alloc, c, p, i, &message, &tail),
+            None => self.hand(alloc, c, p, i, &message, &message),
+        }
     }
 }
 

@@ -11,12 +11,12 @@ use Rattle.tests_runs.proofs.nodes.end.Goals as goal
 
 pub left-requires-clause-settled : goal.left-requires-clause-settled
 left-requires-clause-settled g c =
-    let view : CoreNode → NodeView = λ n. node_of n.core in
+    let view : CoreNode → NodeView = λ n. node_of n.core n.sent in
     let ends : Ends (arc_value c.args.graph.now) c.args.script.now (seen view read_of c.in-Ok.driver) = c.in-Ok.ensures in
     ends.settled
 
 pub left-requires-clause-graph : goal.left-requires-clause-graph
 left-requires-clause-graph g c =
-    let view : CoreNode → NodeView = λ n. node_of n.core in
+    let view : CoreNode → NodeView = λ n. node_of n.core n.sent in
     let ends : Ends (arc_value c.args.graph.now) c.args.script.now (seen view read_of c.in-Ok.driver) = c.in-Ok.ensures in
     subst (λ (many : ℕ). AreNodes (arc_value c.in-Ok.driver.graph) many (map view c.in-Ok.driver.nodes.items)) (length-map c.in-Ok.driver.nodes.items view) ends.ready.nodes

@@ -11,7 +11,7 @@ use Rattle.tests_runs.proofs.stretches.tell_stretch.Goals as goal
 
 pub advance-driver-requires-clause-may : goal.advance-driver-requires-clause-may
 advance-driver-requires-clause-may g c =
-    let view : CoreNode → NodeView = λ n. node_of n.core in
+    let view : CoreNode → NodeView = λ n. node_of n.core n.sent in
     let d = seen view read_of c.in_ok-driver.driver in
     let script = c.args.script.now in
     may-begin (library_of c.args.lib.now) d script.commands (may-play (library_of c.args.lib.now) (arc_value c.args.graph.now) script d c.requires

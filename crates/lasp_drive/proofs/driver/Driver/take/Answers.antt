@@ -1,6 +1,10 @@
 use Rattle.std.proofs.Common.{◌≡◌, ◌∷◌, [], List, ℕ, length, sym, ap, subst, ◌∙◌, refl}
 use Rattle.std.proofs.lemmas.Result.{err_from_is_err_and}
+use Rattle.std.specs.Prelude.{Option, IfSome}
 use Rattle.std.specs.Arc.{arc_value}
+use Rattle.std.specs.declared.sync.Arc.{Arc}
+use Rattle.std.specs.declared.alloc.Global.{Global}
+use Rattle.lasp_wire.specs.declared.message.Message as rust
 use Rattle.model_states.specs.Counts.{AreCountsAtMost}
 use Rattle.model_messages.specs.Message.{Message}
 use Rattle.model_world.specs.World.{Peer, Take, peer_at, sent_number}
@@ -46,8 +50,23 @@ hand-requires-clause-part g c =
     subst (λ (k : Message). BringsAsMuch d.graph (peer_at (peers_of d.nodes) c.args.p).contents k nothing) (sym is)
     (brings-nothing (length d.nodes) (run_of d) c.requires.ready.known c.args.p c.args.i c.requires.lawful.0 counted nothing (ap (λ (k : Message). k.sources) bare) (ap (λ (k : Message). length k.counts) (bare ∙ ap (λ (k : Message). record { counts = k.counts; sources = [] }) is)))
 
-pub hand-requires-2-clause-part : goal.hand-requires-2-clause-part
-hand-requires-2-clause-part g c = brings-equal c.deref-2.ensures
+pub hand-requires-in-Some-clause-part : goal.hand-requires-in-Some-clause-part
+hand-requires-in-Some-clause-part g c =
+    let d = seen g.N.Node.view g.N.Node.read c.args.self.now in
+    let contents = (peer_at (peers_of d.nodes) c.args.p).contents in
+    let m = arc_value c.in_ok-message.message in
+    let is : m ≡ sent_number d.sent c.args.i = sent-read d.sent c.args.i m c.in_ok-message.ensures.message in
+    let brings : BringsAsMuch d.graph contents (sent_number d.sent c.args.i) (arc_value c.in-Some.tail) =
+    subst (λ (found : Option (Arc rust.Message Global)). IfSome found (λ part. BringsAsMuch d.graph contents (sent_number d.sent c.args.i) (arc_value part))) c.in-Some.is c.in_ok-tail.ensures in
+    subst (λ (k : Message). BringsAsMuch d.graph contents m k) (sym c.deref-in-Some.ensures) (subst (λ (k : Message). BringsAsMuch d.graph contents k (arc_value c.in-Some.tail)) (sym is) brings)
+
+pub hand-requires-in-None-clause-part : goal.hand-requires-in-None-clause-part
+hand-requires-in-None-clause-part g c = brings-equal c.deref-in-None.ensures
+
+pub returns-in_err-tail : goal.returns-in_err-tail
+returns-in_err-tail g c =
+    let p = err_from_is_err_and c.from_residual-in_err-tail.result c.from_residual-in_err-tail.ensures.1 in
+    rw (p.1, p.2) (record { acts = stops-early c.args.c (seen g.N.Node.view g.N.Node.read c.args.self.now) (Take c.args.p c.args.i ∷ []); reads = tt; in_place = refl })
 
 pub returns-in_err-nothing : goal.returns-in_err-nothing
 returns-in_err-nothing g c =

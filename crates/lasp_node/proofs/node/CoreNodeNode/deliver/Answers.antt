@@ -40,13 +40,14 @@ returns-clause-done c =
 pub returns-clause-takes : goal.returns-clause-takes
 returns-clause-takes c =
     let core = c.args.self.now.core in
+    let sent = c.args.self.now.sent in
     let new = c.deliver_part.new.self in
     let a = Deliver c.args.i (arc_value c.args.m.now) in
     elim c.match-deliver_part.branch [
-      | in-Ok w ↦ subst (λ (r : Result (Unit {0}) NodeStop). TakesIn a (node_of core) r (node_of new)) (sym w.result-is)
-          (takes-ok core new a refl (graph-delivered core.frame core.entries (entry 0 a) c.args.i (arc_value c.args.m.now) refl) w.in-Ok.ensures.ok w.recall-in-Ok.ensures.core.legal)
-      | in-Err-TooManyRows w ↦ subst (λ (r : Result (Unit {0}) NodeStop). TakesIn a (node_of core) r (node_of new)) (sym w.result-is) (takes-none core new a _ c.recall.ensures.core w.in-Err-TooManyRows.ensures.err)
-      | in-Err-Memory w ↦ subst (λ (r : Result (Unit {0}) NodeStop). TakesIn a (node_of core) r (node_of new)) (sym w.result-is) (takes-none core new a _ c.recall.ensures.core w.in-Err-Memory.ensures.err)
+      | in-Ok w ↦ subst (λ (r : Result (Unit {0}) NodeStop). TakesIn a (node_of core sent) r (node_of new sent)) (sym w.result-is)
+          (takes-ok sent core new a c.args.self.now.early refl (graph-delivered core.frame core.entries (entry 0 a) c.args.i (arc_value c.args.m.now) refl) w.in-Ok.ensures.ok w.recall-in-Ok.ensures.core.legal)
+      | in-Err-TooManyRows w ↦ subst (λ (r : Result (Unit {0}) NodeStop). TakesIn a (node_of core sent) r (node_of new sent)) (sym w.result-is) (takes-none sent core new a _ c.recall.ensures.core w.in-Err-TooManyRows.ensures.err)
+      | in-Err-Memory w ↦ subst (λ (r : Result (Unit {0}) NodeStop). TakesIn a (node_of core sent) r (node_of new sent)) (sym w.result-is) (takes-none sent core new a _ c.recall.ensures.core w.in-Err-Memory.ensures.err)
     ]
 
 pub returns-clause-place : goal.returns-clause-place

@@ -27,12 +27,12 @@ returns-clause-ok c d is =
       node = record { graph = same.graph_is; replica = ap (λ (X : Frame). X.replica) same.frame; nodes = ap (λ (X : Frame). X.nodes) same.frame };
       peer = extended-peer core new 0 e d c.recall.ensures.core.legal last.same done;
       calls = declared-calls core new e d last.same done;
-      grew = declared-grew core new (entry 0 (Extend e)) done c.recall-2.ensures.core;
+      grew = declared-grew c.args.self.now.sent core new (entry 0 (Extend e)) c.args.self.now.early done c.recall-2.ensures.core;
     })
     c.extend-extended.ensures.ok
 
 pub returns-clause-err : goal.returns-clause-err
-returns-clause-err c = on-err c.extend-extended.result (learned-none c.args.self.now.core c.extend-extended.new.self c.recall.ensures.core) c.extend-extended.ensures.err
+returns-clause-err c = on-err c.extend-extended.result (learned-none c.args.self.now.sent c.args.self.now.core c.extend-extended.new.self c.recall.ensures.core) c.extend-extended.ensures.err
 
 pub returns-clause-place : goal.returns-clause-place
 returns-clause-place c = frame-stays c.extend-extended.result c.args.self.now.core c.extend-extended.new.self (declared (entry 0 (Extend (decl_of c.at.result.now))) c.args.self.now.core) refl c.extend-extended.ensures.ok c.extend-extended.ensures.err

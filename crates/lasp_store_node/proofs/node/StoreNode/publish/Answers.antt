@@ -3,11 +3,13 @@ use Rattle.lasp_store_node.proofs.FeedLaws.{turn-learns}
 use Rattle.lasp_store_node.proofs.WindowLaws.{learned-chain}
 use Rattle.lasp_store_node.proofs.node.StoreNode.publish.Goals as goal
 
--- asking whether it is published is one call, publishing it another
+-- asking whether it is published is one call, putting in order another, and publishing a third
 pub returns-clause-learns : goal.returns-clause-learns
 returns-clause-learns g c =
     let asked = c.has_published.new.self in
-    let new = c.published.new.feed in
+    let ordered = c.order_shown.new.self in
+    let new = c.open.new.feed in
     learned-chain c.args.self.now asked new c.has_published.ensures.learns
-    (turn-learns as_they_are _ c.self.inside.feed asked new c.self.view_is c.self.invariant.feed
-    (record { own = c.known.ensures.own; allowed = c.known.ensures.allowed }) (record { own = c.known-2.ensures.own; allowed = c.known-2.ensures.allowed }) c.published.ensures.turn)
+    (learned-chain asked ordered new c.order_shown.ensures.learns
+    (turn-learns as_they_are _ c.self.inside.feed ordered new c.self.view_is c.self.invariant.feed
+    (record { own = c.known.ensures.own; allowed = c.known.ensures.allowed }) (record { own = c.known-2.ensures.own; allowed = c.known-2.ensures.allowed }) c.open.ensures.turn))

@@ -15,7 +15,7 @@ use Rattle.lasp_store_node.proofs.node.StoreNodeNode.update.Goals as goal
 
 pub unreachable-requires : goal.unreachable-requires
 unreachable-requires g c =
-    let new = c.update.new.f in
+    let new = c.update_with.new.f in
     let turned : (more : List Entry) → KnowsOwn new → HadTurn more c.self.inside.feed new → HasTurned c.self.inside.store.now more c.args.self.now new = λ more knows t.
     subst (λ (p : Knows). HasTurned c.self.inside.store.now more p new) c.self.view_is (record {
       was = c.self.invariant.feed;
@@ -32,7 +32,7 @@ unreachable-requires g c =
 
 pub returns-clause-done : goal.returns-clause-done
 returns-clause-done g c =
-    let new = c.update.new.f in
+    let new = c.update_with.new.f in
     let turned : (more : List Entry) → KnowsOwn new → HadTurn more c.self.inside.feed new → HasTurned c.self.inside.store.now more c.args.self.now new = λ more knows t.
     subst (λ (p : Knows). HasTurned c.self.inside.store.now more p new) c.self.view_is (record {
       was = c.self.invariant.feed;
@@ -43,7 +43,7 @@ returns-clause-done g c =
     let old = c.args.self.now in
     let may : MayUpdate (node_of old) c.args.x c.args.op.now = record { held = c.requires.may.held; member = c.requires.may.member; var = c.requires.may.var; may = c.requires.may.may; suits_it = c.requires.may.suits_it; room = c.requires.may.room } in
     let expected = updated (frame_of old).replica c.args.x (op_of c.args.op.now) (peer_of (frame_of old) old.seen) in
-    elim c.match-update.branch [
+    elim c.match-update_with.branch [
       | in-Ok w ↦ subst (λ (r : Result (Unit {0}) NodeStop). Updates expected c.args.x r (peer_of (frame_of new) new.seen)) (sym w.result-is)
           (update-ok _ old new c.args.x c.args.op.now may (turned _ (record { own = w.known-in-Ok.ensures.own; allowed = w.known-in-Ok.ensures.allowed }) w.in-Ok.ensures.ok) w.in-Ok.ensures.answer)
       | in-Err-TooManyRows w ↦ subst (λ (r : Result (Unit {0}) NodeStop). Updates expected c.args.x r (peer_of (frame_of new) new.seen)) (sym w.result-is)
@@ -53,7 +53,7 @@ returns-clause-done g c =
 
 pub returns-clause-takes : goal.returns-clause-takes
 returns-clause-takes g c =
-    let new = c.update.new.f in
+    let new = c.update_with.new.f in
     let turned : (more : List Entry) → KnowsOwn new → HadTurn more c.self.inside.feed new → HasTurned c.self.inside.store.now more c.args.self.now new = λ more knows t.
     subst (λ (p : Knows). HasTurned c.self.inside.store.now more p new) c.self.view_is (record {
       was = c.self.invariant.feed;
@@ -63,7 +63,7 @@ returns-clause-takes g c =
     }) in
     let old = c.args.self.now in
     let a = Update c.args.x (op_of c.args.op.now) in
-    elim c.match-update.branch [
+    elim c.match-update_with.branch [
       | in-Ok w ↦ subst (λ (r : Result (Unit {0}) NodeStop). TakesIn a (node_of old) r (node_of new)) (sym w.result-is) (takes-ok _ old new a refl refl (turned _ (record { own = w.known-in-Ok.ensures.own; allowed = w.known-in-Ok.ensures.allowed }) w.in-Ok.ensures.ok))
       | in-Err-TooManyRows w ↦ subst (λ (r : Result (Unit {0}) NodeStop). TakesIn a (node_of old) r (node_of new)) (sym w.result-is) (takes-none _ old new a _ (turned _ (record { own = w.known-in-Err-TooManyRows.ensures.own; allowed = w.known-in-Err-TooManyRows.ensures.allowed }) w.in-Err-TooManyRows.ensures.err))
       | in-Err-Memory w ↦ subst (λ (r : Result (Unit {0}) NodeStop). TakesIn a (node_of old) r (node_of new)) (sym w.result-is) (takes-none _ old new a _ (turned _ (record { own = w.known-in-Err-Memory.ensures.own; allowed = w.known-in-Err-Memory.ensures.allowed }) w.in-Err-Memory.ensures.err))
@@ -71,4 +71,4 @@ returns-clause-takes g c =
 
 pub invariant_of-self : goal.invariant_of-self
 invariant_of-self g c =
-    tried-own c.self.inside.store.now c.self.inside.window c.self.inside.known (entry 0 (Update c.args.x (op_of c.args.op.now)) ∷ []) c.self.inside.feed c.update.new.f c.update.result c.update.ensures.ok c.update.ensures.err c.self.invariant
+    tried-own c.self.inside.store.now c.self.inside.window c.self.inside.known (entry 0 (Update c.args.x (op_of c.args.op.now)) ∷ []) c.self.inside.feed c.update_with.new.f c.update_with.result c.update_with.ensures.ok c.update_with.ensures.err c.self.invariant

@@ -1,0 +1,10 @@
+use Rattle.std.proofs.Common.{◌≤◌, length, refl, sym, subst}
+use Rattle.std.specs.Prelude.{Option}
+use Rattle.model_messages.specs.Message.{Message}
+use Rattle.lasp_node.specs.View.{IsTailSince, entries_sent}
+use Rattle.lasp_node.specs.declared.node.LastSent.{LastSent}
+use Rattle.lasp_node.proofs.TailLaws.{tail-of}
+use Rattle.lasp_node.proofs.node.CoreNode.tail.Goals as goal
+
+pub tail_since-requires : goal.tail_since-requires
+tail_since-requires c = subst (λ (s : Option LastSent). entries_sent s ≤ length c.args.self.now.core.entries) c.in-Some.is c.args.self.now.early
