@@ -5,13 +5,13 @@ ghost use Rattle.lasp_replica.specs.Prelude.{arc_value, changed, size_of, row_li
 ghost use Rattle.lasp_state.specs.State.{shape_of};
 
 use super::Replica;
-use super::sizes::is_set;
+use super::sizes::{is_set, new_rows};
 use super::update::record_growth;
 use crate::entry::{Act, Entry};
 use crate::process::Process;
 use lasp_graph::Inputs;
 use lasp_job::Job;
-use lasp_logset::{OrSet, changed};
+use lasp_logset::OrSet;
 use lasp_state::State;
 use std::alloc::{AllocError, Global};
 use std::sync::Arc;
@@ -94,9 +94,9 @@ impl Replica {
         match &job.gain {
             Some(rows) => {
                 rows.ascends();
-                changed(self.allocator(), present, rows)
+                new_rows(self.allocator(), present, rows)
             }
-            None => changed(self.allocator(), present, rows_of(state)),
+            None => new_rows(self.allocator(), present, rows_of(state)),
         }
     }
 

@@ -1,7 +1,7 @@
 //! How large a join would be, and what it would change, before it is made.
 
 ghost use Rattle.std.specs.Prelude.{◌≡◌, ◌+◌, ◌↔◌, IfOk, IsTrue, IsFalse, length, nat_le};
-ghost use Rattle.lasp_replica.specs.Prelude.{join_contents, of_set, size_of, row_limit, IsContentAtMost, content_of, news_of, set};
+ghost use Rattle.lasp_replica.specs.Prelude.{changed, join_contents, of_set, size_of, row_limit, IsContentAtMost, content_of, news_of, set};
 ghost use Rattle.lasp_state.specs.State.{shape_of};
 
 use super::MOST_ROWS;
@@ -59,13 +59,23 @@ pub(super) fn fits(s: &State, t: &State) -> bool
     }
 }
 
+/// The rows of the second set that the first one lacks, or that are dead in the second alone. Where the first one is empty it shares the second one's log, else it costs what `changed` does.
+pub(super) fn new_rows(alloc: Global, before: &OrSet, after: &OrSet) -> Result<OrSet, AllocError>
+    ensures { IfOk result (λ rows. rows ≡ changed before.now after.now) }
+{
+    if before.rows() == 0 {
+        return after.past();
+    }
+    changed(alloc, before, after)
+}
+
 /// The rows of a set that another one lacks or has live alone; of other states none.
 pub(super) fn news(alloc: Global, s: &State, t: &State) -> Result<OrSet, AllocError>
     requires { shape_of s.now ≡ shape_of t.now }
     ensures { IfOk result (λ rows. rows ≡ news_of (shape_of s.now) (content_of s.now) (content_of t.now)) }
 {
     match (s, t) {
-        (State::Set(set), State::Set(rows)) => changed(alloc, set, rows),
+        (State::Set(set), State::Set(rows)) => new_rows(alloc, set, rows),
         (_, _) => Ok(OrSet::new(alloc)),
     }
 }

@@ -33,9 +33,9 @@ returns-in-Some c =
     let found = held-found r.states c.from.result job.var c.deref.result.now c.from.ensures (c.at.ensures ∙ ap (λ (s : State). Some (held_of s)) (sym c.deref.ensures)) in
     let gained = subst (λ (g : Option (List Row)). IsGained (kind_at (arc_value job.graph) job.var) job.inputs (arc_value job.before) g) c.in-Some.is job.gained in
     let own = c.requires.job.gained (subst (λ (g : Option (List Row)). IsSome g) (sym c.in-Some.is) refl) in
-    subst (λ (rows : List Row). IfOk c.changed.result (λ s. s ≡ rows))
+    subst (λ (rows : List Row). IfOk c.new_rows.result (λ s. s ≡ rows))
     (ap (λ (p : List Row). changed p c.in-Some.rows) (c.rows_of-present.ensures ∙ ap (λ (h : Held). h.content.rows) (sym found))
-    ∙ gained-news r job c.args.state.now c.requires.replica c.requires.job c.requires.result c.in-Some.rows own gained c.ascends.ensures) c.changed.ensures
+    ∙ gained-news r job c.args.state.now c.requires.replica c.requires.job c.requires.result c.in-Some.rows own gained c.ascends.ensures) c.new_rows.ensures
 
 pub returns-in-None : goal.returns-in-None
 returns-in-None c =
@@ -43,4 +43,4 @@ returns-in-None c =
     let job = c.args.job.now in
     let found = held-found r.states c.from.result job.var c.deref.result.now c.from.ensures (c.at.ensures ∙ ap (λ (s : State). Some (held_of s)) (sym c.deref.ensures)) in
     let present : c.rows_of-present.result.now ≡ (held_at r.states job.var).content.rows = c.rows_of-present.ensures ∙ ap (λ (h : Held). h.content.rows) (sym found) in
-    subst (λ (rows : List Row). IfOk c.changed-in-None.result (λ s. s ≡ rows)) (λ i. changed (present i) (c.rows_of.ensures i)) c.changed-in-None.ensures
+    subst (λ (rows : List Row). IfOk c.new_rows-in-None.result (λ s. s ≡ rows)) (λ i. changed (present i) (c.rows_of.ensures i)) c.new_rows-in-None.ensures
