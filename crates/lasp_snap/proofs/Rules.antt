@@ -1,5 +1,5 @@
 -- Each step of a shelf and of a spy keeps the rule between them.
-use Rattle.std.proofs.Common.{◌≡◌, ◌≢◌, ℕ, List, [], ◌∷◌, ◌++◌, set, Option, Some, None, refl, ap, ◌∙◌, subst, ⊎_elim}
+use Rattle.std.proofs.Common.{◌≡◌, ◌≢◌, ℕ, ◌+◌, List, [], ◌∷◌, ◌++◌, set, Option, Some, None, refl, ap, ◌∙◌, subst, ⊎_elim}
 use mathlib.Core.Option.{some}
 use lib.ListN.{get_elem?}
 use Rattle.logbook.specs.Pages.{Book}
@@ -47,10 +47,10 @@ publishes seat v x y f views h at =
 pub looks : (seat : ℕ) (v : Known) → Turns Keeps seat v (λ x. x) Looks
 looks seat v x views h at =
     let k = h.each seat v at in
-    let w : Known = record { seen = published_at x; shelf = v.shelf } in (
+    let w : Known = record { seen = published_at x; shelf = v.shelf; readings = v.readings + 1 } in (
       w,
       record { shown = h.shown; each = all_set x views seat w h.each (record { seen = prefix_self (published_at x); shelf = k.shelf }) },
-      record { before = k.seen; seen = refl; same = refl; shelf = k.shelf; shown = h.shown },
+      record { before = k.seen; seen = refl; same = refl; shelf = k.shelf; shown = h.shown; given = refl },
     )
 
 pub forks : (seat : ℕ) (v : Known) → Forks Keeps seat v v v

@@ -1,5 +1,5 @@
 -- What a spy knows after a reading.
-use Rattle.std.proofs.Common.{◌≡◌, ℕ, zero, suc, ◌+◌, ◌≤◌, List, [], ◌∷◌, ◌++◌, length, take, drop, Option, Some, None, Result, Ok, Err, IfOk, IfSome, refl, sym, ap, ◌∙◌, subst, inl, inr, le_trans, arith, take-append-drop}
+use Rattle.std.proofs.Common.{◌≡◌, ◌⊎◌, ℕ, zero, suc, ◌+◌, ◌≤◌, List, [], ◌∷◌, ◌++◌, length, take, drop, Option, Some, None, Result, Ok, Err, IfOk, IfSome, IfNone, refl, sym, ap, ◌∙◌, subst, inl, inr, le_trans, arith, take-append-drop}
 use Rattle.std.specs.List.{AllByRecursion}
 use mathlib.Core.List.{IsPrefix}
 use Rattle.lasp_histlock.proofs.Prefixes.{prefix_self, prefix_trans, prefix-length}
@@ -54,7 +54,7 @@ module _ (kept : Version) (place : ℕ) (heard : FrontView) (v w : Known) (s : I
     learned told = record { shelf = s.shelf ∙ ap (λ b. Some (named b)) (sym book); few = s.few; kept = s.kept; rises = s.rises; small = s.small; told = told }
 
     pub learned-view : (looks : ℕ) → spy_view v f place looks ≡ record (spy_view v heard place looks) { heard = shown_in f.log }
-    learned-view looks = ap (λ b. record { shelf = b; seen = take place v.seen; heard = shown_in f.log; looks = looks }) book
+    learned-view looks = ap (λ b. record { shelf = b; seen = take place v.seen; heard = shown_in f.log; looks = looks; readings = v.readings }) book
 
   -- the length of what it saw
   pub place-length : length (take place v.seen) ≡ place
@@ -75,12 +75,13 @@ module _ (kept : Version) (place : ℕ) (heard : FrontView) (v w : Known) (s : I
       told = s.told;
     }
 
-    pub looked_none : (looks : ℕ) → Looked (spy_view v heard place looks) (spy_view w heard place looks)
-    looked_none looks = record {
+    pub looked_none : (looks : ℕ) → (w.readings ≡ v.readings) ⊎ (w.readings ≡ v.readings + 1) → Looked (spy_view v heard place looks) (spy_view w heard place looks)
+    looked_none looks given = record {
       shelf = refl;
       heard = refl;
       before = subst (λ l. IsPrefix (take place v.seen) l) (sym stays) (prefix_self (take place v.seen));
       rises = subst AreRising (sym stays) s.rises;
+      given = given;
       look = inr (refl, stays);
     }
 
@@ -105,7 +106,8 @@ module _ (kept : Version) (place : ℕ) (heard : FrontView) (v w : Known) (s : I
       heard = refl;
       before = subst (λ a. IsPrefix (take place v.seen) a) (sym all) (prefix_trans (take place v.seen) v.seen (published_at y) (take_prefix place v.seen) l.before);
       rises = subst AreRising (sym all) l.shown.rises;
-      look = inl (refl, subst (λ a. IsPrefix (shown_in heard.log) a) (sym all) told);
+      given = inr l.given;
+      look = inl (refl, l.given, subst (λ a. IsPrefix (shown_in heard.log) a) (sym all) told);
     }
 
 -- a spy that learned what the writer of x knows, and was told nothing
@@ -119,6 +121,7 @@ module _ (x : Shown) (v : Known) (heard : FrontView) (knows : v ≡ knowing x) (
     seen = ap (take x.published) seen_is ∙ (ap (λ n. take n (published_at x)) (sym count) ∙ take_whole (published_at x));
     heard = ap shown_in empty;
     looks = refl;
+    readings = ap (λ (k : Known). k.readings) knows;
   }
 
   pub new_is : IsShown x → IsSpy x.version x.published heard v
@@ -134,16 +137,20 @@ module _ (x : Shown) (v : Known) (heard : FrontView) (knows : v ≡ knowing x) (
 
 module _ {E : Type 0} (v w : Known) where
   pub found_one : (x : Shown) (r : Result Shown E) → Looks v x x w → IfOk r (λ s. s ≡ x) → Found v (Some r) w
-  found_one x (Ok s) l is = record { same = l.same; before = subst (λ a. IsPrefix v.seen a) (sym l.seen) l.before; shown = subst (λ y. Looks v y y w) (sym is) l }
-  found_one x (Err e) l is = record { same = l.same; before = subst (λ a. IsPrefix v.seen a) (sym l.seen) l.before; shown = tt }
+  found_one x (Ok s) l is = record { same = l.same; before = subst (λ a. IsPrefix v.seen a) (sym l.seen) l.before; shown = subst (λ y. Looks v y y w) (sym is) l; none = tt; given = l.given }
+  found_one x (Err e) l is = record { same = l.same; before = subst (λ a. IsPrefix v.seen a) (sym l.seen) l.before; shown = tt; none = tt; given = l.given }
 
   pub found_none : w ≡ v → Found {E = E} v None w
-  found_none is = record { same = ap (λ (k : Known). k.shelf) is; before = subst (λ a. IsPrefix v.seen a) (sym (ap (λ (k : Known). k.seen) is)) (prefix_self v.seen); shown = tt }
+  found_none is = record { same = ap (λ (k : Known). k.shelf) is; before = subst (λ a. IsPrefix v.seen a) (sym (ap (λ (k : Known). k.seen) is)) (prefix_self v.seen); shown = tt; none = ap (λ (k : Known). k.readings) is; given = tt }
 
   -- what a reading found, where it found a value
   pub found_looks : (found : Option (Result Shown E)) (r : Result Shown E) (y : Shown) → Found v found w → found ≡ Some r → r ≡ Ok y → Looks v y y w
   found_looks found r y f some ok =
       let one : IfOk r (λ y. Looks v y y w) = subst (λ (o : Option (Result Shown E)). IfSome o (λ x. IfOk x (λ y. Looks v y y w))) some f.shown in
       subst (λ (x : Result Shown E). IfOk x (λ y. Looks v y y w)) ok one
+
+  -- none was given
+  pub found_same : (found : Option (Result Shown E)) → Found v found w → found ≡ None → w.readings ≡ v.readings
+  found_same found f none = subst (λ (o : Option (Result Shown E)). IfNone o (w.readings ≡ v.readings)) none f.none
 
 pub ruleset watching = (more_of, states-kept, learned, learned-view, place-length, spy_stays, looked_none, spy_after, looked_one, new_spy, new_is, found_one, found_none)

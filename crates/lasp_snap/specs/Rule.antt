@@ -1,5 +1,5 @@
 -- What a shelf and its spies know of what was published, and the rule between them.
-use Rattle.std.specs.Prelude.{◌≡◌, ℕ, List, [], ◌∷◌, ◌++◌, length, Option, Some, None, Result, IfOk, IfSome, MatchResult}
+use Rattle.std.specs.Prelude.{◌≡◌, ℕ, ◌+◌, List, [], ◌∷◌, ◌++◌, length, Option, Some, None, Result, IfOk, IfSome, IfNone, MatchResult}
 use Rattle.std.specs.List.{AllByRecursion}
 use mathlib.Core.Option.{some}
 use mathlib.Core.List.{IsPrefix}
@@ -36,11 +36,11 @@ pub record Keeps (x : Shown) (views : List Known) : Type 0 where
 
 -- a new one knows nothing
 abbrev pub nothing : Known
-nothing = record { seen = []; shelf = None }
+nothing = record { seen = []; shelf = None; readings = 0 }
 
--- who published this knows all that was published, and which shelf it is
+-- who published this knows all that was published, and which shelf it is, and was given no reading
 abbrev pub knowing : Shown → Known
-knowing x = record { seen = published_at x; shelf = Some (named x.front.book) }
+knowing x = record { seen = published_at x; shelf = Some (named x.front.book); readings = 0 }
 
 -- what is shown next is of the same log, and goes on from what is shown
 pub record Follows (x y : Shown) : Type 0 where
@@ -52,13 +52,14 @@ pub record Follows (x y : Shown) : Type 0 where
 abbrev pub Publishes : Known → Shown → Shown → Known → Type 0
 Publishes v x y w = w ≡ knowing y
 
--- what a reading tells: all that was published by then, which goes on from what was seen before
+-- what a reading tells: all that was published by then, which goes on from what was seen before. It is one more that was given
 pub record Looks (v : Known) (x y : Shown) (w : Known) : Type 0 where
   pub before : IsPrefix v.seen (published_at y)
   pub seen : w.seen ≡ published_at y
   pub same : w.shelf ≡ v.shelf
   pub shelf : (b : Book) → v.shelf ≡ Some (named b) → y.front.book ≡ b
   pub shown : IsShown y
+  pub given : w.readings ≡ v.readings + 1
 
 module _ {E : Type 0} where
   -- what one reading found: none where the shelf is closed, and an error where the share was refused
@@ -66,6 +67,8 @@ module _ {E : Type 0} where
     pub same : w.shelf ≡ v.shelf
     pub before : IsPrefix v.seen w.seen
     pub shown : IfSome found (λ x. IfOk x (λ y. Looks v y y w))
+    pub none : IfNone found (w.readings ≡ v.readings)
+    pub given : IfSome found (λ _. w.readings ≡ v.readings + 1)
 
   -- the next one is shown, or what was shown is
   abbrev pub Showed : {A : Type 0} → Result A E → Shown → Shown → Known → Shown → Known → Type 0

@@ -15,6 +15,8 @@ pub struct Known {
     pub seen: LinkedList<Version>,
     /// Which shelf it is of, if it was told.
     pub shelf: Option<Name>,
+    /// The number of readings that it was given.
+    pub readings: u64,
 }
 
 /// What each of them saw is a beginning of what was published.

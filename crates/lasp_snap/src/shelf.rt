@@ -2,7 +2,7 @@
 
 ghost use Rattle.std.specs.Prelude.{◌≡◌, ◌<◌, ◌≤◌, ◌+◌, ◌++◌, ◌∷◌, ◌^◌, [], OnOk, OnErr, IfOk, All, length};
 ghost use Rattle.left_right.specs.Sides as sides;
-ghost use Rattle.lasp_snap.specs.Version.{IsSmall, MayFollow, last_of};
+ghost use Rattle.lasp_snap.specs.Version.{AreRising, IsSmall, MayFollow, last_of};
 ghost use Rattle.lasp_snap.specs.Rule.{Follows, Showed};
 ghost use Rattle.lasp_snap.specs.Views.{IsNewSpy};
 
@@ -117,6 +117,13 @@ impl Shelf {
             self.journal.told = None;
         }
         answer
+    }
+
+    /// Recalls, at no cost, that each version that was published is later than the one before.
+    pub fn recall(&self)
+        ensures { AreRising self.now.published }
+    {
+        let _writer = &self.writer;
     }
 
     /// The number of versions that were published.

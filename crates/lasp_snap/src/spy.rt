@@ -1,14 +1,14 @@
 //! A spy: one that looks at what is published, and never waits.
 
-ghost use Rattle.std.specs.Prelude.{◌≡◌, ◌<◌, ◌≤◌, ◌^◌, [], Some, IfOk, IsTrue, length, slice_get};
+ghost use Rattle.std.specs.Prelude.{◌≡◌, ◌⊎◌, ◌<◌, ◌≤◌, ◌^◌, [], Some, IfOk, IsTrue, length, slice_get};
 ghost use Rattle.std.specs.Arc.{arc_value};
 ghost use mathlib.Core.List.{IsPrefix};
 ghost use Rattle.left_right.specs.Sides as sides;
 ghost use Rattle.lasp_graph.specs.States.{held_of};
-ghost use Rattle.lasp_snap.specs.Version.{entries_last, states_last};
+ghost use Rattle.lasp_snap.specs.Version.{AreRising, entries_last, states_last};
 ghost use Rattle.lasp_snap.specs.Log.{IsTold, shown_in};
 ghost use Rattle.lasp_snap.specs.Rule.{Found, IsShown, published_at};
-ghost use Rattle.lasp_snap.specs.Views.{IsNewSpy, IsWriting, Looked, shelf_view};
+ghost use Rattle.lasp_snap.specs.Views.{CountsEach, IsNewSpy, IsWriting, Looked, shelf_view};
 
 use super::front::Front;
 use super::rule::{Copies, Hearing, Looking, Telling, Watch};
@@ -69,6 +69,14 @@ impl Spy {
         })
     }
 
+    /// Recalls, at no cost, that each version that it saw is later than the one before.
+    #[tactic(auto, using(crate::proofs::Watching::watching))]
+    pub fn recall(&self)
+        ensures { AreRising self.now.seen }
+    {
+        let _kept = &self.kept;
+    }
+
     /// The number of variables whose states it may look at.
     pub fn vars(&self) -> u8
         ensures { result ≡ length (states_last self.now.seen) }
@@ -104,6 +112,7 @@ impl Spy {
         requires shelf { told.shelf ≡ self.old.shelf }
         ensures heard { IsPrefix told.published self.new.heard }
         ensures before { IsPrefix self.old.heard self.new.heard }
+        ensures one { (self.new.heard ≡ self.old.heard) ⊎ (self.new.heard ≡ told.published) }
         ensures same { self.new ≡ record self.old { heard = self.new.heard } }
     {
         let Told { front } = told;
@@ -113,12 +122,13 @@ impl Spy {
         }
     }
 
-    /// The state of a variable in the version that it then saw last: in the one that was published last where a reading was taken, else in the one that it saw before. It waits for nobody. After a refusal it may have seen more, too.
+    /// The state of a variable in the version that it then saw last: in the one that was published last where a reading was taken, else in the one that it saw before. It waits for nobody, and where it answers, a reading that it was given is counted. After a refusal it may have seen more, too; a reading whose share was refused is neither taken nor counted.
     #[tactic(auto, using(crate::proofs::Watching::watching))]
     pub fn peek(&mut self, var: u8) -> Result<Arc<State>, AllocError>
         requires var { var < length (states_last self.old.seen) }
         requires few { self.old.looks < 2 ^ 63 }
         ensures looked { Looked self.old self.new }
+        ensures counted { IfOk result (λ _. CountsEach self.old self.new) }
         ensures state { IfOk result (λ s. slice_get (states_last self.new.seen) var ≡ Some (held_of (arc_value s))) }
     {
         match self.look() {
@@ -127,11 +137,12 @@ impl Spy {
         }
     }
 
-    /// Takes what is published, where the shelf is there. A reading is taken where it has all that this spy was told, which each has that comes after the telling.
+    /// Takes what is published, where the shelf is there. A reading that hadn't all that this spy was told would be refused, but each has that which comes after the telling.
     #[tactic(auto, using(crate::proofs::Watching::watching))]
     fn look(&mut self) -> Result<(), AllocError>
         requires few { self.old.looks < 2 ^ 63 }
         ensures looked { Looked self.old self.new }
+        ensures counted { IfOk result (λ _. CountsEach self.old self.new) }
         ensures more { length (states_last self.old.seen) ≤ length (states_last self.new.seen) }
     {
         let found = replace_with(
@@ -145,23 +156,24 @@ impl Spy {
             None => Ok(()),
             Some(Err(e)) => Err(e),
             Some(Ok(shown)) => {
-                if is_as_new(&shown, &self.heard) {
-                    let Shown {
-                        version,
-                        published,
-                        front: _front,
-                    } = shown;
-                    self.kept = version;
-                    self.place = published;
-                    self.looks += 1;
+                if !is_as_new(&shown, &self.heard) {
+                    return Err(AllocError);
                 }
+                let Shown {
+                    version,
+                    published,
+                    front: _front,
+                } = shown;
+                self.kept = version;
+                self.place = published;
+                self.looks += 1;
                 Ok(())
             }
         }
     }
 }
 
-/// What is shown, by one reading: none where the shelf is closed, and an error where its share was refused.
+/// What is shown, by one reading: none where the shelf is closed, so that none is given, and an error where its share was refused.
 #[tactic(auto, using(crate::proofs::Watching::watching))]
 fn find(watch: Watch) -> (Watch, Option<Result<Shown, AllocError>>)
     ensures { Found (sides.view watch.place) result.1 (sides.view result.0.place) }

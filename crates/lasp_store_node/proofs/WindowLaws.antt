@@ -52,7 +52,7 @@ pub ruleset windows = (window-turn, window-settled, window-lent)
 -- where a reading was taken, and as much is seen as the shelf told of, that is what is seen
 pub shown-last : (told : List Version) (old new : SpyView) (entries x : ℕ) (h : Held) → IsPrefix told old.heard → Looked old new → old.looks < new.looks → length new.seen ≡ length told → entries_last new.seen ≡ entries → slice_get (states_last new.seen) x ≡ Some h → IsShownLast told entries x h
 shown-last told old new entries x h heard looked more long last state = elim looked.look [
-  | inl taken ↦ let same : told ≡ new.seen = prefix_whole told new.seen (prefix_trans told old.heard new.seen heard taken.1) (omega (arith, long)) in
+  | inl taken ↦ let same : told ≡ new.seen = prefix_whole told new.seen (prefix_trans told old.heard new.seen heard taken.2) (omega (arith, long)) in
       subst (λ l. IsShownLast l entries x h) (sym same) (record { entries_is = last; state = state })
   | inr none ↦ absurd (omega (arith, more, none.0))
 ]
