@@ -5,3 +5,4 @@ pub mod CoresLaws
 pub mod LaterLaws
 pub mod JobLaws
 pub mod SinceLaws
+pub mod TailLaws

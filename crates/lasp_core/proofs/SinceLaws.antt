@@ -11,14 +11,12 @@ use Rattle.lasp_replica.specs.Replica.{frame_of, entries_of, parts_of, IsReplica
 use Rattle.lasp_replica.specs.Since.{tail_of, AreSince}
 use Rattle.lasp_replica.specs.declared.replica.Replica.{Replica}
 use Rattle.lasp_replica.proofs.PartLaws.{held-val}
-use Rattle.lasp_core.specs.Core.{core_of}
 use Rattle.lasp_core.specs.Since.{AreStatesSince}
-use Rattle.lasp_core.specs.declared.read.ReadNo.{ReadNo}
 
 -- what a replica tells is what is told of its core
-pub core-since : (r : Replica) → IsReplica r → (parked : List ReadNo) (opened owed n : ℕ) (states : List Held)
-    → AreSince (arc_value r.graph) (vals (frame_of r) (take n (entries_of r))) r.states (length (arc_value r.graph)) states → AreStatesSince (core_of r parked opened owed) n states
-core-since r is parked opened owed n states since = record {
+pub core-since : (r : Replica) → IsReplica r → (n : ℕ) (states : List Held)
+    → AreSince (arc_value r.graph) (vals (frame_of r) (take n (entries_of r))) r.states (length (arc_value r.graph)) states → AreStatesSince (frame_of r) (entries_of r) n states
+core-since r is n states since = record {
   long = since.long ∙ ap length is.kept.graph;
   contents = λ x low. (since.each x (here x low)).content
       ∙ ap (λ (k : Kind). tail_of k (before x) (held_at r.states x).content) (kind x)
@@ -37,7 +35,7 @@ core-since r is parked opened owed n states since = record {
   kind : (x : ℕ) → kind_at (arc_value r.graph) x ≡ kind_at g x
   kind x = ap (λ (ds : List Decl). kind_at ds x) is.kept.graph
 
-pub if-since : {E : Type 0} (r : Replica) → IsReplica r → (parked : List ReadNo) (opened owed n : ℕ) (told : Result (List Held) E)
-    → IfOk told (AreSince (arc_value r.graph) (vals (frame_of r) (take n (entries_of r))) r.states (length (arc_value r.graph))) → IfOk told (AreStatesSince (core_of r parked opened owed) n)
-if-since r is parked opened owed n (Ok states) since = core-since r is parked opened owed n states since
-if-since r is parked opened owed n (Err e) since = tt
+pub if-since : {E : Type 0} (r : Replica) → IsReplica r → (n : ℕ) (told : Result (List Held) E)
+    → IfOk told (AreSince (arc_value r.graph) (vals (frame_of r) (take n (entries_of r))) r.states (length (arc_value r.graph))) → IfOk told (AreStatesSince (frame_of r) (entries_of r) n)
+if-since r is n (Ok states) since = core-since r is n states since
+if-since r is n (Err e) since = tt

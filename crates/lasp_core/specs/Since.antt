@@ -1,14 +1,25 @@
--- States of what came to a core since its first entries.
+-- States of what came to a core since its first entries, and messages of them.
 use Rattle.std.specs.Prelude.{◌≡◌, ℕ, ◌<◌, List, length, take}
 use Rattle.model_graph.specs.Graph.{kind_at}
 use Rattle.model_graph.specs.Lawful.{shape_of}
-use Rattle.model_journal.specs.Journal.{graph, val}
-use Rattle.model_core.specs.Core.{Core}
-use Rattle.lasp_graph.specs.States.{Held, held_at}
+use Rattle.model_messages.specs.Message.{Message, message_of}
+use Rattle.model_world.specs.World.{message_at}
+use Rattle.model_runs.specs.Part.{IsTail}
+use Rattle.model_journal.specs.Entry.{Entry, Frame}
+use Rattle.model_journal.specs.Journal.{graph, val, counts}
+use Rattle.model_core.specs.Peer.{peer_of}
+use Rattle.lasp_graph.specs.States.{Held, held_at, contents_of}
 use Rattle.lasp_replica.specs.Since.{tail_of}
 
 -- states of a core's variables: of each source that is a set the rows that changed since the first n entries, of others all
-pub record AreStatesSince (c : Core) (n : ℕ) (states : List Held) : Type 0 where
-  pub long : length states ≡ length (graph c.frame c.entries)
-  pub contents : (x : ℕ) → x < length (graph c.frame c.entries) → (held_at states x).content ≡ tail_of (kind_at (graph c.frame c.entries) x) (val c.frame (take n c.entries) x) (val c.frame c.entries x)
-  pub shapes : (x : ℕ) → x < length (graph c.frame c.entries) → (held_at states x).shape ≡ shape_of c.frame.nodes (kind_at (graph c.frame c.entries) x)
+pub record AreStatesSince (X : Frame) (entries : List Entry) (n : ℕ) (states : List Held) : Type 0 where
+  pub long : length states ≡ length (graph X entries)
+  pub contents : (x : ℕ) → x < length (graph X entries) → (held_at states x).content ≡ tail_of (kind_at (graph X entries) x) (val X (take n entries) x) (val X entries x)
+  pub shapes : (x : ℕ) → x < length (graph X entries) → (held_at states x).shape ≡ shape_of X.nodes (kind_at (graph X entries) x)
+
+-- the message of such states, which is what the core's message has behind what its sources held after the first n entries
+pub record IsTailSince (X : Frame) (entries : List Entry) (n : ℕ) (m : Message) : Type 0 where
+  pub states : List Held
+  pub since : AreStatesSince X entries n states
+  pub message : m ≡ message_of (graph X entries) (contents_of states) (counts X entries)
+  pub tail : IsTail (graph X entries) (peer_of X (take n entries)).contents (peer_of X entries).contents (message_at (graph X entries) (peer_of X entries)) m

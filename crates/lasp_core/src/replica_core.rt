@@ -337,7 +337,7 @@ impl Core {
     /// The states, of each source that is a set the rows alone that changed since the journal's first n entries. It costs an insertion for each of these rows, which are shared, and a look at each growth of a set since.
     pub fn states_since(&self, n: u64) -> Result<States, AllocError>
         requires { n ≤ length self.now.entries }
-        ensures { IfOk result (AreStatesSince self.now n) }
+        ensures { IfOk result (AreStatesSince self.now.frame self.now.entries n) }
     {
         self.replica.states_since(n)
     }

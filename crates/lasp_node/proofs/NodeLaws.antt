@@ -15,7 +15,7 @@ use Rattle.model_messages.proofs.MessageLaws.{gained-length, gained-at}
 use Rattle.model_readings.specs.Lawful.{IsGraph, IsNext}
 use Rattle.model_wire.specs.Lawful.{IsMessage}
 use Rattle.model_world.specs.World.{updated, delivered, extended, message_at}
-use Rattle.model_runs.specs.Held.{AreBelow, IsSentTo, IsUpdate}
+use Rattle.model_runs.specs.Held.{IsSentTo, IsUpdate}
 use Rattle.model_runs.specs.Part.{BringsAsMuch}
 use Rattle.model_runs.proofs.HeldLaws.{held-message}
 use Rattle.model_runs.proofs.SourceLaws.{update-source}
@@ -24,7 +24,6 @@ use Rattle.model_journal.specs.Entry.{Frame, entry}
 use Rattle.model_journal.specs.Journal.{graph, vals, val, counts, sources}
 use Rattle.model_journal.specs.Legal.{IsLegal}
 use Rattle.model_journal.proofs.CleanLaws.{vals-length}
-use Rattle.model_journal.proofs.StandLaws.{journal-valid}
 use Rattle.model_core.specs.Core.{Core, IsCore, entered}
 use Rattle.model_core.specs.Peer.{peer_of}
 use Rattle.model_core.proofs.MessageLaws.{sent-first}
@@ -42,6 +41,7 @@ use Rattle.lasp_replica.specs.declared.refused.UpdateRefused.TheVariants as upda
 use Rattle.lasp_replica.specs.declared.refused.DeliverRefused.{DeliverRefused}
 use Rattle.lasp_replica.specs.declared.refused.DeliverRefused.TheVariants as deliver
 use Rattle.lasp_core.specs.Core.{declared}
+use Rattle.lasp_core.proofs.TailLaws.{counts-below}
 use Rattle.lasp_replica.specs.Replica.{shape_for, is_for, update_check, or_too_many, update_refusal, IsAnswered, IsDelivered}
 
 -- ---- the same node
@@ -75,14 +75,6 @@ message-same X h g states cs decls contents known =
 pub states-long : (X : Frame) (h : List model.Entry) → IsLegal X h → (g : List Decl) (states : List Held) → g ≡ graph X h → contents_of states ≡ vals X h → length states ≡ length g
 states-long X h legal g states decls contents =
     sym (length-contents states) ∙ ap (λ (cs : List Content). length cs) contents ∙ vals-length X h legal ∙ sym (ap (λ (ds : List Decl). length ds) decls)
-
--- the counts of a legal journal are within the format
-below-each : (cs : List ℕ) (most : ℕ) → ((q : ℕ) → count_at cs q < most) → AreBelow most cs
-below-each [] most low = tt
-below-each (n ∷ cs) most low = (low 0, below-each cs most (λ q. low (suc q)))
-
-pub counts-below : (c : Core) → IsCore c → AreBelow 100001 (counts c.frame c.entries)
-counts-below c core = below-each (counts c.frame c.entries) 100001 (λ q. omega (arith, (journal-valid c.frame c.entries core.legal).counts q))
 
 pub message-lawful : (c : Core) → IsCore c → IsGraph (graph c.frame c.entries) → IsMessage (message_at (graph c.frame c.entries) (peer_of c.frame c.entries))
 message-lawful c core lawful =

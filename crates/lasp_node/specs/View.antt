@@ -1,13 +1,10 @@
 -- A core as a run's node has it.
 use Rattle.std.specs.Prelude.{ℕ, Option, Some, None, take}
 use Rattle.std.specs.Option.{option_map}
-use Rattle.model_messages.specs.Message.{Message}
-use Rattle.model_world.specs.World.{message_at}
 use Rattle.model_journal.specs.Journal.{graph, vals}
 use Rattle.model_core.specs.Core.{Core}
 use Rattle.model_core.specs.Peer.{peer_of}
 use Rattle.model_runs.specs.Calls.{unbound}
-use Rattle.model_runs.specs.Part.{IsTail}
 use Rattle.lasp_drive.specs.Node.{NodeView, Posted}
 use Rattle.lasp_drive.specs.Reads.{Reads}
 use Rattle.lasp_node.specs.declared.node.LastSent.{LastSent}
@@ -36,7 +33,3 @@ node_of c sent = record {
   reads = Some (reads_of c);
   sent = option_map (posted_at c) sent;
 }
-
--- a message of what came to a core since its first n entries
-abbrev pub IsTailSince : Core → ℕ → Message → Type 0
-IsTailSince c n tail = IsTail (graph c.frame c.entries) (peer_of c.frame (take n c.entries)).contents (peer_of c.frame c.entries).contents (message_at (graph c.frame c.entries) (peer_of c.frame c.entries)) tail

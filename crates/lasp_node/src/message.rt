@@ -21,7 +21,7 @@ pub fn message_of(alloc: Global, core: &Core) -> Result<Message, AllocError>
 /// The same of what came since the journal's first n entries: of each source that is a set it has the rows alone that changed. It costs an insertion for each of these rows, which are shared.
 pub(crate) fn tail_since(alloc: Global, core: &Core, n: u64) -> Result<Message, AllocError>
     requires { n ≤ length core.now.entries }
-    ensures { IfOk result (IsTailSince core.now n) }
+    ensures { IfOk result (IsTailSince core.now.frame core.now.entries n) }
 {
     core.recall();
     let graph = core.graph();

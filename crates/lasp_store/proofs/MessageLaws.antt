@@ -1,26 +1,24 @@
 -- That what a core sends is a message of the format.
-use Rattle.std.proofs.Common.{suc, ℕ, ◌≡◌, ◌<◌, sym, ap, ◌∙◌, arith}
-use Rattle.std.specs.Prelude.{List, [], ◌∷◌, length}
-use Rattle.model_states.specs.Counts.{count_at}
+use Rattle.std.proofs.Common.{ℕ, ◌≡◌, sym, ap, ◌∙◌, arith}
+use Rattle.std.specs.Prelude.{List, length}
 use Rattle.model_states.specs.Content.{Content}
 use Rattle.model_graph.specs.Graph.{Decl}
 use Rattle.model_messages.specs.Message.{Sent, message_of}
 use Rattle.model_readings.specs.Lawful.{IsGraph}
 use Rattle.model_wire.specs.Lawful.{IsMessage}
 use Rattle.model_world.specs.World.{message_at}
-use Rattle.model_runs.specs.Held.{AreBelow}
 use Rattle.model_runs.proofs.HeldLaws.{held-message}
 use Rattle.model_journal.specs.Entry as model
 use Rattle.model_journal.specs.Entry.{Frame}
 use Rattle.model_journal.specs.Journal.{graph, vals, counts}
 use Rattle.model_journal.specs.Legal.{IsLegal}
 use Rattle.model_journal.proofs.CleanLaws.{vals-length}
-use Rattle.model_journal.proofs.StandLaws.{journal-valid}
 use Rattle.model_core.specs.Core.{Core, IsCore}
 use Rattle.model_core.specs.Peer.{peer_of}
 use Rattle.model_core.proofs.SourceLaws.{sources-sent}
 use Rattle.lasp_graph.specs.States.{Held, contents_of}
 use Rattle.lasp_graph.proofs.Evaluation.{length-contents}
+use Rattle.lasp_core.proofs.TailLaws.{counts-below}
 
 pub message-same : (X : Frame) (h : List model.Entry) (g : List Decl) (states : List Held) (cs : List ℕ) → g ≡ graph X h → contents_of states ≡ vals X h → cs ≡ counts X h → message_of g (contents_of states) cs ≡ message_at (graph X h) (peer_of X h)
 message-same X h g states cs decls contents known =
@@ -31,12 +29,6 @@ pub states-long : (X : Frame) (h : List model.Entry) → IsLegal X h → (g : Li
 states-long X h legal g states decls contents =
     sym (length-contents states) ∙ ap (λ (cs : List Content). length cs) contents ∙ vals-length X h legal ∙ sym (ap (λ (ds : List Decl). length ds) decls)
 
--- the counts of a legal journal are within the format
-below-each : (cs : List ℕ) (most : ℕ) → ((q : ℕ) → count_at cs q < most) → AreBelow most cs
-below-each [] most low = tt
-below-each (n ∷ cs) most low = (low 0, below-each cs most (λ q. low (suc q)))
-
 pub message-lawful : (c : Core) → IsCore c → IsGraph (graph c.frame c.entries) → IsMessage (message_at (graph c.frame c.entries) (peer_of c.frame c.entries))
 message-lawful c core lawful =
-    held-message c.frame.nodes (graph c.frame c.entries) (peer_of c.frame c.entries) lawful (omega (arith, core.legal.member)) core.few core.held
-    (below-each (counts c.frame c.entries) 100001 (λ q. omega (arith, (journal-valid c.frame c.entries core.legal).counts q)))
+    held-message c.frame.nodes (graph c.frame c.entries) (peer_of c.frame c.entries) lawful (omega (arith, core.legal.member)) core.few core.held (counts-below c core)

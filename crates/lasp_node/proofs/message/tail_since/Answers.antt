@@ -2,7 +2,7 @@ use Rattle.std.proofs.Common.{subst, ◌∙◌}
 use Rattle.std.specs.Prelude.{List}
 use Rattle.model_graph.specs.Graph.{Decl}
 use Rattle.model_readings.specs.Lawful.{IsGraph}
-use Rattle.lasp_node.proofs.TailLaws.{sent-lawful, sent-long, sent-kinds, sent-tail}
+use Rattle.lasp_core.proofs.TailLaws.{sent-lawful, sent-long, sent-kinds, sent-tail}
 use Rattle.lasp_node.proofs.message.tail_since.Goals as goal
 
 pub message_of-requires-clause-lawful : goal.message_of-requires-clause-lawful

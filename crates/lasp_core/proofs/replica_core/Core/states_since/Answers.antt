@@ -7,5 +7,5 @@ use Rattle.lasp_core.proofs.replica_core.Core.states_since.Goals as goal
 
 pub returns : goal.returns
 returns c =
-    subst (λ (s : Core). IfOk c.states_since.result (AreStatesSince s c.args.n)) c.self.view_is
-    (if-since c.self.inside.replica c.self.invariant.replica c.self.inside.parked.items c.self.inside.opened c.self.inside.owed c.args.n c.states_since.result c.states_since.ensures)
+    subst (λ (s : Core). IfOk c.states_since.result (AreStatesSince s.frame s.entries c.args.n)) c.self.view_is
+    (if-since c.self.inside.replica c.self.invariant.replica c.args.n c.states_since.result c.states_since.ensures)

@@ -1,7 +1,8 @@
 use Rattle.std.proofs.Common.{◌≤◌, length, refl, sym, subst}
 use Rattle.std.specs.Prelude.{Option}
 use Rattle.model_messages.specs.Message.{Message}
-use Rattle.lasp_node.specs.View.{IsTailSince, entries_sent}
+use Rattle.lasp_core.specs.Since.{IsTailSince}
+use Rattle.lasp_node.specs.View.{entries_sent}
 use Rattle.lasp_node.specs.declared.node.LastSent.{LastSent}
 use Rattle.lasp_node.proofs.TailLaws.{tail-of}
 use Rattle.lasp_node.proofs.node.CoreNode.tail.Goals as goal
