@@ -28,4 +28,4 @@ pub use Rattle.lasp_job.specs.declared.job.Job.{Job}
 pub use Rattle.lasp_core.specs.Core.{AreAscending, AreInOrder, AreOfKind, IsOpen, IsSettled, IsStateOf, IsWatched, closed, declared, fresh_core, looked, opened, opened_read, returned, rows_of, state_after, taken}
 pub use Rattle.lasp_core.specs.Evaluated.{IsEvaluated, IsSameJob, evaluated}
 pub use Rattle.lasp_core.specs.Reads.{read_of}
-pub use Rattle.lasp_core.specs.Since.{AreStatesSince}
+pub use Rattle.lasp_core.specs.Since.{AreStatesSince, IsTailSince}

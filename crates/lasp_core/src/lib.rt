@@ -28,6 +28,7 @@ mod look;
 mod parked;
 mod read;
 mod replica_core;
+mod tail;
 mod upkeep;
 mod watched;
 

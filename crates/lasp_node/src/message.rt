@@ -1,7 +1,7 @@
 //! What a replica core sends.
 
-ghost use Rattle.std.specs.Prelude.{◌≡◌, ◌≤◌, IfOk, length};
-ghost use Rattle.lasp_node.specs.Prelude.{message_at, peer_of, IsTailSince};
+ghost use Rattle.std.specs.Prelude.{◌≡◌, IfOk};
+ghost use Rattle.lasp_node.specs.Prelude.{message_at, peer_of};
 ghost use Rattle.model_journal.specs.Journal as journal;
 
 use lasp_core::Core;
@@ -16,16 +16,4 @@ pub fn message_of(alloc: Global, core: &Core) -> Result<Message, AllocError>
     let graph = core.graph();
     graph.recall();
     lasp_gossip::message_of(alloc, graph, core.states(), core.counts().as_slice())
-}
-
-/// The same of what came since the journal's first n entries: of each source that is a set it has the rows alone that changed. It costs an insertion for each of these rows, which are shared.
-pub(crate) fn tail_since(alloc: Global, core: &Core, n: u64) -> Result<Message, AllocError>
-    requires { n ≤ length core.now.entries }
-    ensures { IfOk result (IsTailSince core.now.frame core.now.entries n) }
-{
-    core.recall();
-    let graph = core.graph();
-    graph.recall();
-    let states = core.states_since(n)?;
-    lasp_gossip::message_of(alloc, graph, &states, core.counts().as_slice())
 }

@@ -7,7 +7,7 @@ ghost use Rattle.lasp_core.specs.Reads.{read_of};
 ghost use Rattle.lasp_node.specs.Settling.{IsIdle};
 ghost use Rattle.lasp_node.specs.Prelude.{IsTailOf, entries_sent, node_of};
 
-use super::message::{message_of, tail_since};
+use super::message::message_of;
 use super::settling::settle;
 use lasp_core::{Core, DeliverRefused, ReadNo, UpdateRefused};
 use lasp_drive::{FreshNode, Letter, Node, NodeStop, Tail};
@@ -42,7 +42,7 @@ impl CoreNode {
         match &self.sent {
             None => Ok(None),
             Some(last) => {
-                let rows = tail_since(alloc, &self.core, last.entries)?;
+                let rows = self.core.tail_since(alloc, last.entries)?;
                 Ok(Some(Tail {
                     before: last.number,
                     rows: Arc::new(alloc, rows)?,
