@@ -3,7 +3,7 @@ use Rattle.std.specs.Prelude.{List}
 use Rattle.model_graph.specs.Graph.{Decl}
 use Rattle.model_readings.specs.Lawful.{IsGraph}
 use Rattle.lasp_core.proofs.TailLaws.{sent-lawful, sent-long, sent-kinds, sent-tail}
-use Rattle.lasp_core.proofs.tail.Core.tail_since.Goals as goal
+use Rattle.lasp_core.proofs.replica_core.Core.tail_since.Goals as goal
 
 pub message_of-requires-clause-lawful : goal.message_of-requires-clause-lawful
 message_of-requires-clause-lawful c =
