@@ -6,6 +6,7 @@ pub mod CallLaws
 pub mod ActLaws
 pub mod KnownLaws
 pub mod PartLaws
+pub mod SinceLaws
 pub mod TailLaws
 pub mod StepLaws
 pub mod PlayLaws

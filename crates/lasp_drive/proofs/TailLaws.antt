@@ -1,7 +1,6 @@
 -- Laws of what is kept of messages for those who have the ones before.
-use Rattle.std.proofs.Common.{◌≡◌, ℕ, ◌<◌, ◌≤◌, ◌⊎◌, inl, inr, IsTrue, List, [], ◌∷◌, ◌++◌, length, map, slice_get, slice_set, Option, Some, None, IfSome, get_or, arith, refl, sym, ap, subst, ◌∙◌}
+use Rattle.std.proofs.Common.{◌≡◌, ℕ, ◌+◌, ◌<◌, ◌≤◌, ◌⊎◌, inl, inr, IsTrue, List, [], ◌∷◌, ◌++◌, length, slice_get, slice_set, Option, Some, None, IfSome, get_or, arith, refl, sym, ap, subst, ◌∙◌}
 use Rattle.std.specs.Arc.{arc_value}
-use Rattle.std.proofs.lemmas.List.{length-map}
 use Rattle.std.proofs.lemmas.Option.{slice_get_within, slice_get_read}
 use Rattle.model_states.specs.Content.{Content, join_contents, least}
 use Rattle.model_states.specs.Counts.{AreCountsAtMost}
@@ -15,6 +14,7 @@ use Rattle.model_known.proofs.VariableLaws.{kind-append}
 use Rattle.model_known.proofs.KnowsLaws.{known-covered}
 use Rattle.model_world.specs.World.{Run, message_at, no_message, peer_at, sent_number}
 use Rattle.model_runs.specs.Part.{BringsAsMuch, IsTail}
+use Rattle.lasp_drive.specs.Since.{content_since, message_since, HasSince}
 use Rattle.lasp_drive.specs.Node.{NodeView, Posted, Sends, IsTailOf, HaveSentNothing}
 use Rattle.lasp_drive.specs.Marks.{AllGrow}
 use Rattle.lasp_drive.specs.Tails.{IsBehind, IsPosted, AreTailed}
@@ -22,6 +22,7 @@ use Rattle.lasp_drive.specs.Driver.{IsRunKnown}
 use Rattle.lasp_drive.specs.declared.node.Tail.{Tail}
 use Rattle.lasp_drive.proofs.NodeLaws.{at-set}
 use Rattle.lasp_drive.proofs.PointLaws.{at-push}
+use Rattle.lasp_drive.proofs.SinceLaws.{HaveSince, each-since, since-named, since-long}
 
 -- ---- before the first message, and while none is sent
 
@@ -59,8 +60,7 @@ module _ (g : List Decl) (sent : List Message) (m : Message) where
   behind-later : (i : ℕ) (t : Tail) → i < length sent → IsBehind g sent i t → IsBehind g more i t
   behind-later i t low b = record {
     place = omega (arith, b.place, length-push sent m);
-    counts = b.counts ∙ ap (λ (k : Message). k.counts) (sym (stays i low));
-    named = b.named ∙ ap (λ (k : Message). map (λ (s : Sent). s.decl) k.sources) (sym (stays i low));
+    exact = b.exact ∙ (λ j. message_since (sym (stays t.before b.place) j) (sym (stays i low) j));
     joins = λ x known source.
         ap (λ (k : Message). join_contents (sent_at k.sources (source_number g x)) (sent_at (arc_value t.rows).sources (source_number g x))) (stays t.before b.place)
         ∙ b.joins x known source ∙ ap (λ (k : Message). sent_at k.sources (source_number g x)) (sym (stays i low));
@@ -84,11 +84,9 @@ module _ (g : List Decl) (sent : List Message) (m : Message) where
     newest-behind : (t : Tail) → n.decls ≡ g → IsTailOf n t → ((s : Posted) → n.sent ≡ Some s → IsPosted g sent s) → IsBehind g more (length sent) t
     newest-behind t graph tail posted = record {
       place = omega (arith, tail.number, before.place, length-push sent m);
-      counts = rows.counts ∙ ap (λ (k : Message). k.counts) (sym (newest ∙ whole));
-      named = rows.named ∙ ap (λ (k : Message). map (λ (s : Sent). s.decl) k.sources) (sym (newest ∙ whole));
+      exact = since ∙ (λ j. message_since (sym earlier j) (sym (newest ∙ whole) j));
       joins = λ x low source.
-          ap (λ (c : Content). join_contents c (sent_at (arc_value t.rows).sources (source_number g x)))
-          (ap (λ (i : ℕ). sent_at (sent_number more i).sources (source_number g x)) tail.number ∙ ap (λ (k : Message). sent_at k.sources (source_number g x)) (stays tail.posted.number before.place) ∙ before.holds x low source)
+          ap (λ (c : Content). join_contents c (sent_at (arc_value t.rows).sources (source_number g x))) (ap (λ (k : Message). sent_at k.sources (source_number g x)) earlier ∙ before.holds x low source)
           ∙ rows.joins x low source ∙ sym (has x low source);
     } where
       before : IsPosted g sent tail.posted
@@ -96,6 +94,21 @@ module _ (g : List Decl) (sent : List Message) (m : Message) where
 
       rows : IsTail g tail.posted.contents n.peer.contents (message_at g n.peer) (arc_value t.rows)
       rows = subst (λ (h : List Decl). IsTail h tail.posted.contents n.peer.contents (message_at h n.peer) (arc_value t.rows)) graph tail.rows
+
+      then : Message
+      then = sent_number sent tail.posted.number
+
+      earlier : sent_number more t.before ≡ then
+      earlier = ap (λ (i : ℕ). sent_number more i) tail.number ∙ stays tail.posted.number before.place
+
+      has_since : HasSince g tail.posted.contents n.peer.contents (arc_value t.rows)
+      has_since = subst (λ (h : List Decl). HasSince h tail.posted.contents n.peer.contents (arc_value t.rows)) graph tail.exact
+
+      each : HaveSince then.sources g n.peer.contents 0 (arc_value t.rows).sources
+      each x low source = has_since x low source ∙ ap (λ (c : Content). content_since (kind_at g x) c (content_at n.peer.contents x)) (sym (before.holds x low source) ∙ ap (λ (k : ℕ). sent_at then.sources k) (let start : source_number g x ≡ 0 + source_number g x = omega arith in start))
+
+      since : arc_value t.rows ≡ message_since then (message_at g n.peer)
+      since = λ j. record { counts = rows.counts j; sources = each-since then.sources g n.peer.contents 0 (arc_value t.rows).sources long rows.named each j }
 
 -- a node sent what it holds
 pub tailed-post : (g : List Decl) (nodes : List NodeView) (sent : List Message) (tails : List (Option Tail)) (p : ℕ) (n new : NodeView) (m : Message) (t : Option Tail) → AreTailed g nodes sent tails → slice_get nodes p ≡ Some n → n.decls ≡ g
@@ -138,8 +151,7 @@ module _ (g : List Decl) (d : Decl) (sent : List Message) (short : (i : ℕ) →
   behind-longer : (i : ℕ) (t : Tail) → IsBehind g sent i t → IsBehind longer sent i t
   behind-longer i t b = record {
     place = b.place;
-    counts = b.counts;
-    named = b.named;
+    exact = b.exact;
     joins = every (λ x. IsTrue (is_source (kind_at longer x)) → join_contents (before (source_number longer x)) (rows (source_number longer x)) ≡ now (source_number longer x))
         (λ x low source. let under : x ≤ length g = omega (arith, low) in
         ap (λ (k : ℕ). join_contents (before k) (rows k)) (place-stays x under) ∙ b.joins x low (source-stays x low source) ∙ ap now (sym (place-stays x under)))
@@ -155,7 +167,7 @@ module _ (g : List Decl) (d : Decl) (sent : List Message) (short : (i : ℕ) →
     now k = sent_at (sent_number sent i).sources k
 
     narrow : length (arc_value t.rows).sources ≤ source_number g (length g)
-    narrow = omega (arith, short i, ap (λ (ds : List Decl). length ds) b.named, length-map (arc_value t.rows).sources (λ (s : Sent). s.decl), length-map (sent_number sent i).sources (λ (s : Sent). s.decl))
+    narrow = omega (arith, short i, since-long (sent_number sent t.before) (sent_number sent i) (arc_value t.rows) b.exact)
 
   posted-longer : (s : Posted) → IsPosted g sent s → IsPosted longer sent s
   posted-longer s is = record {
@@ -183,8 +195,8 @@ short-sent many run k i = (k.1.carries i).few
 pub brings-tail : (many : ℕ) (run : Run) → IsRunKnown many run → (p i : ℕ) → p < many → (t : Tail) → IsBehind run.graph run.sent i t → AreCountsAtMost (sent_number run.sent t.before).counts (peer_at run.peers p).counts
     → BringsAsMuch run.graph (peer_at run.peers p).contents (sent_number run.sent i) (arc_value t.rows)
 brings-tail many run k p i member t b counted = record {
-  wide = ap (λ (ns : List ℕ). length ns) b.counts;
-  begins = λ begins. (begins.0, ap (λ (ds : List Decl). ds ++ begins.0) b.named ∙ begins.1);
+  wide = ap (λ (k : Message). length k.counts) b.exact;
+  begins = λ begins. (begins.0, ap (λ (ds : List Decl). ds ++ begins.0) (since-named (sent_number run.sent t.before) (sent_number run.sent i) (arc_value t.rows) b.exact) ∙ begins.1);
   brings = λ x low source.
       let held = content_at (peer_at run.peers p).contents x in
       let before = sent_at (sent_number run.sent t.before).sources (source_number run.graph x) in

@@ -1,4 +1,5 @@
 pub mod Reads
+pub mod Since
 pub mod Node
 pub mod NodePrelude
 pub mod Marks

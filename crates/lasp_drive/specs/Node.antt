@@ -23,6 +23,7 @@ use Rattle.lasp_state.specs.State as state
 use Rattle.lasp_state.specs.State.{op_of, IsOpOf, shown_state}
 use Rattle.lasp_state.specs.declared.op.Op as rust
 use Rattle.lasp_state.specs.declared.state.State.{State}
+use Rattle.lasp_drive.specs.Since.{HasSince}
 use Rattle.lasp_drive.specs.Reads.{Reads, no_reads, as_they_are, releases, Grows}
 use Rattle.lasp_drive.specs.declared.node.Tail.{Tail}
 use Rattle.lasp_drive.specs.declared.node.NodeStop.{NodeStop}
@@ -174,12 +175,13 @@ pub record Sends (i : ℕ) (old new : NodeView) : Type 0 where
   pub reads : new.reads ≡ option_map (releases new.shown) old.reads
   pub sent : IfSome new.sent (λ s. s ≡ record { number = i; contents = old.peer.contents })
 
--- joined behind what the node last sent, the rows are what it holds
+-- the rows are what came since the node last sent; joined behind what it held then, they are what it holds
 pub record IsTailOf (n : NodeView) (t : Tail) : Type 0 where
   pub posted : Posted
   pub sent : n.sent ≡ Some posted
   pub number : t.before ≡ posted.number
   pub rows : IsTail n.decls posted.contents n.peer.contents (message_at n.decls n.peer) (arc_value t.rows)
+  pub exact : HasSince n.decls posted.contents n.peer.contents (arc_value t.rows)
 
 -- a call that was done is the last of the node's calls, and what it shows grew; by one that was refused the node learned at most
 pub record TakesIn {A E : Type 0} (a : model.Act) (old : NodeView) (result : Result A E) (new : NodeView) : Type 0 where

@@ -1,19 +1,19 @@
 -- What is kept of a message for those who have its sender's message before: what came since.
-use Rattle.std.specs.Prelude.{◌≡◌, ℕ, ◌<◌, ◌≤◌, IsTrue, List, length, map, slice_get, Option, Some}
+use Rattle.std.specs.Prelude.{◌≡◌, ℕ, ◌<◌, ◌≤◌, IsTrue, List, length, slice_get, Option, Some}
 use Rattle.std.specs.Arc.{arc_value}
 use Rattle.model_states.specs.Content.{join_contents}
 use Rattle.model_graph.specs.Graph.{Decl, is_source, kind_at}
 use Rattle.model_graph.specs.Evaluation.{content_at}
-use Rattle.model_messages.specs.Message.{Message, Sent, source_number, sent_at}
+use Rattle.model_messages.specs.Message.{Message, source_number, sent_at}
 use Rattle.model_world.specs.World.{sent_number}
+use Rattle.lasp_drive.specs.Since.{message_since}
 use Rattle.lasp_drive.specs.Node.{NodeView, Posted}
 use Rattle.lasp_drive.specs.declared.node.Tail.{Tail}
 
--- joined behind the message before, the rows are message i, and they count and name what it does
+-- the rows are what message i has beyond the message before; joined behind that one, they are message i
 pub record IsBehind (g : List Decl) (sent : List Message) (i : ℕ) (t : Tail) : Type 0 where
   pub place : t.before < length sent
-  pub counts : (arc_value t.rows).counts ≡ (sent_number sent i).counts
-  pub named : map (λ (s : Sent). s.decl) (arc_value t.rows).sources ≡ map (λ (s : Sent). s.decl) (sent_number sent i).sources
+  pub exact : arc_value t.rows ≡ message_since (sent_number sent t.before) (sent_number sent i)
   pub joins : (x : ℕ) → x < length g → IsTrue (is_source (kind_at g x)) → join_contents (sent_at (sent_number sent t.before).sources (source_number g x)) (sent_at (arc_value t.rows).sources (source_number g x)) ≡ sent_at (sent_number sent i).sources (source_number g x)
 
 -- the message of this number has what its sender held

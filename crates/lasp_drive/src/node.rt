@@ -34,7 +34,7 @@ impl From<AllocError> for NodeStop {
     }
 }
 
-/// What a node holds beyond its message before: a message of the same counts and names as the whole, with which a replica that has that message comes as far as with the whole.
+/// What a node holds beyond its message before: a message of the same counts and names as the whole, which has of an observed-remove set the rows that are new or newly dead, and all of other sources. With it a replica that has the message before comes as far as with the whole.
 #[derive(Drop)]
 pub struct Tail {
     /// The number of the message before.
