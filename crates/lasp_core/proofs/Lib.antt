@@ -6,3 +6,4 @@ pub mod LaterLaws
 pub mod JobLaws
 pub mod SinceLaws
 pub mod TailLaws
+pub mod ExactLaws

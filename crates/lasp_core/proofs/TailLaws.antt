@@ -88,7 +88,7 @@ module _ (X : Frame) (h : List Entry) (legal : IsLegal X h) (n : ℕ) where
   legal-then = legal-first X first (drop n h) (subst (IsLegal X) (sym (take-and-drop h n)) legal)
 
   -- a source held then what its variable did, or it wasn't declared
-  earlier-source : (x : ℕ) → IsTrue (is_source (kind_at (graph X h) x)) → content_at (sources X first) x ≡ val X first x
+  pub earlier-source : (x : ℕ) → IsTrue (is_source (kind_at (graph X h) x)) → content_at (sources X first) x ≡ val X first x
   earlier-source x source = choose (below-or-not x (length (graph X first))) where
     long : length (vals X first) ≡ length (graph X first)
     long = vals-length X first legal-then
@@ -111,10 +111,10 @@ module _ (c : Core) (core : IsCore c) (n : ℕ) (states : List Held) (since : Ar
   abbrev now : ℕ → Content
   now x = val c.frame c.entries x
 
-  contents-long : length (contents_of states) ≡ length g
+  pub contents-long : length (contents_of states) ≡ length g
   contents-long = length-contents states ∙ since.long
 
-  told : (x : ℕ) → x < length g → content_at (contents_of states) x ≡ tail_of (kind_at g x) (before x) (now x)
+  pub told : (x : ℕ) → x < length g → content_at (contents_of states) x ≡ tail_of (kind_at g x) (before x) (now x)
   told x low = at-map (λ (s : Held). s.content) states x (record { shape = set; content = least; number = pos 0 }) ∙ since.contents x low
 
   source-now : (x : ℕ) → x < length g → IsTrue (is_source (kind_at g x)) → IsSource c.frame.nodes (kind_at g x) (now x)

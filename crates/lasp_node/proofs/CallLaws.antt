@@ -13,7 +13,7 @@ use Rattle.model_journal.specs.Legal.{IsLegal}
 use Rattle.model_journal.proofs.JournalLaws.{journal-later}
 use Rattle.model_journal.proofs.LegalLaws.{legal-first}
 use Rattle.model_journal.proofs.PlaceLaws.{take-front, take-whole}
-use Rattle.model_core.specs.Core.{Core, Read, IsCore, IsParked, is_met, entered}
+use Rattle.model_core.specs.Core.{Core, Read, IsCore, IsParked, entered}
 use Rattle.model_core.specs.Peer.{peer_of}
 use Rattle.model_core.proofs.ReadLaws.{meets-grows}
 use Rattle.model_core.proofs.ValidLaws.{val-ordered}
@@ -22,7 +22,7 @@ use Rattle.model_runs.proofs.MatchLaws.{append-nothing}
 use Rattle.model_core.proofs.PeerLaws.{peer-fresh}
 use Rattle.model_world.specs.World.{shown_at}
 use Rattle.lasp_core.specs.Core.{fresh_core, declared, opened_read, opened, closed, looked}
-use Rattle.lasp_drive.specs.Node.{Posted, TakesIn, LearnsAnd, OnlyLearns, Grew, OnlyGrew, Sends, IsFresh, IsSettled}
+use Rattle.lasp_drive.specs.Node.{TakesIn, LearnsAnd, OnlyLearns, Grew, OnlyGrew, Sends, IsFresh, IsSettled}
 use Rattle.lasp_drive.specs.Reads.{Reads, as_they_are, opens_next, closes_one, looks_once, releases, unmet, Grows}
 use Rattle.lasp_drive.specs.declared.node.NodeStop.{NodeStop}
 use Rattle.lasp_node.specs.View.{node_of, reads_of, posted_at, entries_sent}

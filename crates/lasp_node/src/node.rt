@@ -42,6 +42,7 @@ impl CoreNode {
         match &self.sent {
             None => Ok(None),
             Some(last) => {
+                self.core.recall();
                 let rows = self.core.tail_since(alloc, last.entries)?;
                 Ok(Some(Tail {
                     before: last.number,
