@@ -1,5 +1,6 @@
 -- States by their kinds and shapes.
-use Rattle.std.proofs.Common.{◌≡◌, ◌≢◌, ℕ, refl, sym, ap, ◌∙◌}
+use Rattle.std.proofs.Common.{◌≡◌, ◌≢◌, ℕ, List, refl, sym, ap, ◌∙◌}
+use Rattle.model_values.specs.Row.{Row}
 use Rattle.model_states.specs.Threshold.{Shape, set, grow, counter, register, fold}
 use Rattle.model_graph.specs.Graph.{Kind, OrSet, GSet, Counter, MaxReg, Union}
 use Rattle.model_graph.specs.Lawful.{shape_of as shape_of_kind}
@@ -49,3 +50,11 @@ same-shape nodes s t h g e = source-shape nodes s h ∙ ap (shape_of_kind nodes)
 
 pub joinable : (nodes : ℕ) (s t : State) → IsSource nodes (kind_of s) (content_of s) → IsSource nodes (kind_of t) (content_of t) → kind_of s ≡ kind_of t → AreJoinable s t
 joinable nodes s t h g e = record { shape = same-shape nodes s t h g e; nested = λ f. absurd (source-no-fold nodes s h f) }
+
+-- a state that is no observed-remove set is of another kind
+pub no-set : (s : State) → ((rows : List Row) → s ≡ state.Set rows → ⊥) → kind_of s ≡ OrSet → ⊥
+no-set (state.Set rows) other e = other rows refl
+no-set (state.Grow values) other e = absurd cc
+no-set (state.Count counts) other e = absurd cc
+no-set (state.Max m) other e = absurd cc
+no-set (state.Fold rows n) other e = absurd cc

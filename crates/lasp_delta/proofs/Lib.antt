@@ -3,6 +3,7 @@ pub mod KindLaws
 pub mod ChangedLaws
 pub mod BegunLaws
 pub mod JoinLaws
+pub mod SinceLaws
 pub mod ReadLaws
 pub mod WorldLaws
 pub mod GoLaws

@@ -7,7 +7,7 @@ use Rattle.model_graph.specs.Chain.{◌>>=◌}
 use Rattle.model_graph.specs.Graph.{Decl}
 use Rattle.model_graph.specs.Evaluation.{first_large}
 use Rattle.model_graph.specs.Lawful.{sources_among}
-use Rattle.model_graph.proofs.PlaceLaws.{at-last}
+use Rattle.model_graph.proofs.PlaceLaws.{at-append, at-last}
 use Rattle.model_messages.specs.Message.{Message, Sent}
 use Rattle.model_messages.proofs.MessageLaws.{sent-among}
 use Rattle.model_world.specs.Command as plain
@@ -30,10 +30,15 @@ use Rattle.model_deltas.specs.Gossip.{Gossip, nothing_told, told_by, last_told, 
 use Rattle.model_deltas.specs.Going.{IsSentNumber}
 use Rattle.model_deltas.proofs.SourceLaws.{begins-by, decls-joined, taken-twice}
 use Rattle.model_deltas.proofs.TravelLaws.{tells-more, going-post, going-take, delta-wide, brings-delta}
+use Rattle.lasp_drive.specs.Since.{message_since}
 use Rattle.lasp_drive.specs.Node.{NodeView}
+use Rattle.lasp_drive.specs.Tails.{IsBehind}
+use Rattle.lasp_drive.specs.declared.node.Tail.{Tail}
 use Rattle.lasp_drive.specs.Driver.{DriverView, run_of, stage_of, Stands}
 use Rattle.lasp_drive.specs.Acts.{Acted, MayDo}
 use Rattle.lasp_drive.proofs.NodeLaws.{sent-read}
+use Rattle.lasp_drive.proofs.TailLaws.{kept-behind}
+use Rattle.lasp_delta.specs.Since.{LeadsFrom}
 use Rattle.lasp_delta.specs.Seen.{DeltaView, gossip_of, IsUnderWay}
 use Rattle.lasp_delta.specs.Answered.{IsGap}
 use Rattle.lasp_delta.specs.declared.refused.DeltaRefused.{DeltaRefused}
@@ -223,6 +228,34 @@ sent-now c p number d e m acted is at = sent-read e.sent number m at ∙ ap (sen
 pub before-now : (c p : ℕ) (d : DeltaView) (before now : Message) → IsUnderWay c d → p < length d.driver.nodes → before ≡ last_told (gossip_of d) p → now ≡ message_in d.driver p → IsBefore before now
 before-now c p d before now under_way member was is =
     subst (λ (m : Message). IsBefore m now) (sym was) (subst (λ (m : Message). IsBefore (last_told (gossip_of d) p) m) (sym is) (tells-before c p d under_way member))
+
+-- what the driver keeps of the message leads to it from what the node told last
+pub leads-now : (c p number : ℕ) (d : DeltaView) (e : DriverView) (before now : Message) (last : Option ℕ) (kept : Option Tail) → IsUnderWay c d → p < length d.driver.nodes → IsMessage now → Acted c c d.driver (Post p ∷ []) e → number ≡ length d.driver.sent
+    → before ≡ last_told (gossip_of d) p → now ≡ message_in d.driver p → slice_index_or d.last p None ≡ last → kept ≡ get_or e.tails number kept → LeadsFrom last before kept now
+leads-now c p number d e before now last kept under_way member whole acted counted was is told read t here behind = record {
+  lawful = whole;
+  earlier = before-now c p d before now under_way member was is;
+  exact = stands.exact ∙ (λ i. message_since (earlier i) (newest i));
+} where
+  posted : run_of e ≡ effect (run_of d.driver) (Post p)
+  posted = act-effect c (run_of d.driver) (run_of e) (Post p) (act-one c (run_of d.driver) (run_of e) (Post p) acted.run)
+
+  stands : IsBehind e.graph e.sent number t
+  stands = kept-behind e.graph e.nodes e.sent e.tails number kept t acted.ready.tailed (omega (arith, sent-more c p d.driver e acted, counted)) read here
+
+  number-is : slice_index_or d.last p None ≡ Some t.before
+  number-is = told ∙ behind
+
+  low : t.before < length d.driver.sent
+  low = told-number c p t.before d under_way member number-is
+
+  earlier : sent_number e.sent t.before ≡ before
+  earlier =
+      ap (λ (r : Run). sent_number r.sent t.before) posted ∙ at-append d.driver.sent (message_in d.driver p ∷ []) t.before no_message low
+      ∙ sym (was ∙ ap (λ (o : Option ℕ). told_by (run_of d.driver) o) number-is)
+
+  newest : sent_number e.sent number ≡ now
+  newest = ap (sent_number e.sent) counted ∙ sent-last c p d.driver e acted ∙ sym is
 
 pub went-posted : (c p number : ℕ) (d : DeltaView) (e : DriverView) (before now : Message) (delta : Delta) → IsUnderWay c d → p < length d.driver.nodes → IsMessage before → IsMessage now → Acted c c d.driver (Post p ∷ []) e → number ≡ length d.driver.sent
     → before ≡ last_told (gossip_of d) p → now ≡ message_in d.driver p → delta ≡ delta_of before now

@@ -4,7 +4,7 @@ ghost use Rattle.std.specs.Prelude.{◌≡◌, ◌<◌, ◌↔◌, IfOk, IsTrue,
 ghost use Rattle.model_states.specs.Content.{IsContentAtMost};
 ghost use Rattle.model_messages.specs.Message.{Sent};
 ghost use Rattle.model_deltas.specs.Delta.{changed_sources, delta_of, carried};
-ghost use Rattle.model_deltas.specs.Before.{AreSourcesBefore, IsBefore};
+ghost use Rattle.model_deltas.specs.Before.{AreSourcesBefore, IsBefore, AreAlike};
 ghost use Rattle.lasp_wire.specs.Sent.{sent};
 
 use super::changed::changed_state;
@@ -18,6 +18,7 @@ use std::alloc::{AllocError, Global};
 /// The delta from a message to a later one of the same sender. The earlier one has no count and no source above the later one's, and its sources are the first of the later one's: this holds of any two messages of one node in the order in which it made them.
 /// Of an observed-remove set that only grew since, as a node's own does, it costs a comparison for each row of the earlier message; of another one a table of these, and a look-up for each row of the later message.
 /// Of a grow-only set it costs a table of the earlier elements, a look-up for each later one, and a sort of these. It takes memory for what is new besides.
+/// Where it is kept what came since, `delta_since` passes over that alone.
 pub fn delta_of(alloc: Global, before: &Message, after: &Message) -> Result<Delta, AllocError>
     requires { IsBefore before.now after.now }
     ensures { IfOk result (λ delta. delta ≡ delta_of before.now after.now) }
@@ -47,13 +48,13 @@ fn changes(alloc: Global, before: &Message, after: &Message) -> Result<Message, 
 }
 
 /// The name of a source, and what changed in it; everything where the earlier message lacks the source.
-fn changed_source<'a>(
+pub(crate) fn changed_source<'a>(
     alloc: Global,
     before: &Message,
     after: &'a Message,
     i: u64,
 ) -> Result<(&'a Name, State), AllocError>
-    requires earlier { IsBefore before.now after.now }
+    requires alike { AreAlike before.now after.now }
     requires within { i < length after.now.sources }
     ensures { IfOk result (λ x. slice_get (changed_sources before.now.sources 0 after.now.sources) i ≡ Some (sent x.0.now x.1)) }
 {

@@ -15,6 +15,7 @@ mod difference;
 mod encoder;
 mod refused;
 mod run;
+mod since;
 mod source;
 
 pub use application::apply;
@@ -24,3 +25,4 @@ pub use difference::{delta_of, is_before};
 pub use encoder::encode_delta;
 pub use refused::DeltaRefused;
 pub use run::{DeltaRun, Letter, deltas_on};
+pub use since::delta_since;

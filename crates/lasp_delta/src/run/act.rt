@@ -3,15 +3,18 @@
 ghost use Rattle.std.specs.Prelude.{◌≡◌, ◌<◌, ◌≤◌, ◌+◌, ◌∷◌, [], length, IfOk, if◌then◌else◌};
 ghost use Rattle.std.specs.Arc.{arc_value};
 ghost use Rattle.model_world.specs.World.{Post, Take};
+ghost use Rattle.model_deltas.specs.Delta.{delta_of};
+ghost use Rattle.model_deltas.specs.Before.{IsBefore};
 ghost use Rattle.model_deltas.specs.Gossip.{nothing_told, last_told};
+ghost use Rattle.lasp_delta.specs.Since.{LeadsFrom};
 ghost use Rattle.lasp_delta.specs.Seen.{delta_seen, gossip_of, IsUnderWay};
 ghost use Rattle.lasp_delta.specs.Acts.{Goes};
 
-use crate::delta_of;
 use crate::run::deltas::DeltaRun;
 use crate::run::hand::bring;
 use crate::run::letter::Letter;
-use lasp_drive::{Halt, Node};
+use crate::{Delta, delta_of, delta_since};
+use lasp_drive::{Halt, Node, Tail};
 use lasp_wire::{Counts, Message};
 use std::alloc::{AllocError, Global};
 use std::sync::Arc;
@@ -44,6 +47,24 @@ fn one_more_if(count: u64, happened: bool) -> Result<u64, AllocError>
     ensures { IfOk result (λ more. more ≡ count + (if happened then 1 else 0)) }
 {
     if happened { one_more(count) } else { Ok(count) }
+}
+
+/// What changed from what a node told last, which has this number if it was sent, to the message that it sent now. Where that is kept with what came since the same message, it is made of this.
+fn changes(
+    alloc: Global,
+    before: &Message,
+    last: Option<u32>,
+    sent: &Message,
+    tail: &Option<Tail>,
+) -> Result<Delta, AllocError>
+    requires earlier { IsBefore before.now sent.now }
+    requires kept { LeadsFrom last before.now tail.now sent.now }
+    ensures { IfOk result (λ delta. delta ≡ delta_of before.now sent.now) }
+{
+    match tail {
+        Some(tail) if last == Some(tail.before) => delta_since(alloc, before, &tail.rows),
+        _ => delta_of(alloc, before, sent),
+    }
 }
 
 impl<N: Node> DeltaRun<N> {
@@ -79,7 +100,8 @@ impl<N: Node> DeltaRun<N> {
         }
         let sent = self.driver.network.receive(number)?;
         sent.recall();
-        let delta = delta_of(alloc, &before, &sent)?;
+        let tail = &self.driver.tails[number as usize];
+        let delta = changes(alloc, &before, self.last[p as usize], &sent, tail)?;
         self.letters.push(Letter::of(alloc, &delta)?)?;
         self.last[p as usize] = Some(number);
         Ok(())

@@ -7,7 +7,7 @@ use Rattle.model_wire.specs.Lawful.{IsSource, IsSent}
 use Rattle.lasp_state.specs.declared.state.State.{State}
 use Rattle.lasp_state.specs.State.{content_of}
 use Rattle.lasp_wire.specs.Sent.{kind_of, sent}
-use Rattle.lasp_delta.proofs.PlaceLaws.{before-at}
+use Rattle.lasp_delta.proofs.PlaceLaws.{alike-at}
 use Rattle.lasp_delta.proofs.KindLaws.{source-no-fold, same-shape}
 use Rattle.lasp_delta.proofs.JoinLaws.{changed-is, changed-all}
 use Rattle.lasp_delta.proofs.difference.changed_source.Goals as goal
@@ -18,10 +18,10 @@ changed_state-requires-clause-shape c =
     let old = c.source_at-then-i-len.result.1.now in
     let new = c.source_at.result.1.now in
     let was : IsSource nodes (kind_of old) (content_of old) =
-    (each-at (IsSent nodes) c.args.before.now.sources c.args.i (sent c.source_at-then-i-len.result.0.now old) (subst (λ (n : ℕ). AllByRecursion (IsSent n) c.args.before.now.sources) c.requires.earlier.nodes c.recall.ensures.sources) c.source_at-then-i-len.ensures).1 in
+    (each-at (IsSent nodes) c.args.before.now.sources c.args.i (sent c.source_at-then-i-len.result.0.now old) (subst (λ (n : ℕ). AllByRecursion (IsSent n) c.args.before.now.sources) c.requires.alike.nodes c.recall.ensures.sources) c.source_at-then-i-len.ensures).1 in
     let is : IsSource nodes (kind_of new) (content_of new) = (each-at (IsSent nodes) c.args.after.now.sources c.args.i (sent c.source_at.result.0.now new) c.recall-2.ensures.sources c.source_at.ensures).1 in
-    let both = before-at c.args.before.now.sources c.args.after.now.sources c.args.i (sent c.source_at-then-i-len.result.0.now old) (sent c.source_at.result.0.now new) c.requires.earlier.sources c.source_at-then-i-len.ensures c.source_at.ensures in
-    same-shape nodes old new was is (ap (λ (d : Decl). d.kind) both.0)
+    let same = alike-at c.args.before.now.sources c.args.after.now.sources c.args.i (sent c.source_at-then-i-len.result.0.now old) (sent c.source_at.result.0.now new) c.requires.alike.sources c.source_at-then-i-len.ensures c.source_at.ensures in
+    same-shape nodes old new was is (ap (λ (d : Decl). d.kind) same)
 
 pub changed_state-requires-clause-source : goal.changed_state-requires-clause-source
 changed_state-requires-clause-source c =

@@ -5,7 +5,11 @@ use Rattle.model_deltas.specs.Delta.{changed_sources}
 use Rattle.model_deltas.proofs.DeltaLaws.{length-changed, sources-lawful}
 use Rattle.lasp_wire.specs.Sent.{sent}
 use Rattle.lasp_delta.proofs.BegunLaws.{IsBegun, begun-more, begun-whole, begun-lawful}
+use Rattle.lasp_delta.proofs.SinceLaws.{earlier-alike}
 use Rattle.lasp_delta.proofs.difference.changes.Goals as goal
+
+pub changed_source-requires-clause-alike : goal.changed_source-requires-clause-alike
+changed_source-requires-clause-alike c = earlier-alike c.args.before.now c.args.after.now c.requires
 
 pub push-requires : goal.push-requires
 push-requires c =
