@@ -4,22 +4,23 @@ use Rattle.model_graph.specs.Graph.{Decl, is_source, kind_at}
 use Rattle.model_graph.specs.Evaluation.{content_at}
 use Rattle.model_messages.specs.Message.{Message, source_number, sent_at}
 use Rattle.model_messages.proofs.MessageLaws.{sent-is}
+use Rattle.model_journal.specs.Entry.{Entry, Frame}
 use Rattle.model_journal.specs.Journal.{graph, vals, sources}
-use Rattle.model_core.specs.Core.{Core, IsCore}
+use Rattle.model_journal.specs.Legal.{IsLegal}
 use Rattle.model_core.proofs.SourceLaws.{sources-source}
 use Rattle.lasp_graph.specs.States.{contents_of}
 use Rattle.lasp_replica.specs.Since.{tail_of}
 use Rattle.lasp_core.specs.Since.{IsTailSince}
 use Rattle.lasp_core.proofs.TailLaws.{earlier-source, contents-long, told}
 
-module _ (c : Core) (core : IsCore c) (n : ℕ) (m : Message) (tail : IsTailSince c.frame c.entries n m) where
+module _ (X : Frame) (h : List Entry) (legal : IsLegal X h) (n : ℕ) (m : Message) (tail : IsTailSince X h n m) where
   abbrev g : List Decl
-  g = graph c.frame c.entries
+  g = graph X h
 
   pub tail-has : (x : ℕ) → x < length g → IsTrue (is_source (kind_at g x))
-      → sent_at m.sources (source_number g x) ≡ tail_of (kind_at g x) (content_at (sources c.frame (take n c.entries)) x) (content_at (sources c.frame c.entries) x)
+      → sent_at m.sources (source_number g x) ≡ tail_of (kind_at g x) (content_at (sources X (take n h)) x) (content_at (sources X h) x)
   tail-has x low source =
       ap (λ (k : Message). sent_at k.sources (source_number g x)) tail.message
-      ∙ sent-is g (contents_of tail.states) x low (contents-long c core n tail.states tail.since) source
-      ∙ told c core n tail.states tail.since x low
-      ∙ (λ i. tail_of (kind_at g x) (sym (earlier-source c.frame c.entries core.legal n x source) i) (sym (sources-source g (vals c.frame c.entries) x low source) i))
+      ∙ sent-is g (contents_of tail.states) x low (contents-long X h n tail.states tail.since) source
+      ∙ told X h n tail.states tail.since x low
+      ∙ (λ i. tail_of (kind_at g x) (sym (earlier-source X h legal n x source) i) (sym (sources-source g (vals X h) x low source) i))

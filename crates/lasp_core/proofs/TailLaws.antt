@@ -99,6 +99,15 @@ module _ (X : Frame) (h : List Entry) (legal : IsLegal X h) (n : ℕ) where
         at-past (sources X first) x least (omega (arith, past, long, sources-length (graph X first) (vals X first) long))
         ∙ sym (at-past (vals X first) x least (omega (arith, past, long)))
 
+-- ---- the states
+
+module _ (X : Frame) (h : List Entry) (n : ℕ) (states : List Held) (since : AreStatesSince X h n states) where
+  pub contents-long : length (contents_of states) ≡ length (graph X h)
+  contents-long = length-contents states ∙ since.long
+
+  pub told : (x : ℕ) → x < length (graph X h) → content_at (contents_of states) x ≡ tail_of (kind_at (graph X h) x) (val X (take n h) x) (val X h x)
+  told x low = at-map (λ (s : Held). s.content) states x (record { shape = set; content = least; number = pos 0 }) ∙ since.contents x low
+
 -- ---- the message
 
 module _ (c : Core) (core : IsCore c) (n : ℕ) (states : List Held) (since : AreStatesSince c.frame c.entries n states) where
@@ -111,12 +120,6 @@ module _ (c : Core) (core : IsCore c) (n : ℕ) (states : List Held) (since : Ar
   abbrev now : ℕ → Content
   now x = val c.frame c.entries x
 
-  pub contents-long : length (contents_of states) ≡ length g
-  contents-long = length-contents states ∙ since.long
-
-  pub told : (x : ℕ) → x < length g → content_at (contents_of states) x ≡ tail_of (kind_at g x) (before x) (now x)
-  told x low = at-map (λ (s : Held). s.content) states x (record { shape = set; content = least; number = pos 0 }) ∙ since.contents x low
-
   source-now : (x : ℕ) → x < length g → IsTrue (is_source (kind_at g x)) → IsSource c.frame.nodes (kind_at g x) (now x)
   source-now x low source = subst (IsSource c.frame.nodes (kind_at g x)) (sources-source g (vals c.frame c.entries) x low source) (core.held.sources x low source)
 
@@ -126,9 +129,9 @@ module _ (c : Core) (core : IsCore c) (n : ℕ) (states : List Held) (since : Ar
 
   tail-held : IsHeld c.frame.nodes g tail-peer
   tail-held = record {
-    long = sources-length g (contents_of states) contents-long;
+    long = sources-length g (contents_of states) (contents-long c.frame c.entries n states since);
     wide = core.held.wide;
-    sources = λ x low source. subst (IsSource c.frame.nodes (kind_at g x)) (sym (sources-source g (contents_of states) x low source ∙ told x low))
+    sources = λ x low source. subst (IsSource c.frame.nodes (kind_at g x)) (sym (sources-source g (contents_of states) x low source ∙ told c.frame c.entries n states since x low))
         (tail-source c.frame.nodes (kind_at g x) (before x) (now x) (source-now x low source));
     derived = λ x low process. sources-derived g (contents_of states) x low process ∙ sym (least_of-derived c.frame.nodes (kind_at g x) process);
   }
@@ -142,9 +145,9 @@ module _ (c : Core) (core : IsCore c) (n : ℕ) (states : List Held) (since : Ar
   pub tail-is : IsTail g (peer_of c.frame (take n c.entries)).contents (peer_of c.frame c.entries).contents (message_at g (peer_of c.frame c.entries)) (message_of g (contents_of states) (counts c.frame c.entries))
   tail-is = record {
     counts = refl;
-    named = sent-among g (contents_of states) contents-long ∙ sym (sent-among g (sources c.frame c.entries) (sources-length g (vals c.frame c.entries) (vals-length c.frame c.entries core.legal)));
+    named = sent-among g (contents_of states) (contents-long c.frame c.entries n states since) ∙ sym (sent-among g (sources c.frame c.entries) (sources-length g (vals c.frame c.entries) (vals-length c.frame c.entries core.legal)));
     joins = λ x low source.
-        ap (join_contents (content_at (sources c.frame (take n c.entries)) x)) (sent-is g (contents_of states) x low contents-long source ∙ told x low)
+        ap (join_contents (content_at (sources c.frame (take n c.entries)) x)) (sent-is g (contents_of states) x low (contents-long c.frame c.entries n states since) source ∙ told c.frame c.entries n states since x low)
         ∙ ap (λ (s : Content). join_contents s (tail_of (kind_at g x) (before x) (now x))) (earlier-source c.frame c.entries core.legal n x source)
         ∙ tail-joined c.frame.nodes (kind_at g x) (before x) (now x) (source-now x low source) (val-ordered c.frame c.entries core.legal x)
         ((later c.frame c.entries core.legal n).wider x) ((later c.frame c.entries core.legal n).grown x)

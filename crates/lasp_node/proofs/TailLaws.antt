@@ -36,5 +36,5 @@ tail-of c core sent s is t number rows = record {
   sent = ap (option_map (posted_at c)) is;
   number = number;
   rows = rows.tail;
-  exact = λ x low source. tail-has c core s.entries (arc_value t.rows) rows x low source ∙ since-alike (kind_at (graph c.frame c.entries) x) (content_at (posted_at c s).contents x) (content_at (node_of c sent).peer.contents x);
+  exact = λ x low source. tail-has c.frame c.entries core.legal s.entries (arc_value t.rows) rows x low source ∙ since-alike (kind_at (graph c.frame c.entries) x) (content_at (posted_at c s).contents x) (content_at (node_of c sent).peer.contents x);
 }
