@@ -1,5 +1,5 @@
 -- How the parts of a turn make up the turn.
-use Rattle.std.proofs.Common.{◌≡◌, ℕ, ◌≤◌, Bool, true, false, List, [], ◌∷◌, ◌++◌, length, take, Some, Result, Ok, Err, refl, sym, ap, subst, ◌∙◌, append-nil, append_assoc, ◌<◌}
+use Rattle.std.proofs.Common.{◌≡◌, ℕ, ◌≤◌, Bool, true, false, List, [], ◌∷◌, ◌++◌, length, take, Some, Result, Ok, Err, refl, sym, ap, subst, ◌∙◌, append-nil, append_assoc, length-append, arith, ◌<◌}
 use Rattle.std.specs.Prelude.{OnOk, OnErr, IfOk, IfSome, IfNone, IsTrue, Option, None, ltb, if◌then◌else◌}
 use Rattle.std.specs.List.{AllByRecursion}
 use Rattle.std.proofs.lemmas.List.Elements.{All-nil, All-cons}
@@ -215,6 +215,11 @@ still-take c d (Ok (Some job)) same is err = still-taken c d job.var (rows_of jo
 still-take c d (Err why) same is err = still-same c d err
 
 -- ---- what stays in a turn
+
+-- an earlier point of what a pass has seen stays one
+pub early-later : (since : Option ℕ) (old new : List Entry) → GoesOn old new → IfSome since (λ n. n ≤ length old) → IfSome since (λ n. n ≤ length new)
+early-later None old new on early = tt
+early-later (Some n) old new on early = omega (arith, early, ap (λ (l : List Entry). length l) on.1, length-append old on.0)
 
 -- what stays where the entries go on stands at the core that was taken out
 pub begun-at : (P : Frame → List Entry → Type 0) (store : LockId) (old p : Knows) (c : Core) → HasBegun store old p c → ((more : List Entry) → P (frame_of old) (old.seen ++ more)) → P (frame_of p) p.seen

@@ -29,6 +29,7 @@ pub use Rattle.lasp_core.specs.Core.{AreAscending, IsOpen, state_after}
 pub use Rattle.lasp_core.specs.Listed.{AreClean, GoesOn}
 pub use Rattle.lasp_core.specs.Reads.{read_of}
 pub use Rattle.lasp_core.specs.Watched.{IsBusy}
+pub use Rattle.lasp_store.specs.Letter.{IsSent, IsTailFrom}
 pub use Rattle.lasp_store.specs.Passed.{HasPassed}
 pub use Rattle.lasp_store.specs.Settled.{AreEvaluatedBelow, HasBound, HasSettled, IsDone, KnowsOwn, Settles, TellsFirst, evaluation}
 pub use Rattle.lasp_store.specs.Tried.{IfRefused, Tried}

@@ -17,6 +17,7 @@
 mod feed;
 mod hand;
 mod laws;
+mod letter;
 mod message;
 mod ordered;
 mod reads;
@@ -31,5 +32,6 @@ mod tests;
 mod turn;
 
 pub use laws::{feeds_tell_the_graph, feeds_tell_the_sources, shelves_stay, turns_go_on};
+pub use letter::Sent;
 pub use seated::Seated;
 pub use store::{Feed, Hand, Store};

@@ -11,7 +11,7 @@ use std::alloc::{AllocError, Global};
 use std::sync::Wait;
 
 /// The message of a core: its counts, and its sources in their order, each by its name and kind. It copies names and counts, and shares the states' rows.
-fn message_of(alloc: Global, core: &Core) -> Result<Message, AllocError>
+pub(crate) fn message_of(alloc: Global, core: &Core) -> Result<Message, AllocError>
     ensures { IfOk result (λ m. m ≡ message_at (journal.graph core.now.frame core.now.entries) (peer_of core.now.frame core.now.entries)) }
 {
     core.recall();
