@@ -6,5 +6,5 @@ mod node;
 mod settling;
 
 pub use message::message_of;
-pub use node::CoreNode;
+pub use node::{CoreNode, LastSent};
 pub use settling::settle;

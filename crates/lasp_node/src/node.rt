@@ -18,11 +18,13 @@ use lasp_wire::{Counts, Message};
 use std::alloc::{AllocError, Global};
 use std::sync::Arc;
 
-/// The number of the message that a node last sent, and how many entries its journal had then.
+/// When a node last sent.
 #[derive(Clone, Copy, Drop)]
-struct LastSent {
-    number: u32,
-    entries: u64,
+pub struct LastSent {
+    /// The number of its message.
+    pub number: u32,
+    /// How many entries its journal had then.
+    pub entries: u64,
 }
 
 /// A node that keeps a replica core and evaluates changed rows alone.

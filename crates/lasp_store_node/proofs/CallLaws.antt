@@ -1,5 +1,6 @@
 -- What a feed's calls make of the node that it has seen, and of its answers.
-use Rattle.std.proofs.Common.{ℕ, ◌≡◌, ◌<◌, ◌⊎◌, inl, inr, Bool, true, false, nat_lt, List, [], ◌∷◌, ◌++◌, length, Option, Some, None, Ok, Err, refl, sym, ap, subst, ◌∙◌, append-nil}
+use Rattle.std.proofs.Common.{ℕ, ◌≡◌, ◌<◌, ◌⊎◌, inl, inr, Bool, true, false, nat_lt, List, [], ◌∷◌, ◌++◌, length, Option, Some, None, Ok, Err, refl, sym, ap, subst, ◌∙◌, append-nil, arith}
+use Rattle.std.specs.Option.{option_map}
 use Rattle.model_states.specs.Content.{size_of, row_limit}
 use Rattle.model_states.specs.Counts.{count_at}
 use Rattle.model_graph.specs.Graph.{Decl, kind_at}
@@ -32,8 +33,9 @@ use Rattle.lasp_store.specs.Turn.{Knows, HadTurn, frame_of, graph_seen, looked_a
 use Rattle.lasp_store.specs.Settled.{KnowsOwn}
 use Rattle.lasp_store.proofs.SettleLaws.{turn-graph, turn-peer}
 use Rattle.lasp_store.proofs.TurnLaws.{turn-frame, turn-seen}
-use Rattle.lasp_store_node.specs.View.{node_of, IsFeed}
-use Rattle.lasp_store_node.proofs.FeedLaws.{calls-after, feed-grows, turn-learns}
+use Rattle.lasp_node.specs.declared.node.LastSent.{LastSent}
+use Rattle.lasp_store_node.specs.View.{Seen, seen, core_at, posted_at, IsEarly, node_of, node_seen, IsFeed}
+use Rattle.lasp_store_node.proofs.FeedLaws.{posted-later, learns-whatever, calls-after, feed-grows, turn-learns}
 
 -- a call of the feed was one turn, in which it added these entries
 pub record HasTurned (store : LockId) (more : List Entry) (old new : Knows) : Type 0 where
@@ -42,9 +44,16 @@ pub record HasTurned (store : LockId) (more : List Entry) (old new : Knows) : Ty
   pub knows : KnowsOwn new
   pub turn : HadTurn more old new
 
--- a core with these entries, of which nothing else is asked
-abbrev pub core_at : Frame → List Entry → Core
-core_at X entries = record { frame = X; entries = entries; parked = []; busy = []; opened = 0; owed = 0 }
+-- the same of a node of that feed, which had sent last then
+pub record HasCalled (store : LockId) (more : List Entry) (last : Option LastSent) (old : Seen) (new : Knows) : Type 0 where
+  pub turned : HasTurned store more old.feed new
+  pub sent : option_map (posted_at new) last ≡ option_map (posted_at old.feed) old.last
+
+pub has-called : (store : LockId) (more : List Entry) (inside : Knows) (last : Option LastSent) (old : Seen) (new : Knows) → seen inside last ≡ old → IsEarly last inside → IsFeed store inside → KnowsOwn inside → KnowsOwn new → HadTurn more inside new → HasCalled store more last old new
+has-called store more inside last old new is early was knew knows t = subst (λ (n : Seen). HasCalled store more last n new) is (record {
+  turned = record { was = was; knew = knew; knows = knows; turn = t };
+  sent = posted-later last inside new early (turn-frame more inside new t) (turn-seen more inside new t);
+})
 
 -- the core as the feed found it
 abbrev pub core_found : Knows → Core
@@ -78,11 +87,16 @@ module _ (store : LockId) (more : List Entry) (old new : Knows) (h : HasTurned s
 
 -- ---- a node after a call
 
-pub none-learned : (store : LockId) (old new : Knows) → HasTurned store [] old new → OnlyLearns (node_of old) (node_of new)
-none-learned store old new h = turn-learns as_they_are store old old new refl h.was h.knew h.knows h.turn
+pub none-learned : (store : LockId) (last : Option LastSent) (old : Seen) (new : Knows) → HasCalled store [] last old new → OnlyLearns (node_seen old) (node_of new last)
+none-learned store last old new h =
+    let learned = turn-learns as_they_are store old.feed None (seen old.feed None) new refl (omega arith) h.turned.was h.turned.knew h.turned.knows h.turned.turn in
+    record { learns = learns-whatever None None old.last last old.feed new learned.learns; reads = refl; sent = h.sent }
 
-pub takes-ok : (store : LockId) (old new : Knows) (a : Act) → unbound (entry 0 a ∷ []) ≡ fed a ∷ [] → declared (entry 0 a ∷ []) ≡ [] → HasTurned store (entry 0 a ∷ []) old new → TakesIn {A = Unit {0}} {E = NodeStop} a (node_of old) (Ok tt) (node_of new)
-takes-ok store old new a free none h =
+pub takes-ok : (store : LockId) (last : Option LastSent) (node : Seen) (new : Knows) (a : Act) → unbound (entry 0 a ∷ []) ≡ fed a ∷ [] → declared (entry 0 a ∷ []) ≡ [] → HasCalled store (entry 0 a ∷ []) last node new
+    → TakesIn {A = Unit {0}} {E = NodeStop} a (node_seen node) (Ok tt) (node_of new last)
+takes-ok store last node new a free none called =
+    let old = node.feed in
+    let h = called.turned in
     let frame = same-frame store (entry 0 a ∷ []) old new h in
     record {
       still = record {
@@ -91,16 +105,18 @@ takes-ok store old new a free none h =
         nodes = ap (λ (X : Frame). X.nodes) frame;
       };
       calls = after-calls store (entry 0 a ∷ []) old new h ∙ ap (λ (l : List Entry). unbound old.seen ++ l) free;
-      grew = record { more = feed-grows old new frame (turn-seen (entry 0 a ∷ []) old new h.turn) h.turn.legal; released = refl; sent = refl };
+      grew = record { more = feed-grows old new frame (turn-seen (entry 0 a ∷ []) old new h.turn) h.turn.legal; released = refl; sent = called.sent };
       refused = tt;
     }
 
-pub takes-none : (store : LockId) (old new : Knows) (a : Act) (why : NodeStop) → HasTurned store [] old new → TakesIn {A = Unit {0}} {E = NodeStop} a (node_of old) (Err why) (node_of new)
-takes-none store old new a why h = let learned = none-learned store old new h in record { still = learned.learns.still; calls = tt; grew = tt; refused = learned }
+pub takes-none : (store : LockId) (last : Option LastSent) (old : Seen) (new : Knows) (a : Act) (why : NodeStop) → HasCalled store [] last old new → TakesIn {A = Unit {0}} {E = NodeStop} a (node_seen old) (Err why) (node_of new last)
+takes-none store last old new a why h = let learned = none-learned store last old new h in record { still = learned.learns.still; calls = tt; grew = tt; refused = learned }
 
-pub extends-ok : (store : LockId) (old new : Knows) (e d : Decl) → e ≡ d → HasTurned store (entry 0 (Extend e) ∷ []) old new → Extends d (node_of old) (node_of new)
-extends-ok store old new e d same h =
+pub extends-ok : (store : LockId) (last : Option LastSent) (node : Seen) (new : Knows) (e d : Decl) → e ≡ d → HasCalled store (entry 0 (Extend e) ∷ []) last node new → Extends d (node_seen node) (node_of new last)
+extends-ok store last node new e d same called =
     let more : List Entry = entry 0 (Extend e) ∷ [] in
+    let old = node.feed in
+    let h = called.turned in
     let frame = same-frame store more old new h in
     record {
       node = record {
@@ -112,13 +128,13 @@ extends-ok store old new e d same h =
           ∙ peer-extended (frame_of new) (looked_at new) (legal-found store more old new h) (entry 0 (Extend e)) e refl
           ∙ (λ i. extended (frame i).nodes (same i) (peer-found store more old new h i));
       calls = after-calls store more old new h ∙ ap (λ (c : Decl). unbound old.seen ++ fed (Extend c) ∷ []) same;
-      grew = record { more = feed-grows old new frame (turn-seen more old new h.turn) h.turn.legal; released = refl; sent = refl };
+      grew = record { more = feed-grows old new frame (turn-seen more old new h.turn) h.turn.legal; released = refl; sent = called.sent };
     }
 
 -- ---- updates
 
 -- where it may be updated, the core that the feed found may
-fit-found : (store : LockId) (more : List Entry) (old new : Knows) (x : ℕ) (o : Op) → HasTurned store more old new → graph (frame_of new) (looked_at new) ≡ graph_seen old → MayUpdate (node_of old) x o → IsFit (core_found new) x o
+fit-found : (store : LockId) (more : List Entry) (old new : Knows) (x : ℕ) (o : Op) → HasTurned store more old new → graph (frame_of new) (looked_at new) ≡ graph_seen old → MayUpdate (node_of old None) x o → IsFit (core_found new) x o
 fit-found store more old new x o h same m =
     let frame = sym (same-frame store more old new h) in
     let peer = sym (peer-found store more old new h) in
@@ -138,7 +154,7 @@ same-updated : (store : LockId) (more : List Entry) (old new : Knows) (x : ℕ) 
     → updated (frame_of new).replica x (op_of o) (peer_of (frame_of new) (looked_at new)) ≡ updated (frame_of old).replica x (op_of o) (peer_of (frame_of old) old.seen)
 same-updated store more old new x o h i = updated (same-frame store more old new h i).replica x (op_of o) (peer-found store more old new h i)
 
-pub update-ok : (store : LockId) (old new : Knows) (x : ℕ) (o : Op) → MayUpdate (node_of old) x o → HasTurned store (entry 0 (Update x (op_of o)) ∷ []) old new → AnswersAt new x o ≡ None
+pub update-ok : (store : LockId) (old new : Knows) (x : ℕ) (o : Op) → MayUpdate (node_of old None) x o → HasTurned store (entry 0 (Update x (op_of o)) ∷ []) old new → AnswersAt new x o ≡ None
     → Updates {A = Unit {0}} (updated (frame_of old).replica x (op_of o) (peer_of (frame_of old) old.seen)) x (Ok tt) (peer_of (frame_of new) new.seen)
 update-ok store old new x o m h answer =
     let e : Entry = entry 0 (Update x (op_of o)) in
@@ -147,10 +163,10 @@ update-ok store old new x o m h answer =
     subst (λ (z : Peer × List Entry). Updates {A = Unit {0}} z.0 x (Ok tt) (peer_of (frame_of new) z.1)) (λ i. (same-updated store more old new x o h i, sym (seen-is store more old new h) i))
     (updated-ok (core_found new) x o fit (entered e (core_found new)) 0 refl answer)
 
-fit-refused : (store : LockId) (old new : Knows) (x : ℕ) (o : Op) → MayUpdate (node_of old) x o → HasTurned store [] old new → IsFit (core_found new) x o
+fit-refused : (store : LockId) (old new : Knows) (x : ℕ) (o : Op) → MayUpdate (node_of old None) x o → HasTurned store [] old new → IsFit (core_found new) x o
 fit-refused store old new x o m h = fit-found store [] old new x o h (graph-found store [] old new h (ap (graph (frame_of new)) (append-nil (looked_at new))) refl) m
 
-pub update-large : (store : LockId) (old new : Knows) (x : ℕ) (o : Op) (why : UpdateRefused) → MayUpdate (node_of old) x o → HasTurned store [] old new → why ≡ update.TooManyRows → IsAnswered {A = Unit {0}} (AnswersAt new x o) (Err why)
+pub update-large : (store : LockId) (old new : Knows) (x : ℕ) (o : Op) (why : UpdateRefused) → MayUpdate (node_of old None) x o → HasTurned store [] old new → why ≡ update.TooManyRows → IsAnswered {A = Unit {0}} (AnswersAt new x o) (Err why)
     → row_limit < size_of (content_at (updated (frame_of old).replica x (op_of o) (peer_of (frame_of old) old.seen)).contents x)
 update-large store old new x o why m h is answer =
     subst (λ (r : Peer). row_limit < size_of (content_at r.contents x)) (same-updated store [] old new x o h)
@@ -164,14 +180,14 @@ not-checked : (check : Option UpdateRefused) (b : Bool) (why : UpdateRefused) �
 not-checked check b why none told = too-many b why (ap (λ (refused : Option UpdateRefused). or_too_many refused b) (sym none) ∙ told)
 
 -- no other refusal is left
-refusal-is : (store : LockId) (old new : Knows) (x : ℕ) (o : Op) (why : UpdateRefused) → MayUpdate (node_of old) x o → HasTurned store [] old new → AnswersAt new x o ≡ Some why → update.TooManyRows ≡ why
+refusal-is : (store : LockId) (old new : Knows) (x : ℕ) (o : Op) (why : UpdateRefused) → MayUpdate (node_of old None) x o → HasTurned store [] old new → AnswersAt new x o ≡ Some why → update.TooManyRows ≡ why
 refusal-is store old new x o why m h answer =
     let fit = fit-refused store old new x o m h in
     not-checked (update_check (frame_of new).nodes (frame_of new).replica (graph (frame_of new) (looked_at new)) (counts (frame_of new) (looked_at new)) x o)
     (nat_lt row_limit (size_of (next_content (core_found new) x (op_of o)))) why
     (update-passes (frame_of new).nodes (frame_of new).replica x (graph (frame_of new) (looked_at new)) (counts (frame_of new) (looked_at new)) o fit.within fit.may fit.suits fit.room) answer
 
-pub update-refused : (store : LockId) (old new : Knows) (x : ℕ) (o : Op) (why : UpdateRefused) → MayUpdate (node_of old) x o → HasTurned store [] old new → IsAnswered {A = Unit {0}} (AnswersAt new x o) (Err why) → (why ≡ update.TooManyRows) ⊎ (why ≡ update.Memory)
+pub update-refused : (store : LockId) (old new : Knows) (x : ℕ) (o : Op) (why : UpdateRefused) → MayUpdate (node_of old None) x o → HasTurned store [] old new → IsAnswered {A = Unit {0}} (AnswersAt new x o) (Err why) → (why ≡ update.TooManyRows) ⊎ (why ≡ update.Memory)
 update-refused store old new x o update.UnknownVar m h answer = inl (sym (refusal-is store old new x o update.UnknownVar m h answer))
 update-refused store old new x o update.NotASource m h answer = inl (sym (refusal-is store old new x o update.NotASource m h answer))
 update-refused store old new x o update.WrongOp m h answer = inl (sym (refusal-is store old new x o update.WrongOp m h answer))

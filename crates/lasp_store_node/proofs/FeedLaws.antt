@@ -1,6 +1,7 @@
 -- What a turn of a feed makes of the node that it has seen.
-use Rattle.std.proofs.Common.{ℕ, ◌≡◌, ◌==◌, ◌<◌, Bool, true, false, not, cond, zero, suc, List, [], ◌∷◌, ◌++◌, length, Result, Ok, Err, refl, sym, ap, subst, ◌∙◌, append-nil, arith}
+use Rattle.std.proofs.Common.{ℕ, ◌≡◌, ◌==◌, ◌<◌, Bool, true, false, not, cond, zero, suc, List, [], ◌∷◌, ◌++◌, length, Option, None, Result, Ok, Err, refl, sym, ap, subst, ◌∙◌, append-nil, arith}
 use Rattle.std.specs.Prelude.{All, OnOk, OnErr, IsTrue}
+use Rattle.std.specs.Option.{option_map}
 use Rattle.std.proofs.lemmas.List.Elements.{All-head, All-tail, filter-append}
 use Rattle.model_states.specs.Content.{Content}
 use Rattle.model_graph.specs.Graph.{Decl, is_source, kind_at}
@@ -31,7 +32,9 @@ use Rattle.lasp_store.specs.Turn.{Knows, HadTurn, frame_of, graph_seen}
 use Rattle.lasp_store.specs.Settled.{KnowsOwn, HasSettled, AreBinds, IsBind, AreEvaluatedBelow, evaluation}
 use Rattle.lasp_store.proofs.EvaluatedLaws.{IsKept, kept-binds, same-evaluation, evaluated-stays, all-evaluated}
 use Rattle.lasp_store.proofs.SettleLaws.{turn-settles}
-use Rattle.lasp_store_node.specs.View.{node_of, place_of, IsFeed}
+use Rattle.lasp_node.specs.declared.node.LastSent.{LastSent}
+use Rattle.lasp_node.proofs.CallLaws.{posted-kept}
+use Rattle.lasp_store_node.specs.View.{Seen, seen, core_at, posted_at, IsEarly, node_of, node_seen, place_of, IsFeed}
 
 -- ---- the calls
 
@@ -89,10 +92,22 @@ binds-add-nothing X h more legal are is = all-evaluated X (h ++ more) legal belo
   below = subst (AreEvaluatedBelow X (h ++ more)) (sym (ap (λ (g : List Decl). length g) kept.graph_is))
       (evaluated-stays X h more (length (graph X h)) legal are (omega arith) (λ y low. ap (λ (ss : List Content). content_at ss y) is))
 
+-- ---- when it last sent
+
+-- what it held then it has held, also where what it has seen goes on
+pub posted-later : (last : Option LastSent) (old new : Knows) → IsEarly last old → frame_of new ≡ frame_of old → GoesOn old.seen new.seen → option_map (posted_at new) last ≡ option_map (posted_at old) last
+posted-later last old new early frame on = posted-kept last (core_at (frame_of old) old.seen) (core_at (frame_of new) new.seen) on.0 early frame on.1
+
 -- ---- a node that was asked
 
-settled-learns : (change : List Content → Reads → Reads) (old new : Knows) → KnowsOwn old → KnowsOwn new → old.number ≡ 0 → IsLegal (frame_of new) new.seen → HasSettled old new → unbound new.own ≡ unbound old.own → LearnsAnd change (node_of old) (node_of new)
-settled-learns change old new own-old own-new first legal s same = record {
+-- what it learns it learns whatever it last sent
+pub learns-whatever : (sent told was is : Option LastSent) (old new : Knows) → Learns (node_of old sent) (node_of new told) → Learns (node_of old was) (node_of new is)
+learns-whatever sent told was is old new l =
+    record { still = record { graph = l.still.graph; replica = l.still.replica; nodes = l.still.nodes }; peer = l.peer; calls = l.calls; more = l.more; settled = l.settled }
+
+settled-learns : (change : List Content → Reads → Reads) (last : Option LastSent) (old new : Knows) → IsEarly last old → KnowsOwn old → KnowsOwn new → old.number ≡ 0 → IsLegal (frame_of new) new.seen → HasSettled old new → unbound new.own ≡ unbound old.own
+    → LearnsAnd change (node_of old last) (node_of new last)
+settled-learns change last old new early own-old own-new first legal s same = record {
   learns = record {
     still = record { graph = (λ i. graph (frame i) (on i)) ∙ kept.graph_is; replica = ap (λ (X : Frame). X.replica) frame; nodes = ap (λ (X : Frame). X.nodes) frame };
     peer = (λ i. peer_of (frame i) (on i)) ∙ kept.peer;
@@ -101,7 +116,7 @@ settled-learns change old new own-old own-new first legal s same = record {
     settled = λ settled. (λ i. vals (frame i) (on i)) ∙ binds-add-nothing (frame_of old) old.seen s.seen.0 there s.seen.2 settled;
   };
   reads = refl;
-  sent = refl;
+  sent = posted-later last old new early frame (s.seen.0, on);
 } where
   frame : frame_of new ≡ frame_of old
   frame = ap (λ (p : Knows). frame_of p) s.pass
@@ -116,9 +131,10 @@ settled-learns change old new own-old own-new first legal s same = record {
   kept = kept-binds (frame_of old) old.seen s.seen.0 there s.seen.2
 
 -- a turn of the feed that adds nothing
-pub turn-learns : (change : List Content → Reads → Reads) (store : LockId) (inside old new : Knows) → inside ≡ old → IsFeed store inside → KnowsOwn inside → KnowsOwn new → HadTurn [] inside new → LearnsAnd change (node_of old) (node_of new)
-turn-learns change store old seen new is f own-old own-new t = subst (λ (p : Knows). LearnsAnd change (node_of p) (node_of new)) is (
-    settled-learns change old new own-old own-new f.first t.legal (turn-settles old new [] own-old own-new f.first f.seated.idle tt t)
+pub turn-learns : (change : List Content → Reads → Reads) (store : LockId) (inside : Knows) (last : Option LastSent) (old : Seen) (new : Knows) → seen inside last ≡ old → IsEarly last inside → IsFeed store inside → KnowsOwn inside → KnowsOwn new → HadTurn [] inside new
+    → LearnsAnd change (node_seen old) (node_of new last)
+turn-learns change store old last node new is early f own-old own-new t = subst (λ (n : Seen). LearnsAnd change (node_seen n) (node_of new last)) is (
+    settled-learns change last old new early own-old own-new f.first t.legal (turn-settles old new [] own-old own-new f.first f.seated.idle tt t)
     (ap unbound (ap (λ (p : Knows). p.own) t.pass ∙ append-nil old.own)))
 
 pub where-ok : {A E P : Type 0} (r : Result A E) → P → OnOk r P
@@ -130,15 +146,15 @@ where-err (Ok a) p = tt
 where-err (Err e) p = p
 
 -- the state of a source is what the node's replica holds of it
-pub held-source : (old new : Knows) (x : ℕ) (s : State) → Learns (node_of old) (node_of new) → x < length (graph_seen old) → IsTrue (is_source (kind_at (graph_seen old) x)) → held_of s ≡ state_after (frame_of new) new.seen x → Holds (node_of old) x s
+pub held-source : (old new : Seen) (x : ℕ) (s : State) → Learns (node_seen old) (node_seen new) → x < length (graph_seen old.feed) → IsTrue (is_source (kind_at (graph_seen old.feed) x)) → held_of s ≡ state_after (frame_of new.feed) new.feed.seen x → Holds (node_seen old) x s
 held-source old new x s l low source is = record {
-  content = ap (λ (h : Held). h.content) is ∙ sym (sources-source (graph_seen new) (vals (frame_of new) new.seen) x there kind) ∙ ap (λ (p : Peer). content_at p.contents x) l.peer;
+  content = ap (λ (h : Held). h.content) is ∙ sym (sources-source (graph_seen new.feed) (vals (frame_of new.feed) new.feed.seen) x there kind) ∙ ap (λ (p : Peer). content_at p.contents x) l.peer;
   shape = ap (λ (h : Held). h.shape) is ∙ (λ i. shape_of (l.still.nodes i) (kind_at (l.still.graph i) x));
 } where
-  there : x < length (graph_seen new)
+  there : x < length (graph_seen new.feed)
   there = subst (λ (g : List Decl). x < length g) (sym l.still.graph) low
 
-  kind : IsTrue (is_source (kind_at (graph_seen new) x))
+  kind : IsTrue (is_source (kind_at (graph_seen new.feed) x))
   kind = subst (λ (g : List Decl). IsTrue (is_source (kind_at g x))) (sym l.still.graph) source
 
 -- ---- settling
@@ -152,10 +168,10 @@ binds-unbound (e ∷ more) are = ap (λ (b : Bool). cond (not b) (e ∷ unbound 
   is-bind (Bind y n) is = refl
   is-bind (Extend d) is = absurd is
 
-pub settled-grew : (old new : Knows) → KnowsOwn old → KnowsOwn new → old.number ≡ 0 → IsLegal (frame_of new) new.seen → HasSettled old new → OnlyGrew (node_of old) (node_of new)
-settled-grew old new own-old own-new first legal s =
-    let learned = settled-learns as_they_are old new own-old own-new first legal s (ap unbound s.own.1 ∙ unbound-append old.own s.own.0 ∙ ap (λ (l : List Entry). unbound old.own ++ l) (binds-unbound s.own.0 s.own.2) ∙ append-nil (unbound old.own)) in
-    record { still = learned.learns.still; peer = learned.learns.peer; calls = learned.learns.calls; grew = record { more = learned.learns.more; released = refl; sent = refl } }
+pub settled-grew : (last : Option LastSent) (old new : Knows) → IsEarly last old → KnowsOwn old → KnowsOwn new → old.number ≡ 0 → IsLegal (frame_of new) new.seen → HasSettled old new → OnlyGrew (node_of old last) (node_of new last)
+settled-grew last old new early own-old own-new first legal s =
+    let learned = settled-learns as_they_are last old new early own-old own-new first legal s (ap unbound s.own.1 ∙ unbound-append old.own s.own.0 ∙ ap (λ (l : List Entry). unbound old.own ++ l) (binds-unbound s.own.0 s.own.2) ∙ append-nil (unbound old.own)) in
+    record { still = learned.learns.still; peer = learned.learns.peer; calls = learned.learns.calls; grew = record { more = learned.learns.more; released = refl; sent = learned.sent } }
 
 -- ---- where it is
 
@@ -164,8 +180,8 @@ turn-place old new more idle t = ap place_of t.pass ∙ (λ i. record (place_of 
 
 -- ---- nothing has happened
 
-pub fresh-node : (lock : LockId) (X : Frame) (p : Knows) → p ≡ first_pass lock X → IsFresh X.opening X.nodes X.replica (node_of p)
-fresh-node lock X p is = subst (λ (q : Knows). IsFresh X.opening X.nodes X.replica (node_of q)) (sym is) (record {
+pub fresh-node : (lock : LockId) (X : Frame) (p : Knows) → p ≡ first_pass lock X → IsFresh X.opening X.nodes X.replica (node_of p None)
+fresh-node lock X p is = subst (λ (q : Knows). IsFresh X.opening X.nodes X.replica (node_of q None)) (sym is) (record {
   node = record { graph = refl; replica = refl; nodes = refl };
   peer = peer-fresh X;
   calls = refl;

@@ -1,5 +1,5 @@
 -- What a feed that was lent keeps.
-use Rattle.std.proofs.Common.{◌≡◌, ℕ, List, [], ◌++◌, Option, Some, None, Result, Ok, Err, refl, sym, ap, subst, ◌∙◌, append-nil, append_assoc}
+use Rattle.std.proofs.Common.{◌≡◌, ℕ, List, [], ◌++◌, Option, Some, None, Result, Ok, Err, refl, sym, ap, subst, ◌∙◌, append-nil, append_assoc, arith}
 use Rattle.std.specs.Prelude.{OnOk, IfOk}
 use Rattle.model_states.specs.Content.{Content}
 use Rattle.model_states.specs.Threshold.{Threshold, AtLeast, Above, Count, Added, Removed}
@@ -19,17 +19,18 @@ use Rattle.lasp_histlock.specs.Passes.{after_miss}
 use Rattle.lasp_drive.specs.Node.{Learns, LearnsAnd, OnlyLearns}
 use Rattle.lasp_drive.specs.Reads.{Grows, Reads, as_they_are}
 use Rattle.lasp_core.specs.Listed.{GoesOn}
-use Rattle.lasp_store.specs.Turn.{Knows, HadTurn, TriedTurn}
+use Rattle.lasp_store.specs.Turn.{Knows, HadTurn, TriedTurn, frame_in}
 use Rattle.lasp_store.specs.Settled.{KnowsOwn}
 use Rattle.lasp_store.specs.Tried.{IfRefused}
 use Rattle.lasp_store.proofs.TurnLaws.{turn-seen}
-use Rattle.lasp_store_node.specs.View.{node_of, IsFeed}
+use Rattle.lasp_node.specs.declared.node.LastSent.{LastSent}
+use Rattle.lasp_store_node.specs.View.{Seen, seen, IsEarly, node_of, node_seen, Place, IsFeed}
 use Rattle.lasp_store_node.specs.Lent.{IsHeld, IsLent, IsLentFrom}
-use Rattle.lasp_store_node.proofs.FeedLaws.{turn-learns, turn-place}
+use Rattle.lasp_store_node.proofs.FeedLaws.{posted-later, learns-whatever, turn-learns, turn-place}
 
 -- what a node learns by two calls it learns by both
-pub learns-chain : (change : List Content → Reads → Reads) (a b c : Knows) → Learns (node_of a) (node_of b) → Learns (node_of b) (node_of c) → LearnsAnd change (node_of a) (node_of c)
-learns-chain change a b c x y = record {
+pub learns-chain : (change : List Content → Reads → Reads) (a b c : Seen) → OnlyLearns (node_seen a) (node_seen b) → OnlyLearns (node_seen b) (node_seen c) → LearnsAnd change (node_seen a) (node_seen c)
+learns-chain change a b c first second = record {
   learns = record {
     still = record { graph = y.still.graph ∙ x.still.graph; replica = y.still.replica ∙ x.still.replica; nodes = y.still.nodes ∙ x.still.nodes };
     peer = y.peer ∙ x.peer;
@@ -38,11 +39,16 @@ learns-chain change a b c x y = record {
     settled = λ settled. y.settled (x.settled settled ∙ settled ∙ (λ i. shown_at (sym x.still.graph i) (sym x.peer i))) ∙ x.settled settled;
   };
   reads = refl;
-  sent = refl;
-}
+  sent = second.sent ∙ first.sent;
+} where
+  x : Learns (node_seen a) (node_seen b)
+  x = first.learns
+
+  y : Learns (node_seen b) (node_seen c)
+  y = second.learns
 
 -- it learns nothing by no call
-learns-nothing : (a : Knows) → OnlyLearns (node_of a) (node_of a)
+learns-nothing : (a : Knows) → OnlyLearns (node_of a None) (node_of a None)
 learns-nothing a = record {
   learns = record { still = record { graph = refl; replica = refl; nodes = refl }; peer = refl; calls = refl; more = λ v threshold met. met; settled = λ settled. refl };
   reads = refl;
@@ -66,7 +72,7 @@ lent-turn start old new l own-old own-new t = record {
     first = ap (λ (p : Knows). p.number) t.pass ∙ l.feed.first;
   };
   place = turn-place old new [] l.feed.seated.idle t ∙ l.place;
-  learns = learns-chain as_they_are start old new l.learns.learns (turn-learns as_they_are old.lock old old new refl l.feed own-old own-new t).learns;
+  learns = learns-chain as_they_are (seen start None) (seen old None) (seen new None) l.learns (turn-learns as_they_are old.lock old None (seen old None) new refl (omega arith) l.feed own-old own-new t);
   goes_on = goes-on-chain start.seen old.seen new.seen l.goes_on (turn-seen [] old new t);
 }
 
@@ -91,6 +97,10 @@ lent-polled (Some start) old new r l own-old own-new busy ok refused = polled st
 pub lent-lock : (start : Option Knows) (store : LockId) (old new : Knows) → IsLentFrom start old → IsLentFrom start new → old.lock ≡ store → new.lock ≡ store
 lent-lock None store old new l m is = absurd l
 lent-lock (Some start) store old new l m is = ap (λ q. q.lock) m.place ∙ sym (ap (λ q. q.lock) l.place) ∙ is
+
+-- the node whose feed was lent
+pub lent-learns : (last : Option LastSent) (old new : Knows) → IsEarly last old → IsLent old new → OnlyLearns (node_of old last) (node_of new last)
+lent-learns last old new early l = record { learns = learns-whatever None None last last old new l.learns.learns; reads = refl; sent = posted-later last old new early (ap (λ (q : Place). frame_in q.frame) l.place) l.goes_on }
 
 -- ---- the read that it is lent to
 

@@ -3,3 +3,4 @@ pub mod CallLaws
 pub mod LentLaws
 pub mod WindowLaws
 pub mod CountedLaws
+pub mod TailLaws

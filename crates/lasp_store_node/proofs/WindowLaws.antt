@@ -1,22 +1,21 @@
 -- A node's shelf stays its feed's, and what its spy shows is the state that the feed has seen.
-use Rattle.std.proofs.Common.{◌≡◌, ℕ, ◌<◌, ◌≤◌, ◌⊎◌, inl, inr, List, ◌++◌, length, take, Option, Some, None, refl, sym, ap, subst, ◌∙◌, arith, le_trans, append-nil, append_assoc}
+use Rattle.std.proofs.Common.{◌≡◌, ℕ, ◌<◌, ◌≤◌, inl, inr, List, length, take, Option, Some, None, refl, sym, ap, subst, ◌∙◌, arith}
 use Rattle.std.specs.Prelude.{IfSome, slice_get}
 use Rattle.std.proofs.lemmas.List.{take_all}
 use mathlib.Core.List.{IsPrefix}
 use Rattle.model_journal.specs.Entry.{Entry, Frame}
-use Rattle.model_journal.specs.Journal.{graph, vals}
+use Rattle.model_journal.specs.Journal.{graph}
 use Rattle.model_graph.specs.Graph.{Decl, kind_at}
 use Rattle.model_graph.specs.Evaluation.{content_at}
 use Rattle.model_world.specs.World.{shown_at}
 use Rattle.model_versions.specs.Versions.{entries_in, states_in}
 use Rattle.lasp_state.specs.declared.state.State.{State}
 use Rattle.lasp_graph.specs.Evaluated.{number_by}
-use Rattle.lasp_graph.specs.States.{Held, held_of, held_at, contents_of}
+use Rattle.lasp_graph.specs.States.{Held, held_of, held_at}
 use Rattle.lasp_graph.proofs.SourceLists.{held_found}
-use Rattle.lasp_core.specs.Core.{IsStateOf, state_after}
-use Rattle.lasp_core.specs.Listed.{GoesOn}
+use Rattle.lasp_core.specs.Core.{state_after}
 use Rattle.lasp_core.proofs.JobLaws.{state-told}
-use Rattle.lasp_histlock.proofs.Prefixes.{prefix_trans, prefix_whole, prefix-length}
+use Rattle.lasp_histlock.proofs.Prefixes.{prefix_trans, prefix_whole}
 use Rattle.lasp_drive.specs.Node.{IsSettled, OnlyGrew, OnlyLearns}
 use Rattle.lasp_drive.specs.Reads.{as_they_are}
 use Rattle.lasp_snap.specs.Version.{Version, entries_last, states_last}
@@ -26,9 +25,8 @@ use Rattle.lasp_store.specs.Settled.{HasSettled}
 use Rattle.lasp_store.specs.Turn.{Knows, HadTurn, frame_in, frame_of, graph_seen}
 use Rattle.lasp_store.proofs.ShelfLaws.{shelf-goes-on, shelf-stays, content-of}
 use Rattle.lasp_store_node.specs.Lent.{IsLent}
-use Rattle.lasp_store_node.specs.View.{Place, node_of}
+use Rattle.lasp_store_node.specs.View.{Seen, Place, core_at, node_seen}
 use Rattle.lasp_store_node.specs.Window.{IsShownLast}
-use Rattle.lasp_store_node.proofs.CallLaws.{core_at}
 use Rattle.lasp_store_node.proofs.LentLaws.{learns-chain}
 
 -- ---- the shelf
@@ -77,22 +75,22 @@ shown-seen p s entries x state is few shown low =
 
 -- ---- the node that was settled and has published
 
-module _ (a b c : Knows) where
-  pub grew-learned : OnlyGrew (node_of a) (node_of b) → OnlyLearns (node_of b) (node_of c) → OnlyGrew (node_of a) (node_of c)
+module _ (a b c : Seen) where
+  pub grew-learned : OnlyGrew (node_seen a) (node_seen b) → OnlyLearns (node_seen b) (node_seen c) → OnlyGrew (node_seen a) (node_seen c)
   grew-learned x y = let l = y.learns in record {
     still = record { graph = l.still.graph ∙ x.still.graph; replica = l.still.replica ∙ x.still.replica; nodes = l.still.nodes ∙ x.still.nodes };
     peer = l.peer ∙ x.peer;
     calls = l.calls ∙ x.calls;
-    grew = record { more = λ v threshold met. l.more v threshold (x.grew.more v threshold met); released = refl; sent = refl };
+    grew = record { more = λ v threshold met. l.more v threshold (x.grew.more v threshold met); released = refl; sent = y.sent ∙ x.grew.sent };
   }
 
-  pub learned-chain : OnlyLearns (node_of a) (node_of b) → OnlyLearns (node_of b) (node_of c) → OnlyLearns (node_of a) (node_of c)
-  learned-chain x y = learns-chain as_they_are a b c x.learns y.learns
+  pub learned-chain : OnlyLearns (node_seen a) (node_seen b) → OnlyLearns (node_seen b) (node_seen c) → OnlyLearns (node_seen a) (node_seen c)
+  learned-chain x y = learns-chain as_they_are a b c x y
 
-pub learned-settled : (b c : Knows) → OnlyLearns (node_of b) (node_of c) → IsSettled (node_of b) → IsSettled (node_of c)
+pub learned-settled : (b c : Seen) → OnlyLearns (node_seen b) (node_seen c) → IsSettled (node_seen b) → IsSettled (node_seen c)
 learned-settled b c y settled = let l = y.learns in l.settled settled ∙ settled ∙ (λ i. shown_at (sym l.still.graph i) (sym l.peer i))
 
-pub learned-low : (b c : Knows) (x : ℕ) → OnlyLearns (node_of b) (node_of c) → x < length (graph_seen b) → x < length (graph_seen c)
+pub learned-low : (b c : Seen) (x : ℕ) → OnlyLearns (node_seen b) (node_seen c) → x < length (graph_seen b.feed) → x < length (graph_seen c.feed)
 learned-low b c x y low = subst (λ (g : List Decl). x < length g) (sym y.learns.still.graph) low
 
 pub ruleset shows = (grew-learned, learned-chain, learned-settled, learned-low)

@@ -14,7 +14,7 @@ use Rattle.lasp_store_node.specs.View.{node_of, place_of, IsFeed}
 pub record IsLent (start p : Knows) : Type 0 where
   pub feed : IsFeed p.lock p
   pub place : place_of p ≡ place_of start
-  pub learns : OnlyLearns (node_of start) (node_of p)
+  pub learns : OnlyLearns (node_of start None) (node_of p None)
   pub goes_on : GoesOn start.seen p.seen
 
 -- the same where it is told what it knew when it was lent, as it is at each loan

@@ -9,6 +9,7 @@
 #![tactic(auto)]
 
 mod counted;
+mod last;
 mod lent;
 mod node;
 mod shows;
