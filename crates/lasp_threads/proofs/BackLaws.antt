@@ -1,5 +1,5 @@
 -- A hand that comes back makes the feed learn results at most.
-use Rattle.std.proofs.Common.{◌≡◌, List, [], Option, length, take, refl, sym, ap, subst, ◌∙◌, append-nil, arith}
+use Rattle.std.proofs.Common.{◌≡◌, List, [], Option, None, length, take, refl, sym, ap, subst, ◌∙◌, append-nil, arith}
 use Rattle.std.specs.Prelude.{All}
 use Rattle.std.proofs.lemmas.List.{take_all}
 use mathlib.Core.List.{IsPrefix}
@@ -12,20 +12,20 @@ use Rattle.lasp_histlock.specs.Names.{LockId}
 use Rattle.lasp_histlock.specs.Passes.{after_rejoin}
 use Rattle.lasp_store.specs.Turn.{Knows, HadTurn, IsSeated, after_turn, looked_at, frame_of}
 use Rattle.lasp_store.specs.Settled.{KnowsOwn}
-use Rattle.lasp_store_node.specs.View.{node_of, IsFeed}
+use Rattle.lasp_store_node.specs.View.{seen, IsFeed}
 use Rattle.lasp_store_node.proofs.FeedLaws.{turn-learns}
-use Rattle.lasp_threads.specs.Spots.{IsKept}
+use Rattle.lasp_threads.specs.Spots.{feed_seen, IsKept}
 
 -- What a feed learns by a hand that comes back it would have learned by a turn of its own that found the same list.
-rejoined-learns : (store : LockId) (hand old new : Knows) → IsFeed store old → KnowsOwn old → KnowsOwn new → new ≡ after_rejoin hand old → IsPrefix old.seen new.seen → IsLegal (frame_of new) new.seen → OnlyLearns (node_of old) (node_of new)
+rejoined-learns : (store : LockId) (hand old new : Knows) → IsFeed store old → KnowsOwn old → KnowsOwn new → new ≡ after_rejoin hand old → IsPrefix old.seen new.seen → IsLegal (frame_of new) new.seen → OnlyLearns (feed_seen old) (feed_seen new)
 rejoined-learns store hand old new feed own-old own-new is p legal =
-    subst (λ (z : Option Frame × List Entry). OnlyLearns (node_of old) (node_at z.0 z.1)) (λ i. (sym frame i, append-nil new.seen i))
-    (turn-learns as_they_are store before before turned refl feed-before own-before own-turned turn) where
+    subst (λ (z : Option Frame × List Entry). OnlyLearns (feed_seen old) (node_at z.0 z.1)) (λ i. (sym frame i, append-nil new.seen i))
+    (turn-learns as_they_are store before None (seen before None) turned refl (omega arith) feed-before own-before own-turned turn) where
       frame : new.frame ≡ old.frame
       frame = ap (λ (q : Knows). q.frame) is
 
       node_at : Option Frame → List Entry → NodeView
-      node_at f l = node_of (record old { frame = f; seen = l })
+      node_at f l = feed_seen (record old { frame = f; seen = l })
 
       before : Knows
       before = record old { told = 0 }

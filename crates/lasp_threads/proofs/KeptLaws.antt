@@ -9,8 +9,8 @@ use Rattle.lasp_drive.specs.Nodes.{AllLearn}
 use Rattle.lasp_drive.proofs.NodeLaws.{at-set, mapped-at, same-set, seen-set}
 use Rattle.lasp_drive.proofs.PointLaws.{learning-begins, learning-next, learning-then}
 use Rattle.lasp_store.specs.Turn.{Knows}
-use Rattle.lasp_store_node.specs.View.{node_of, IsFeed}
-use Rattle.lasp_threads.specs.Spots.{AreFeeds, nodes_seen, IsKept, AreKept}
+use Rattle.lasp_store_node.specs.View.{IsFeed}
+use Rattle.lasp_threads.specs.Spots.{AreFeeds, feed_seen, nodes_seen, IsKept, AreKept}
 
 -- the stores have these feeds, also with a new one in its place
 pub feeds-set : (stores : List LockId) (feeds : List Knows) (p : ℕ) (lock : LockId) (new : Knows) → AreFeeds stores feeds → slice_get stores p ≡ Some lock → IsFeed lock new → AreFeeds stores (slice_set feeds p new)
@@ -27,8 +27,8 @@ pub kept-next : (stores : List LockId) (old now : List Knows) (p : ℕ) (lock : 
 kept-next stores old now p lock f new so_far store at kept = record {
   feeds = feeds-set stores now p lock new so_far.feeds store kept.feed;
   frames = same-set (λ (g : Knows). g.frame) now p f new at kept.frame ∙ so_far.frames;
-  learn = seen-set node_of now p new (λ (nodes : List NodeView). AllLearn (nodes_seen old) nodes)
-      (learning-next p (nodes_seen old) (nodes_seen now) (node_of f) (node_of new) so_far.learn (mapped-at node_of now p f at) kept.learns);
+  learn = seen-set feed_seen now p new (λ (nodes : List NodeView). AllLearn (nodes_seen old) nodes)
+      (learning-next p (nodes_seen old) (nodes_seen now) (feed_seen f) (feed_seen new) so_far.learn (mapped-at feed_seen now p f at) kept.learns);
 }
 
 pub kept-then : (stores : List LockId) (old mid new : List Knows) → AreKept stores old mid → AreKept stores mid new → AreKept stores old new

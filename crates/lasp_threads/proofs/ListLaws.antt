@@ -1,7 +1,7 @@
 -- Lists place by place.
 use Rattle.std.proofs.Common.{◌≡◌, ℕ, zero, suc, ◌<◌, List, [], ◌∷◌, ◌++◌, map, length, replicate, take, drop, ◌⊎◌, inl, inr, refl, sym, ap, subst, ◌∙◌, append_assoc, append-nil, arith}
 use Rattle.std.specs.Prelude.{Some, slice_get}
-use Rattle.std.specs.List.{AllZip}
+use Rattle.std.specs.List.{AllZip, remove}
 use Rattle.std.proofs.lemmas.List.{length-map, take_all, drop_all}
 use Rattle.std.proofs.lemmas.Option.{slice_get_within, same_Some}
 use Rattle.lasp_drive.proofs.NodeLaws.{mapped-at}
@@ -78,6 +78,12 @@ at-seam (z ∷ xs) ys (suc p) x size at = at-seam xs ys p x (omega (arith, size)
 pub moved : {X : Type 0} (new old rest left all : List X) (x y : X) → y ≡ x → new ≡ old ++ y ∷ [] → left ≡ x ∷ rest → old ++ left ≡ all → new ++ rest ≡ all
 moved {X} new old rest left all x y is pushed came items =
     ap (λ (l : List X). l ++ rest) pushed ∙ append_assoc old (y ∷ []) rest ∙ (λ i. old ++ (is i ∷ rest)) ∙ ap (λ (l : List X). old ++ l) (sym came) ∙ items
+
+-- the same of the first element of a list that both are mapped from
+pub moved-mapped : {X Y : Type 0} (f : X → Y) (new old : List Y) (left rest all : List X) (x : X) → slice_get left 0 ≡ Some x → rest ≡ remove left 0 → new ≡ old ++ f x ∷ [] → old ++ map f left ≡ map f all → new ++ map f rest ≡ map f all
+moved-mapped f new old [] rest all x at removed pushed items = absurd cc
+moved-mapped f new old (y ∷ left) rest all x at removed pushed items =
+    moved new old (map f rest) (map f (y ∷ left)) (map f all) (f y) (f x) (ap f (sym (same_Some y x at))) pushed (ap (λ l. f y ∷ map f l) (sym removed)) items
 
 -- what was written over a whole vector
 pub written : {X : Type 0} (many : ℕ) (new old : List X) → length new ≡ length old → length old ≡ many → take many (new ++ drop (length new) old) ≡ new

@@ -19,10 +19,10 @@ use Rattle.lasp_drive.specs.Node.{NodeView, IsNode, IsFresh, AreFresh, HasNoRead
 use Rattle.lasp_drive.proofs.NodeLaws.{mapped-at, mapped-or}
 use Rattle.lasp_drive.proofs.PointLaws.{length-push}
 use Rattle.lasp_store.specs.Turn.{Knows}
-use Rattle.lasp_store_node.specs.View.{node_of, Place, place_of, IsFeed}
+use Rattle.lasp_store_node.specs.View.{Place, place_of, IsFeed}
 use Rattle.lasp_store_node.proofs.FeedLaws.{fresh-node}
 use Rattle.lasp_threads.specs.Ran.{HaveEnded, HaveBegun}
-use Rattle.lasp_threads.specs.Spots.{Spot, IsOut, HasOut, HaveOut, HaveMade, AreFeeds, nodes_seen, AreKept}
+use Rattle.lasp_threads.specs.Spots.{Spot, IsOut, HasOut, HaveOut, HaveMade, AreFeeds, feed_seen, nodes_seen, AreKept}
 use Rattle.lasp_threads.specs.Stores.{frame_at, AreFirst, IsBack, AreBack, HaveRun, HaveStopped}
 use Rattle.lasp_threads.proofs.ListLaws.{at-place, at-or-last, mapped-from, same-at, same-length, map-twice, map-same}
 
@@ -71,19 +71,19 @@ first-out g stores feeds are = each-first (λ p f. HasOut [] p f) g stores feeds
 
 -- their reads aren't told
 pub feeds-unread : (feeds : List Knows) → HaveNoReads (nodes_seen feeds)
-feeds-unread feeds p n at = let from = mapped-from node_of feeds p n at in subst (λ (m : NodeView). HasNoReads m) (sym from.2) tt
+feeds-unread feeds p n at = let from = mapped-from feed_seen feeds p n at in subst (λ (m : NodeView). HasNoReads m) (sym from.2) tt
 
 pub first-fresh : (g : List Decl) (many : ℕ) (stores : List LockId) (feeds : List Knows) → length stores ≡ many → AreFirst g stores feeds → AreFresh g many many (nodes_seen feeds)
 first-fresh g many stores feeds size are = subst (λ (n : ℕ). AreFresh g n n (nodes_seen feeds)) size (record {
-  size = length-map feeds node_of ∙ are.size;
-  nodes_are = λ p n at. let from = mapped-from node_of feeds p n at in subst (λ (m : NodeView). IsNode g (length stores) p m) (sym from.2) (fresh p from.0 from.1).node;
-  peers = map-twice node_of (λ (n : NodeView). n.peer) feeds ∙ map-same (λ (f : Knows). (node_of f).peer) (fresh_peer g (length stores)) feeds (λ p f at. (fresh p f at).peer)
+  size = length-map feeds feed_seen ∙ are.size;
+  nodes_are = λ p n at. let from = mapped-from feed_seen feeds p n at in subst (λ (m : NodeView). IsNode g (length stores) p m) (sym from.2) (fresh p from.0 from.1).node;
+  peers = map-twice feed_seen (λ (n : NodeView). n.peer) feeds ∙ map-same (λ (f : Knows). (feed_seen f).peer) (fresh_peer g (length stores)) feeds (λ p f at. (fresh p f at).peer)
       ∙ ap (λ (n : ℕ). replicate n (fresh_peer g (length stores))) are.size;
-  calls = map-twice node_of (λ (n : NodeView). n.calls) feeds ∙ map-same (λ (f : Knows). (node_of f).calls) [] feeds (λ p f at. (fresh p f at).calls) ∙ ap (λ (n : ℕ). replicate n []) are.size;
+  calls = map-twice feed_seen (λ (n : NodeView). n.calls) feeds ∙ map-same (λ (f : Knows). (feed_seen f).calls) [] feeds (λ p f at. (fresh p f at).calls) ∙ ap (λ (n : ℕ). replicate n []) are.size;
   reads = feeds-unread feeds;
-  sent = λ p n at. let from = mapped-from node_of feeds p n at in subst (λ (m : NodeView). m.sent ≡ None) (sym from.2) refl;
+  sent = λ p n at. let from = mapped-from feed_seen feeds p n at in subst (λ (m : NodeView). m.sent ≡ None) (sym from.2) refl;
 }) where
-  fresh : (p : ℕ) (f : Knows) → slice_get feeds p ≡ Some f → IsFresh g (length stores) p (node_of f)
+  fresh : (p : ℕ) (f : Knows) → slice_get feeds p ≡ Some f → IsFresh g (length stores) p (feed_seen f)
   fresh p f at =
       let store = at-place stores p (omega (arith, slice_get_within feeds p f at, are.size)) in
       fresh-node store.0 (frame_at g (length stores) p) f (are.first p store.0 f store.1 at)
@@ -131,13 +131,13 @@ all-back g stores first seated ran last are before placed behind out = record { 
 
 -- what was called at a node is what stands in its journal
 called-there : (feeds : List Knows) (p : ℕ) (f : Knows) → slice_get feeds p ≡ Some f → calls_at (nodes_seen feeds) p ≡ unbound f.seen
-called-there feeds p f at = mapped-or (λ (n : NodeView). n.calls) (nodes_seen feeds) p (node_of f) [] (mapped-at node_of feeds p f at)
+called-there feeds p f at = mapped-or (λ (n : NodeView). n.calls) (nodes_seen feeds) p (feed_seen f) [] (mapped-at feed_seen feeds p f at)
 
 pub ended-run : (g : List Decl) (script : Script) (feeds : List Knows) → length feeds ≡ script.nodes → HaveEnded g script (nodes_seen feeds) → HaveRun g script feeds
 ended-run g script feeds size ran = record {
   calls = λ p f at. sym (called-there feeds p f at) ∙ ran.calls p (omega (arith, slice_get_within feeds p f at, size));
-  peers = λ run is. sym (map-twice node_of (λ (n : NodeView). n.peer) feeds) ∙ ran.peers run is;
-  evaluated = λ p f at. ran.settled p (node_of f) (mapped-at node_of feeds p f at);
+  peers = λ run is. sym (map-twice feed_seen (λ (n : NodeView). n.peer) feeds) ∙ ran.peers run is;
+  evaluated = λ p f at. ran.settled p (feed_seen f) (mapped-at feed_seen feeds p f at);
 }
 
 pub begun-stopped : (g : List Decl) (script : Script) (feeds : List Knows) → length feeds ≡ script.nodes → HaveBegun g script (nodes_seen feeds) → HaveStopped g script feeds

@@ -1,11 +1,11 @@
 -- Where the hands of workers are, and which of a store's hands are out.
-use Rattle.std.specs.Prelude.{◌≡◌, ◌⊎◌, ℕ, ◌+◌, ◌<◌, ◌≤◌, true, List, [], ◌∷◌, ◌++◌, length, map, slice_get, Some}
+use Rattle.std.specs.Prelude.{◌≡◌, ◌⊎◌, ℕ, ◌+◌, ◌<◌, ◌≤◌, true, List, [], ◌∷◌, ◌++◌, length, map, slice_get, Some, None}
 use Rattle.lasp_drive.specs.Node.{NodeView, OnlyLearns}
 use Rattle.lasp_drive.specs.Nodes.{AllLearn}
 use Rattle.lasp_histlock.specs.History.{among}
 use Rattle.lasp_histlock.specs.Names.{LockId}
 use Rattle.lasp_store.specs.Turn.{Knows}
-use Rattle.lasp_store_node.specs.View.{node_of, IsFeed}
+use Rattle.lasp_store_node.specs.View.{Seen, seen, node_of, IsFeed}
 use Rattle.lasp_workers.specs.declared.replicas.Replicas.{Replicas}
 use Rattle.lasp_workers.specs.Replicas.{pairs_of}
 
@@ -59,15 +59,26 @@ pub record AreFeeds (stores : List LockId) (feeds : List Knows) : Type 0 where
   pub size : length feeds ≡ length stores
   pub each : (p : ℕ) (lock : LockId) (f : Knows) → slice_get stores p ≡ Some lock → slice_get feeds p ≡ Some f → IsFeed lock f
 
--- what the feeds have seen, as nodes
+-- what the feeds have seen, as nodes that haven't sent
+abbrev pub feed_seen : Knows → NodeView
+feed_seen f = node_of f None
+
 abbrev pub nodes_seen : List Knows → List NodeView
-nodes_seen feeds = map node_of feeds
+nodes_seen feeds = map feed_seen feeds
+
+-- the nodes of feeds, which haven't sent
+abbrev pub unsent : List Knows → List Seen
+unsent feeds = map (λ (f : Knows). seen f None) feeds
+
+-- the feeds of nodes
+abbrev pub feeds_of : List Seen → List Knows
+feeds_of nodes = map (λ (n : Seen). n.feed) nodes
 
 -- it is still the feed of its store and replica, and learned at most, when a hand was made or came back
 pub record IsKept (store : LockId) (old new : Knows) : Type 0 where
   pub feed : IsFeed store new
   pub frame : new.frame ≡ old.frame
-  pub learns : OnlyLearns (node_of old) (node_of new)
+  pub learns : OnlyLearns (feed_seen old) (feed_seen new)
 
 -- each is
 pub record AreKept (stores : List LockId) (old new : List Knows) : Type 0 where

@@ -2,7 +2,7 @@
 
 ghost use Rattle.std.specs.Prelude.{◌≡◌, ◌≤◌, [], All, IfOk, OnOk, OnErr, vec_len, vec_capacity};
 ghost use Rattle.lasp_store_node.specs.View.{IsFeed};
-ghost use Rattle.lasp_threads.specs.Spots.{AreFeeds};
+ghost use Rattle.lasp_threads.specs.Spots.{AreFeeds, unsent, feeds_of};
 
 use lasp_store::{Feed, Store};
 use lasp_store_node::StoreNode;
@@ -17,7 +17,7 @@ pub(crate) fn nodes_of<'a, R: Wait>(
     feeds: &mut Vec<Feed>,
 ) -> Result<Vec<StoreNode<'a, R>>, AllocError>
     requires { AreFeeds stores.now feeds.old.items }
-    ensures nodes { IfOk result (λ made. made.items ≡ feeds.old.items) }
+    ensures nodes { IfOk result (λ made. made.items ≡ unsent feeds.old.items) }
     ensures taken { OnOk result (feeds.new.items ≡ []) }
     ensures room { OnOk result (vec_len feeds.old ≤ vec_capacity feeds.new) }
     ensures err { OnErr result (feeds.new ≡ feeds.old) }
@@ -38,7 +38,7 @@ pub(crate) fn nodes_of<'a, R: Wait>(
 pub(crate) fn give_feeds<R: Wait>(feeds: &mut Vec<Feed>, nodes: Vec<StoreNode<'_, R>>)
     requires none { feeds.old.items ≡ [] }
     requires room { vec_len nodes ≤ vec_capacity feeds.old }
-    ensures feeds { feeds.new.items ≡ nodes.entry.items }
+    ensures feeds { feeds.new.items ≡ feeds_of nodes.entry.items }
     ensures are { All (λ f. IsFeed f.lock f) feeds.new.items }
 {
     let mut left = nodes.into_iter();

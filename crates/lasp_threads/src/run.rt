@@ -9,7 +9,7 @@ ghost use Rattle.lasp_drive.specs.Run.{IsRunnable, Reports};
 ghost use Rattle.lasp_drive.specs.Node.{AreFresh};
 ghost use Rattle.lasp_store_node.specs.View.{place_of};
 ghost use Rattle.lasp_threads.specs.Ran.{HaveEnded, HaveBegun};
-ghost use Rattle.lasp_threads.specs.Spots.{AreFeeds, nodes_seen};
+ghost use Rattle.lasp_threads.specs.Spots.{AreFeeds, nodes_seen, unsent};
 ghost use Rattle.lasp_threads.specs.Stores.{AreFirst, AreBack, HaveRun, HaveStopped};
 
 use crate::hands::{rejoin_all, seat_all};
@@ -38,7 +38,7 @@ fn graph_and_nodes<'a, R: Wait>(
 ) -> Result<(Arc<Graph>, Vec<StoreNode<'a, R>>), AllocError>
     requires { AreFeeds stores.now feeds.old.items }
     ensures graph { IfOk result (λ made. arc_value made.0 ≡ arc_value graph.now) }
-    ensures nodes { IfOk result (λ made. made.1.items ≡ feeds.old.items) }
+    ensures nodes { IfOk result (λ made. made.1.items ≡ unsent feeds.old.items) }
     ensures taken { OnOk result (feeds.new.items ≡ []) }
     ensures room { OnOk result (vec_len feeds.old ≤ vec_capacity feeds.new) }
     ensures err { OnErr result (feeds.new ≡ feeds.old) }
