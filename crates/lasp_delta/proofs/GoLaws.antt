@@ -1,29 +1,22 @@
 -- What acts of a run by deltas leave: the driver's part, and what travels beside it.
-use Rattle.std.proofs.Common.{refl, sym, ap, subst, ◌∙◌, arith}
-use Rattle.std.specs.Prelude.{◌≡◌, ℕ, List, [], ◌∷◌, ◌++◌, length, slice_get, slice_set, Some, None, Result, Ok, Err}
-use Rattle.std.proofs.lemmas.List.{length-set}
+use Rattle.std.proofs.Common.{refl, sym, ap, subst, ◌∙◌}
+use Rattle.std.specs.Prelude.{◌≡◌, ℕ, List, [], ◌∷◌, ◌++◌, slice_get, slice_set, Some, Result, Ok, Err}
 use Rattle.model_graph.specs.Chain.{◌>>=◌}
-use Rattle.model_graph.specs.Graph.{Decl}
 use Rattle.model_graph.specs.Evaluation.{first_large}
 use Rattle.model_messages.specs.Message.{Message}
 use Rattle.model_world.specs.Lawful.{Stage}
-use Rattle.model_world.specs.World.{Peer, Run, Act, Take, peer_at, sent_number, delivered, act, each}
+use Rattle.model_world.specs.World.{Run, Act, Take, sent_number, delivered, act, each}
 use Rattle.model_world.specs.declared.stop.Stop.{Stop}
-use Rattle.model_runs.specs.Sound.{IsSound}
-use Rattle.model_runs.proofs.SoundLaws.{sound-take}
 use Rattle.model_deltas.specs.Gossip.{Gossip, gossip_each}
 use Rattle.model_deltas.specs.Going.{IsGoing}
 use Rattle.model_deltas.proofs.RunLaws.{forget, forget-each, gossip-append}
-use Rattle.lasp_drive.specs.Node.{NodeView, IsNode, IsStill, AreNodes, Grew, OnlyLearns}
-use Rattle.lasp_drive.specs.Nodes.{peers_of}
-use Rattle.lasp_drive.specs.Driver.{DriverView, run_of, stage_of, IsRunKnown, Stands}
-use Rattle.lasp_drive.specs.Acts.{Halts, MayDo, Acted, ActsSeen, all_staged}
+use Rattle.lasp_drive.specs.Node.{NodeView, OnlyLearns}
+use Rattle.lasp_drive.specs.Driver.{DriverView, run_of, stage_of, Stands}
+use Rattle.lasp_drive.specs.Acts.{Halts, Acted, ActsSeen, all_staged}
 use Rattle.lasp_drive.specs.declared.halt.Halt.{Halt}
 use Rattle.lasp_drive.specs.declared.halt.Halt.TheVariants as halt
-use Rattle.lasp_drive.proofs.NodeLaws.{with_peers, nodes-set, node-stays, deliver-done, deliver-stops, peer-here}
-use Rattle.lasp_drive.proofs.WaitLaws.{all-called}
+use Rattle.lasp_drive.proofs.NodeLaws.{deliver-stops}
 use Rattle.lasp_drive.proofs.ActLaws.{halts-as, halts-then, halts-one, staged-append}
-use Rattle.lasp_drive.proofs.KnownLaws.{known-take}
 use Rattle.lasp_drive.proofs.StepLaws.{with_nodes, acted-learns}
 use Rattle.lasp_delta.specs.Seen.{DeltaView, gossip_of, IsUnderWay}
 use Rattle.lasp_delta.specs.Acts.{Did, DoesSeen, Went, Goes}

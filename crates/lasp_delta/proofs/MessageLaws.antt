@@ -1,34 +1,28 @@
 -- A send and a delivery by deltas.
 use Rattle.std.proofs.Common.{refl, sym, ap, subst, ◌∙◌, arith, get_or}
-use Rattle.std.specs.Prelude.{◌≡◌, ℕ, ◌+◌, ◌<◌, List, [], ◌∷◌, ◌++◌, Bool, true, false, map, fold, length, take, is_some, if◌then◌else◌, slice_get, slice_set, slice_index_or, Option, Some, None, Result, Ok, Err}
-use Rattle.std.specs.List.{AllByRecursion}
-use Rattle.model_states.proofs.CountLaws.{length-zeros, length-larger}
+use Rattle.std.specs.Prelude.{◌≡◌, ℕ, ◌+◌, ◌<◌, List, [], ◌∷◌, ◌++◌, Bool, true, false, map, fold, length, take, is_some, if◌then◌else◌, slice_get, slice_set, slice_index_or, Option, Some, None, Result, Ok}
+use Rattle.model_states.proofs.CountLaws.{length-zeros}
 use Rattle.model_graph.specs.Chain.{◌>>=◌}
 use Rattle.model_graph.specs.Graph.{Decl}
-use Rattle.model_graph.specs.Evaluation.{first_large}
-use Rattle.model_graph.specs.Lawful.{sources_among}
 use Rattle.model_graph.proofs.PlaceLaws.{at-append, at-last}
-use Rattle.model_messages.specs.Message.{Message, Sent}
-use Rattle.model_messages.proofs.MessageLaws.{sent-among}
+use Rattle.model_messages.specs.Message.{Message}
 use Rattle.model_world.specs.Command as plain
 use Rattle.model_world.specs.Lawful.{stage_after}
-use Rattle.model_world.specs.World.{Run, Post, Take, no_message, peer_at, message_at, sent_number, delivered, act}
+use Rattle.model_world.specs.World.{Run, Post, Take, no_message, peer_at, message_at, sent_number, act}
 use Rattle.model_world.specs.declared.stop.Stop.{Stop}
 use Rattle.model_known.specs.Holds.{Holds}
 use Rattle.model_known.proofs.EffectLaws.{effect, act-effect}
-use Rattle.model_runs.specs.Held.{IsHeld, IsSentTo, IsSentSource}
+use Rattle.model_runs.specs.Held.{IsSentTo}
 use Rattle.model_runs.specs.Part.{BringsAsMuch}
-use Rattle.model_wire.specs.Lawful.{IsSent, IsMessage}
+use Rattle.model_wire.specs.Lawful.{IsMessage}
 use Rattle.model_deltas.specs.Delta.{Delta, delta_of, carried}
-use Rattle.model_deltas.specs.Applied.{Gap, TooManyRows, Cause, first_gap, contents_of, joined, small_or, limited, unless, applied}
-use Rattle.model_deltas.specs.Before.{IsBefore, IsDelta, AreAlike}
+use Rattle.model_deltas.specs.Applied.{Cause, first_gap}
+use Rattle.model_deltas.specs.Before.{IsBefore, IsDelta}
 use Rattle.model_deltas.specs.Spelling.{spelled_delta}
 use Rattle.model_deltas.proofs.CodecLaws.{known_decoded}
 use Rattle.lasp_delta.specs.Letter.{read_or_none, delta_in}
-use Rattle.model_deltas.proofs.AppliedLaws.{no-gap, gap-words, cause-gap, cause-large, cause-done}
 use Rattle.model_deltas.specs.Gossip.{Gossip, nothing_told, told_by, last_told, delta_number, gap_at, gossip_after, gossip_each, delta_size}
 use Rattle.model_deltas.specs.Going.{IsSentNumber}
-use Rattle.model_deltas.proofs.SourceLaws.{begins-by, decls-joined, taken-twice}
 use Rattle.model_deltas.proofs.TravelLaws.{tells-more, going-post, going-take, delta-wide, brings-delta}
 use Rattle.lasp_drive.specs.Since.{message_since}
 use Rattle.lasp_drive.specs.Node.{NodeView}

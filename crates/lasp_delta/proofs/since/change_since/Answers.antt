@@ -1,9 +1,8 @@
-use Rattle.std.proofs.Common.{◌≡◌, ℕ, List, Some, sym, ap, ◌∙◌}
+use Rattle.std.proofs.Common.{◌≡◌, Some, sym, ap, ◌∙◌}
 use Rattle.std.specs.Prelude.{slice_get}
 use Rattle.std.proofs.lemmas.Result.{IfOk-weaker}
 use Rattle.model_messages.specs.Message.{Message}
 use Rattle.model_deltas.specs.Delta.{changed_sources}
-use Rattle.lasp_value.specs.declared.name.Name.{Name}
 use Rattle.lasp_state.specs.declared.state.State.{State}
 use Rattle.lasp_wire.specs.Sent.{kind_of, sent}
 use Rattle.lasp_delta.specs.Since.{LeadTo}

@@ -1,6 +1,5 @@
-use Rattle.std.proofs.Common.{◌≡◌, ℕ, List, sym, ap, subst, ◌∙◌}
+use Rattle.std.proofs.Common.{◌≡◌, sym, subst, ◌∙◌}
 use Rattle.model_messages.specs.Message.{Message}
-use Rattle.model_deltas.specs.Delta.{Delta, delta_of, carried}
 use Rattle.model_deltas.specs.Before.{IsDelta}
 use Rattle.model_deltas.proofs.DeltaLaws.{delta-lawful}
 use Rattle.lasp_delta.specs.Delta.{going_on}

@@ -1,6 +1,6 @@
 use Rattle.std.proofs.Common.{ℕ, List, length, ap, ◌∙◌}
 use Rattle.lasp_drive.specs.Driver.{seen}
-use Rattle.lasp_delta.proofs.MessageLaws.{may-asked, carried-brings, none-told, gap-told}
+use Rattle.lasp_delta.proofs.MessageLaws.{may-asked, carried-brings}
 use Rattle.lasp_delta.proofs.run.hand.bring.Goals as goal
 
 pub check_gap-requires : goal.check_gap-requires
