@@ -2,7 +2,7 @@
 use Rattle.std.proofs.Common.{◌≡◌, ◌↔◌, ◌&&◌, ◌==◌, IsTrue, Bool, List, length}
 use Rattle.std.proofs.lemmas.Bool.Decides.{same_from_decides, Decides-and, Decides-eqb}
 use Rattle.model_graph.specs.Graph.{Decl}
-use Rattle.model_messages.specs.Message.{Message}
+use Rattle.model_graph.specs.Message.{Message}
 use Rattle.model_world.specs.World.{Peer}
 use Rattle.model_program.specs.Merge.{may_take}
 use Rattle.model_program.proofs.MergeLaws.{take-Decides}

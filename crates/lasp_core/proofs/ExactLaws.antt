@@ -2,8 +2,8 @@
 use Rattle.std.proofs.Common.{◌≡◌, ℕ, ◌<◌, IsTrue, List, length, take, sym, ap, ◌∙◌}
 use Rattle.model_graph.specs.Graph.{Decl, is_source, kind_at}
 use Rattle.model_graph.specs.Evaluation.{content_at}
-use Rattle.model_messages.specs.Message.{Message, source_number, sent_at}
-use Rattle.model_messages.proofs.MessageLaws.{sent-is}
+use Rattle.model_graph.specs.Message.{Message, source_number, sent_at}
+use Rattle.model_graph.proofs.MessageLaws.{sent-is}
 use Rattle.model_journal.specs.Entry.{Entry, Frame}
 use Rattle.model_journal.specs.Journal.{graph, vals, sources}
 use Rattle.model_journal.specs.Legal.{IsLegal}

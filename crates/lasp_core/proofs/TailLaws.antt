@@ -9,8 +9,8 @@ use Rattle.model_graph.specs.Graph.{Decl, Kind, OrSet, GSet, Counter, MaxReg, Un
 use Rattle.model_graph.specs.Evaluation.{content_at}
 use Rattle.model_graph.specs.Lawful.{shape_of}
 use Rattle.model_graph.proofs.PlaceLaws.{below-or-not, at-past, at-map}
-use Rattle.model_messages.specs.Message.{Message, Sent, message_of}
-use Rattle.model_messages.proofs.MessageLaws.{sent-is, sent-among}
+use Rattle.model_graph.specs.Message.{Message, Sent, message_of}
+use Rattle.model_graph.proofs.MessageLaws.{sent-is, sent-among}
 use Rattle.model_readings.specs.Lawful.{IsGraph}
 use Rattle.model_wire.specs.Lawful.{IsMessage, IsSource}
 use Rattle.model_deltas.proofs.DeltaLaws.{changed-lawful}

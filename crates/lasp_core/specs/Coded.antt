@@ -6,7 +6,7 @@ use Rattle.model_states.specs.Content.{Content, least}
 use Rattle.model_states.specs.Threshold.{Shape, set, Threshold, AtLeast, Above, Count, Added, Removed}
 use Rattle.model_states.specs.Update.{Op, Add, Remove, Insert, Inc, Max, Join}
 use Rattle.model_graph.specs.Graph.{Decl, no_decl}
-use Rattle.model_messages.specs.Message.{Message}
+use Rattle.model_graph.specs.Message.{Message}
 use Rattle.model_journal.specs.Entry.{Act, Update, Deliver, Bind, Extend, Entry, Frame}
 use Rattle.model_core.specs.Core.{Read, Core}
 use Rattle.model_states.specs.Coded.{coded_content, coded_shape}

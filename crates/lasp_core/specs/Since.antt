@@ -2,7 +2,7 @@
 use Rattle.std.specs.Prelude.{◌≡◌, ℕ, ◌<◌, List, length, take}
 use Rattle.model_graph.specs.Graph.{kind_at}
 use Rattle.model_graph.specs.Lawful.{shape_of}
-use Rattle.model_messages.specs.Message.{Message, message_of}
+use Rattle.model_graph.specs.Message.{Message, message_of}
 use Rattle.model_world.specs.World.{message_at}
 use Rattle.model_runs.specs.Part.{IsTail}
 use Rattle.model_journal.specs.Entry.{Entry, Frame}

@@ -4,7 +4,7 @@ use Rattle.std.specs.Prelude.{slice_get}
 use Rattle.std.proofs.lemmas.List.{drop_all}
 use Rattle.model_values.proofs.ListLaws.{each-push, drop-at}
 use Rattle.model_graph.proofs.PlaceLaws.{length-append}
-use Rattle.model_messages.specs.Message.{Sent, Message}
+use Rattle.model_graph.specs.Message.{Sent, Message}
 use Rattle.model_wire.specs.Lawful.{IsSent, IsMessage}
 use Rattle.lasp_wire.specs.Sent.{message, with_source}
 

@@ -12,8 +12,8 @@ use Rattle.model_states.proofs.ContentLaws.{at_most-least, at_most-itself}
 use Rattle.model_graph.specs.Graph.{Decl}
 use Rattle.model_graph.specs.Evaluation.{first_large}
 use Rattle.model_graph.proofs.PlaceLaws.{below-or-not, at-past}
-use Rattle.model_messages.specs.Message.{Sent, Message, sent_at}
-use Rattle.model_messages.proofs.MessageLaws.{sent-past, sent_at-found}
+use Rattle.model_graph.specs.Message.{Sent, Message, sent_at}
+use Rattle.model_graph.proofs.MessageLaws.{sent-past, sent_at-found}
 use Rattle.model_wire.specs.Lawful.{IsNodes, IsSource, IsSent, IsMessage}
 use Rattle.model_runs.proofs.EachLaws.{each-larger}
 use Rattle.model_runs.proofs.SourceLaws.{source-join}

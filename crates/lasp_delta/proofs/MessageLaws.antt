@@ -5,7 +5,7 @@ use Rattle.model_states.proofs.CountLaws.{length-zeros}
 use Rattle.model_graph.specs.Chain.{◌>>=◌}
 use Rattle.model_graph.specs.Graph.{Decl}
 use Rattle.model_graph.proofs.PlaceLaws.{at-append, at-last}
-use Rattle.model_messages.specs.Message.{Message}
+use Rattle.model_graph.specs.Message.{Message}
 use Rattle.model_world.specs.Command as plain
 use Rattle.model_world.specs.Lawful.{stage_after}
 use Rattle.model_world.specs.World.{Run, Post, Take, no_message, peer_at, message_at, sent_number, act}

@@ -8,7 +8,7 @@ use Rattle.model_values.proofs.ListLaws.{drop-at}
 use Rattle.model_states.specs.Counts.{count_at}
 use Rattle.model_states.specs.Content.{IsContentAtMost}
 use Rattle.model_graph.proofs.PlaceLaws.{below-or-not}
-use Rattle.model_messages.specs.Message.{Sent, sent_at}
+use Rattle.model_graph.specs.Message.{Sent, sent_at}
 use Rattle.model_wire.specs.Message as wire
 use Rattle.model_deltas.specs.Delta.{changed_source, changed_sources}
 use Rattle.model_deltas.specs.Applied.{joined_source, joined_sources}

@@ -1,6 +1,6 @@
 -- A delta between messages of a world, applied to a message of the world.
 use Rattle.std.proofs.Common.{Result, ap, subst, ◌∙◌}
-use Rattle.model_messages.specs.Message.{Message}
+use Rattle.model_graph.specs.Message.{Message}
 use Rattle.model_wire.specs.Lawful.{IsMessage}
 use Rattle.model_deltas.specs.Delta.{Delta}
 use Rattle.model_deltas.specs.Applied.{Cause, applied}

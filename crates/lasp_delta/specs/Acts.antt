@@ -3,7 +3,7 @@ use Rattle.std.specs.Prelude.{◌≡◌, ℕ, ◌+◌, ◌≤◌, Bool, true, fa
 use Rattle.model_world.specs.Command as plain
 use Rattle.model_world.specs.Lawful.{MayBeDone}
 use Rattle.model_world.specs.World.{Act, acts, each, peer_at, sent_number}
-use Rattle.model_messages.specs.Message.{Message}
+use Rattle.model_graph.specs.Message.{Message}
 use Rattle.model_runs.specs.Part.{BringsAsMuch}
 use Rattle.model_deltas.specs.Delta.{Delta, carried}
 use Rattle.model_deltas.specs.Applied.{first_gap}

@@ -1,6 +1,6 @@
 -- What applying a delta answered, beside what comes of it.
 use Rattle.std.specs.Prelude.{◌≡◌, Option, Some, None, Result, Ok, Err}
-use Rattle.model_messages.specs.Message.{Message}
+use Rattle.model_graph.specs.Message.{Message}
 use Rattle.model_wire.specs.Lawful.{IsMessage}
 use Rattle.model_deltas.specs.Delta.{Delta, delta_of}
 use Rattle.model_deltas.specs.Applied.{first_gap, joined, limited, unless}

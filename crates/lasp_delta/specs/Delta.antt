@@ -1,7 +1,7 @@
 -- Deltas as plain data, and as trees of numbers.
 use Rattle.std.specs.Prelude.{ℕ, List, refl}
 use Rattle.std.specs.Coded.{Coded, code_by, coded×, coded_ℕ, coded_list}
-use Rattle.model_messages.specs.Message.{Sent, Message}
+use Rattle.model_graph.specs.Message.{Sent, Message}
 use Rattle.model_deltas.specs.Delta.{Delta}
 use Rattle.lasp_wire.specs.Sent.{coded_sent}
 

@@ -1,7 +1,7 @@
 -- What leads from a message to a later one.
 use Rattle.std.specs.Prelude.{◌≡◌, ℕ, Option, Some}
 use Rattle.std.specs.Arc.{arc_value}
-use Rattle.model_messages.specs.Message.{Message}
+use Rattle.model_graph.specs.Message.{Message}
 use Rattle.model_wire.specs.Lawful.{IsMessage}
 use Rattle.model_deltas.specs.Before.{IsBefore}
 use Rattle.lasp_drive.specs.Since.{message_since}

@@ -2,7 +2,7 @@
 
 ghost use Rattle.std.specs.Prelude.{◌≡◌, ◌<◌, ◌↔◌, IfOk, IsTrue, Some, length, slice_get};
 ghost use Rattle.model_states.specs.Content.{IsContentAtMost};
-ghost use Rattle.model_messages.specs.Message.{Sent};
+ghost use Rattle.model_graph.specs.Message.{Sent};
 ghost use Rattle.model_deltas.specs.Delta.{changed_sources, delta_of, carried};
 ghost use Rattle.model_deltas.specs.Before.{AreSourcesBefore, IsBefore, AreAlike};
 ghost use Rattle.lasp_wire.specs.Sent.{sent};

@@ -1,7 +1,7 @@
 //! The bytes of a delta.
 
 ghost use Rattle.std.specs.Prelude.{◌≡◌, ◌++◌, ◌∷◌, [], IfOk, OnOk, codes, length};
-ghost use Rattle.model_messages.specs.Spelling.{number, spelled_counts};
+ghost use Rattle.model_graph.specs.Spelling.{number, spelled_counts};
 ghost use Rattle.model_deltas.specs.Spelling.{spelled_delta};
 
 use super::delta::Delta;

@@ -1,7 +1,7 @@
 //! The delta between two messages, made of what came since the earlier one.
 
 ghost use Rattle.std.specs.Prelude.{◌≡◌, ◌<◌, IfOk, Some, length, slice_get};
-ghost use Rattle.model_messages.specs.Message.{Message as Told};
+ghost use Rattle.model_graph.specs.Message.{Message as Told};
 ghost use Rattle.model_deltas.specs.Delta.{changed_sources, delta_of, carried};
 ghost use Rattle.lasp_wire.specs.Sent.{sent};
 ghost use Rattle.lasp_delta.specs.Since.{LeadTo};

@@ -1,7 +1,7 @@
 //! One source of a message.
 
 ghost use Rattle.std.specs.Prelude.{◌≡◌, ◌<◌, ◌↔◌, IsTrue, Some, length, slice_get};
-ghost use Rattle.model_messages.specs.Message.{Sent};
+ghost use Rattle.model_graph.specs.Message.{Sent};
 ghost use Rattle.lasp_wire.specs.Sent.{kind_of, sent};
 
 use lasp_state::State;

@@ -11,8 +11,8 @@ use Rattle.model_states.specs.Update.{Op}
 use Rattle.model_graph.specs.Graph.{Decl, kind_at}
 use Rattle.model_graph.specs.Lawful.{shape_of}
 use Rattle.model_graph.specs.Evaluation.{content_at, first_large}
-use Rattle.model_messages.specs.Message.{Message}
-use Rattle.model_messages.specs.Spelling.{spelled}
+use Rattle.model_graph.specs.Message.{Message}
+use Rattle.model_graph.specs.Spelling.{spelled}
 use Rattle.model_world.specs.World.{Peer, Run, peer_at, with_peer, updated, checked_update, delivered, checked_delivery, stop_from, shown_at, message_at, no_message, sent_number, checked_send, network_size, network_limit}
 use Rattle.model_world.specs.declared.stop.Stop.{Stop}
 use Rattle.model_world.specs.declared.stop.Stop.TheVariants.{TooLarge, NetworkFull}

@@ -5,7 +5,7 @@ use Rattle.model_states.specs.Content.{join_contents, IsOrdered}
 use Rattle.model_states.proofs.ContentLaws.{join-nothing}
 use Rattle.model_graph.specs.Evaluation.{content_at}
 use Rattle.model_graph.specs.Lawful.{sources_among}
-use Rattle.model_messages.specs.Message.{Message, Sent, source_number, sent_at}
+use Rattle.model_graph.specs.Message.{Message, Sent, source_number, sent_at}
 use Rattle.model_world.specs.Lawful.{Stage}
 use Rattle.model_world.specs.World.{Run, peer_at, sent_number}
 use Rattle.model_known.proofs.VariableLaws.{known-ordered}

@@ -13,7 +13,7 @@ use Rattle.model_graph.specs.Graph.{Decl, Kind, OrSet, GSet, Counter, MaxReg, Un
 use Rattle.model_graph.specs.Lawful.{shape_of}
 use Rattle.model_graph.specs.Chain.{◌>>=◌}
 use Rattle.model_graph.specs.Evaluation.{content_at, first_large}
-use Rattle.model_messages.specs.Message.{Message}
+use Rattle.model_graph.specs.Message.{Message}
 use Rattle.model_world.specs.Command.{Until}
 use Rattle.model_world.specs.Command as plain
 use Rattle.model_world.specs.Lawful.{Stage, opening_stage, IsPlace, MayAsk, MayBeDone}

@@ -2,7 +2,7 @@
 use Rattle.std.specs.Prelude.{◌≡◌, ℕ, ◌≤◌, [], List, map, length, replicate, string_bytes, Option}
 use Rattle.std.specs.Arc.{arc_value}
 use Rattle.model_graph.specs.Graph.{Decl}
-use Rattle.model_messages.specs.Message.{Message}
+use Rattle.model_graph.specs.Message.{Message}
 use Rattle.model_world.specs.Lawful.{Stage, opening_stage}
 use Rattle.model_world.specs.World.{Opened, Run, start, network_limit}
 use Rattle.model_known.specs.Delta.{Delta}

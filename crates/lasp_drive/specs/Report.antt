@@ -1,6 +1,6 @@
 -- What the report asks the nodes of a run.
 use Rattle.std.specs.Prelude.{◌≡◌, ℕ, ◌<◌, List, length, map, slice_get, Some}
-use Rattle.model_messages.specs.Spelling.{spelled}
+use Rattle.model_graph.specs.Spelling.{spelled}
 use Rattle.model_world.specs.World.{Run, message_at, peer_at}
 use Rattle.model_core.specs.Core.{Read}
 use Rattle.lasp_drive.specs.Node.{NodeView, AreNodes, AreSettled, MayRead}

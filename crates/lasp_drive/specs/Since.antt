@@ -4,7 +4,7 @@ use Rattle.model_sets.specs.Equations.{changed}
 use Rattle.model_states.specs.Content.{Content, of_set}
 use Rattle.model_graph.specs.Graph.{Decl, Kind, OrSet, GSet, Counter, MaxReg, Union, Product, Intersection, Map, Filter, Fold, is_source, kind_at}
 use Rattle.model_graph.specs.Evaluation.{content_at}
-use Rattle.model_messages.specs.Message.{Message, Sent, source_number, sent_at}
+use Rattle.model_graph.specs.Message.{Message, Sent, source_number, sent_at}
 
 -- of a source that is an observed-remove set the rows that are new or newly dead, of others all of the later content
 abbrev pub content_since : Kind → Content → Content → Content

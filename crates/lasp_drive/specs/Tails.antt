@@ -4,7 +4,7 @@ use Rattle.std.specs.Arc.{arc_value}
 use Rattle.model_states.specs.Content.{join_contents}
 use Rattle.model_graph.specs.Graph.{Decl, is_source, kind_at}
 use Rattle.model_graph.specs.Evaluation.{content_at}
-use Rattle.model_messages.specs.Message.{Message, source_number, sent_at}
+use Rattle.model_graph.specs.Message.{Message, source_number, sent_at}
 use Rattle.model_world.specs.World.{sent_number}
 use Rattle.lasp_drive.specs.Since.{message_since}
 use Rattle.lasp_drive.specs.Node.{NodeView, Posted}

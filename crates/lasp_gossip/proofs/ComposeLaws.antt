@@ -9,7 +9,7 @@ use Rattle.model_graph.specs.Graph.{Kind, OrSet, GSet, Counter, MaxReg, Union, P
 use Rattle.model_graph.specs.Evaluation.{content_at}
 use Rattle.model_graph.specs.Lawful.{shape_of}
 use Rattle.model_graph.proofs.PlaceLaws.{length-append, map-length}
-use Rattle.model_messages.specs.Message.{Sent, Message, sent_from, message_of}
+use Rattle.model_graph.specs.Message.{Sent, Message, sent_from, message_of}
 use Rattle.model_wire.specs.Lawful.{IsSent, IsMessage}
 use Rattle.lasp_state.specs.declared.state.State.{State}
 use Rattle.lasp_state.specs.declared.state.State.TheVariants as state

@@ -1,8 +1,8 @@
 -- How large the messages are, and how many there are.
 use Rattle.std.proofs.Common.{◌≡◌, ◌≤◌, ◌<◌, arith, ℕ, ◌+◌, ◌-◌, ◌^◌, ◌++◌, [], ◌∷◌, length, map, fold, take, drop, get_or, List, Result, Ok, Err, IfOk, OnErr, refl, sym, ap, ◌∙◌, length-append}
 use Rattle.std.proofs.lemmas.List.{take-append-drop, take-append-le, drop-append-le, take_all, drop_more, drop-map, map-append, length-drop}
-use Rattle.model_messages.specs.Message.{Message}
-use Rattle.model_messages.specs.Spelling.{spelled}
+use Rattle.model_graph.specs.Message.{Message}
+use Rattle.model_graph.specs.Spelling.{spelled}
 use Rattle.lasp_gossip.specs.Network.{size_of}
 use Rattle.lasp_gossip.specs.Tally.{IsTally}
 

@@ -2,7 +2,7 @@
 use Rattle.std.specs.Prelude.{◌≡◌, ℕ, ◌++◌, List, drop}
 use Rattle.model_states.specs.Content.{Content}
 use Rattle.model_graph.specs.Graph.{Decl}
-use Rattle.model_messages.specs.Message.{Message, sent_from}
+use Rattle.model_graph.specs.Message.{Message, sent_from}
 
 -- a message with the sources among the first x variables: with those that are left it is the whole
 pub record IsBegun (g : List Decl) (contents : List Content) (counts : List ℕ) (x : ℕ) (m : Message) : Type 0 where

@@ -1,8 +1,8 @@
 -- The messages that were sent, and how many bytes they have.
 use Rattle.std.specs.Prelude.{ℕ, ◌++◌, List, [], ◌∷◌, length, map, sum, refl}
 use Rattle.std.specs.Coded.{Coded, code_by, coded×, coded_ℕ, coded_list}
-use Rattle.model_messages.specs.Message.{Message}
-use Rattle.model_messages.specs.Spelling.{spelled}
+use Rattle.model_graph.specs.Message.{Message}
+use Rattle.model_graph.specs.Spelling.{spelled}
 use Rattle.lasp_wire.specs.Sent.{coded_message}
 
 -- the bytes of all messages

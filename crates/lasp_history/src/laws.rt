@@ -5,7 +5,7 @@ ghost use Rattle.lasp_history.specs.Prelude.{Row, IsAscending, of_rows, join, ch
 
 /// The rows since any entry are exactly those by which the set changed since, and the growths are the variable's versions.
 #[tactic(auto, using(crate::proofs::HistoryLaws::histories))]
-pub fn histories_tell_what_changed()
+pub fn histories_tell_rows_since()
     ensures version { (X : Frame) (entries : List Entry) (x : ℕ) (h : History) → IsHistory X entries x h → version X entries x ≡ length h.growths }
     ensures still { (X : Frame) (entries : List Entry) (x : ℕ) (h : History) → IsHistory X entries x h → (n : ℕ) → n ≤ length entries → (version_before h.growths n ≡ length h.growths) ↔ (version X (take n entries) x ≡ version X entries x) }
     ensures changed { (X : Frame) (entries : List Entry) (x : ℕ) (h : History) → IsHistory X entries x h → IsTrue (is_set (kind_at (graph X entries) x)) → (n : ℕ) → n ≤ length entries → of_rows (drop (rows_before h.growths n) h.log) ≡ changed (val X (take n entries) x).rows (val X entries x).rows }

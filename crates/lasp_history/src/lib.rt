@@ -9,4 +9,4 @@ mod laws;
 mod news;
 
 pub use history::History;
-pub use laws::{histories_follow_the_journal, histories_tell_what_changed};
+pub use laws::{histories_follow_the_journal, histories_tell_rows_since};

@@ -10,8 +10,8 @@ use Rattle.model_graph.specs.Graph.{Decl, is_source, kind_at}
 use Rattle.model_graph.specs.Evaluation.{content_at, first_large}
 use Rattle.model_graph.specs.Lawful.{shape_of, variable_limit}
 use Rattle.model_graph.proofs.PlaceLaws.{at-set, from-nothing, length-push}
-use Rattle.model_messages.specs.Message.{Message, Sent, sent_at, source_number, message_of, brought, with_gain, gained}
-use Rattle.model_messages.proofs.MessageLaws.{gained-length, gained-at}
+use Rattle.model_graph.specs.Message.{Message, Sent, sent_at, source_number, message_of, brought, with_gain, gained}
+use Rattle.model_graph.proofs.MessageLaws.{gained-length, gained-at}
 use Rattle.model_readings.specs.Lawful.{IsGraph, IsNext}
 use Rattle.model_wire.specs.Lawful.{IsMessage}
 use Rattle.model_world.specs.World.{updated, delivered, extended, message_at}

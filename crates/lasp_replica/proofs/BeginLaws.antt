@@ -8,7 +8,7 @@ use Rattle.model_values.proofs.ListLaws.{drop-at, each-at}
 use Rattle.model_graph.specs.Graph.{Kind, Decl, is_source}
 use Rattle.model_graph.specs.Lawful.{sources_among}
 use Rattle.model_graph.proofs.PlaceLaws.{below-or-not, map-length}
-use Rattle.model_messages.specs.Message.{Sent, Message}
+use Rattle.model_graph.specs.Message.{Sent, Message}
 use Rattle.model_wire.specs.Lawful.{IsSent, IsMessage}
 use Rattle.model_wire.specs.Message as wire
 use Rattle.model_runs.proofs.SourceLaws.{source-kind}

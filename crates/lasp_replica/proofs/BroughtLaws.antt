@@ -13,7 +13,7 @@ use Rattle.model_states.proofs.ContentLaws.{at_most-itself, at_most-chain, join-
 use Rattle.model_graph.specs.Graph.{Decl, is_source, kind_at}
 use Rattle.model_graph.specs.Evaluation.{content_at, first_large}
 use Rattle.model_graph.proofs.PlaceLaws.{at-map, map-length}
-use Rattle.model_messages.specs.Message.{Message, sent_at, source_number, brought, with_gain, gained}
+use Rattle.model_graph.specs.Message.{Message, sent_at, source_number, brought, with_gain, gained}
 use Rattle.model_runs.specs.Part.{BringsAsMuch}
 use Rattle.lasp_history.specs.Kept.{Kept}
 use Rattle.lasp_graph.specs.States.{Held, held_at, contents_of}

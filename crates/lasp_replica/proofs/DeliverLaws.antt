@@ -13,7 +13,7 @@ use Rattle.model_graph.specs.Limit.{AreWithinLimit}
 use Rattle.model_graph.specs.Lawful.{shape_of}
 use Rattle.model_graph.proofs.LimitLaws.{small-words}
 use Rattle.model_graph.proofs.PlaceLaws.{below-or-not, at-map, at-past, map-length}
-use Rattle.model_messages.specs.Message.{Message, brought, gained}
+use Rattle.model_graph.specs.Message.{Message, brought, gained}
 use Rattle.model_wire.specs.Lawful.{IsMessage}
 use Rattle.model_world.specs.World.{delivered}
 use Rattle.model_runs.specs.Held.{IsHeld, IsSentTo}

@@ -4,7 +4,7 @@ use Rattle.model_states.specs.Counts.{larger}
 use Rattle.model_states.specs.Content.{Content, join_contents, IsContentAtMost, is_content_at_most}
 use Rattle.model_states.proofs.ContentLaws.{at_most-from-test, test-from-at_most}
 use Rattle.model_graph.specs.Graph.{Decl, is_source, kind_at}
-use Rattle.model_messages.specs.Message.{Message, sent_at, source_number, brought, gained}
+use Rattle.model_graph.specs.Message.{Message, sent_at, source_number, brought, gained}
 use Rattle.model_journal.specs.Entry.{Deliver, Entry, Frame}
 use Rattle.model_journal.specs.Journal.{Snapshot, graph, vals, val}
 use Rattle.model_journal.specs.Legal.{IsLegal}

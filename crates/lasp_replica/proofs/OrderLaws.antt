@@ -3,7 +3,7 @@ use Rattle.std.proofs.Common.{◌≡◌, ℕ, zero, suc, Bool, true, false, if�
 use Rattle.model_states.specs.Content.{Content, IsOrdered}
 use Rattle.model_states.proofs.ContentLaws.{ordered-least}
 use Rattle.model_graph.specs.Graph.{is_source, kind_at}
-use Rattle.model_messages.specs.Message.{Message, Sent, sent_at, source_number}
+use Rattle.model_graph.specs.Message.{Message, Sent, sent_at, source_number}
 use Rattle.model_wire.specs.Lawful.{IsMessage}
 use Rattle.model_journal.specs.Legal.{AreValidSources}
 use Rattle.model_core.proofs.ValidLaws.{sent-valid}

@@ -17,8 +17,8 @@ use Rattle.model_graph.specs.Evaluation.{content_at, first_large}
 use Rattle.model_graph.specs.Lawful.{shape_of, sources_among}
 use Rattle.model_graph.proofs.LimitLaws.{large-words, small-words}
 use Rattle.model_graph.proofs.PlaceLaws.{below-or-not, equal-numbers, from-nothing, same-lists, map-length, set-length, at-append, at-last, at-past, length-push}
-use Rattle.model_messages.specs.Message.{Sent, Message, source_number, sent_at, brought, with_gain, gained}
-use Rattle.model_messages.proofs.MessageLaws.{sent-past, gained-length, gained-at, sent_at-found}
+use Rattle.model_graph.specs.Message.{Sent, Message, source_number, sent_at, brought, with_gain, gained}
+use Rattle.model_graph.proofs.MessageLaws.{sent-past, gained-length, gained-at, sent_at-found}
 use Rattle.model_wire.specs.Lawful.{IsSource, IsSent, IsMessage}
 use Rattle.model_wire.specs.Message as wire
 use Rattle.model_runs.specs.Held.{IsSentTo}

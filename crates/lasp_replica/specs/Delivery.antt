@@ -4,7 +4,7 @@ use Rattle.model_states.specs.Content.{Content, join_contents, size_of, row_limi
 use Rattle.model_graph.specs.Graph.{Decl, is_source, kind_at}
 use Rattle.model_graph.specs.Evaluation.{first_large}
 use Rattle.model_graph.specs.Lawful.{shape_of}
-use Rattle.model_messages.specs.Message.{Message, Sent, source_number, brought, with_gain, gained}
+use Rattle.model_graph.specs.Message.{Message, Sent, source_number, brought, with_gain, gained}
 use Rattle.lasp_graph.specs.States.{Held, held_at, contents_of}
 use Rattle.lasp_history.specs.History.{History, grown, AreBelow}
 use Rattle.lasp_history.specs.Kept.{Kept}

@@ -10,7 +10,7 @@ pub use Rattle.model_states.specs.Update.{Op, delta}
 pub use Rattle.model_graph.specs.Evaluation.{content_at, equation}
 pub use Rattle.model_graph.specs.Graph.{Decl, decl_at, is_set, is_source, kind_at}
 pub use Rattle.model_graph.specs.Lawful.{IsDerived, IsGraph, variable_limit}
-pub use Rattle.model_messages.specs.Message.{Message, Sent, brought, gained, sent_at}
+pub use Rattle.model_graph.specs.Message.{Message, Sent, brought, gained, sent_at}
 pub use Rattle.model_journal.specs.Clean.{IsClean, applied, base, version}
 pub use Rattle.model_journal.specs.Entry.{Bind, Deliver, Entry, Extend, Frame, Update, entry}
 pub use Rattle.model_journal.specs.Journal.{counts, graph, val, vals}

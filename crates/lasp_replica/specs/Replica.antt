@@ -9,7 +9,7 @@ use Rattle.model_states.specs.Threshold.{Shape, set, grow, counter, register, is
 use Rattle.model_states.specs.Update as plain
 use Rattle.model_values.specs.Size.{IsOfWidth}
 use Rattle.model_values.specs.Row.{Row}
-use Rattle.model_messages.specs.Message.{Message, brought, gained}
+use Rattle.model_graph.specs.Message.{Message, brought, gained}
 use Rattle.model_graph.specs.Graph.{Decl, Kind, is_source, kind_at}
 use Rattle.model_graph.specs.Evaluation.{content_at, first_large}
 use Rattle.model_graph.specs.Lawful.{shape_of}

@@ -4,8 +4,8 @@ use Rattle.model_states.proofs.CountLaws.{length-zeros, length-larger}
 use Rattle.model_graph.specs.Chain.{◌>>=◌, check, refusing}
 use Rattle.model_graph.specs.Graph.{Decl, name_at}
 use Rattle.model_graph.specs.Evaluation.{first_large}
-use Rattle.model_messages.specs.Message.{Message, brought}
-use Rattle.model_messages.proofs.MessageLaws.{gained-length}
+use Rattle.model_graph.specs.Message.{Message, brought}
+use Rattle.model_graph.proofs.MessageLaws.{gained-length}
 use Rattle.model_wire.specs.Lawful.{IsMessage}
 use Rattle.model_wire.specs.Message.{decoded}
 use Rattle.model_wire.specs.declared.wire_why.WireWhy.{WireWhy}

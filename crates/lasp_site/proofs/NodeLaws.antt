@@ -6,8 +6,8 @@ use Rattle.model_states.specs.Counts.{count_at}
 use Rattle.model_states.specs.Update.{Op}
 use Rattle.model_graph.specs.Graph.{Decl}
 use Rattle.model_graph.specs.Evaluation.{content_at, first_large}
-use Rattle.model_messages.specs.Message.{Message, brought}
-use Rattle.model_messages.proofs.MessageLaws.{gained-length}
+use Rattle.model_graph.specs.Message.{Message, brought}
+use Rattle.model_graph.proofs.MessageLaws.{gained-length}
 use Rattle.model_readings.specs.Lawful.{IsGraph}
 use Rattle.model_wire.specs.Lawful.{IsMessage}
 use Rattle.model_world.specs.World.{Peer, fresh_peer, updated, delivered, message_at}

@@ -3,7 +3,7 @@
 ghost use Rattle.std.specs.Prelude.{◌≡◌, ◌<◌, ◌≤◌, ◌+◌, nat_le, Some, IsTrue, is_some, IfOk, length};
 ghost use Rattle.model_states.specs.Counts.{count_at};
 ghost use Rattle.model_graph.specs.Graph.{name_at};
-ghost use Rattle.model_messages.specs.Spelling.{spelled};
+ghost use Rattle.model_graph.specs.Spelling.{spelled};
 ghost use Rattle.model_readings.specs.Lawful.{IsGraph, FitsAll};
 ghost use Rattle.model_wire.specs.Lawful.{IsSpellable};
 ghost use Rattle.model_world.specs.Lawful.{opening_stage, MayBeDone, AreLawful};

@@ -2,7 +2,7 @@
 use Rattle.std.proofs.Common.{◌≡◌, ◌∙◌, List, sym, ap, subst}
 use Rattle.model_states.specs.Content.{Content, join_contents}
 use Rattle.model_graph.specs.Graph.{Decl}
-use Rattle.model_messages.specs.Message.{Message, source_number, sent_at}
+use Rattle.model_graph.specs.Message.{Message, source_number, sent_at}
 use Rattle.model_world.specs.World.{Peer}
 use Rattle.model_journal.specs.Entry.{Entry, Frame}
 use Rattle.model_journal.specs.Journal.{graph, vals}

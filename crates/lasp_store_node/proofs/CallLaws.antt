@@ -6,7 +6,7 @@ use Rattle.model_states.specs.Counts.{count_at}
 use Rattle.model_graph.specs.Graph.{Decl, kind_at}
 use Rattle.model_graph.specs.Evaluation.{content_at, first_large}
 use Rattle.model_graph.specs.Lawful.{shape_of}
-use Rattle.model_messages.specs.Message.{Message}
+use Rattle.model_graph.specs.Message.{Message}
 use Rattle.model_world.specs.World.{Peer, updated, delivered, extended}
 use Rattle.model_journal.specs.Entry.{Act, Update, Deliver, Extend, Entry, Frame, entry}
 use Rattle.model_journal.specs.Journal.{graph, vals, counts, declared}

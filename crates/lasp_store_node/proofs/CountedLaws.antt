@@ -6,7 +6,7 @@ use Rattle.std.proofs.lemmas.List.{length-append}
 use Rattle.std.proofs.lemmas.Option.{get_or_from_slice_get}
 use Rattle.model_states.specs.Counts.{count_at, AreCountsAtMost}
 use Rattle.model_states.proofs.CountLaws.{count_at-larger, count_at-set}
-use Rattle.model_messages.specs.Message.{Message}
+use Rattle.model_graph.specs.Message.{Message}
 use Rattle.model_journal.specs.Entry.{Deliver, Entry, Frame, entry}
 use Rattle.model_journal.specs.Journal.{Journal, counts}
 use Rattle.model_journal.proofs.JournalLaws.{counts-grow, journal-push}

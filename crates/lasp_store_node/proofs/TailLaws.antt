@@ -6,7 +6,7 @@ use Rattle.std.specs.Arc.{arc_value}
 use Rattle.model_graph.specs.Graph.{Decl, kind_at}
 use Rattle.model_graph.specs.Evaluation.{content_at}
 use Rattle.model_journal.specs.Legal.{IsLegal}
-use Rattle.model_messages.specs.Message.{Message}
+use Rattle.model_graph.specs.Message.{Message}
 use Rattle.model_runs.specs.Part.{IsTail}
 use Rattle.model_world.specs.World.{Peer, message_at}
 use Rattle.lasp_core.specs.Since.{IsTailSince}

@@ -5,7 +5,7 @@ use Rattle.std.proofs.lemmas.List.{append-nil, length-map, length-append}
 use Rattle.model_values.specs.Value.{Val}
 use Rattle.model_values.specs.Token.{Tok}
 use Rattle.model_values.specs.Row.{Row}
-use Rattle.model_messages.specs.Spelling.{Group}
+use Rattle.model_graph.specs.Spelling.{Group}
 use Rattle.model_graph.specs.Chain.{◌>>=◌}
 use Rattle.model_wire.specs.Reader.{Reading, onto, list_at}
 use Rattle.model_wire.specs.Message.{Before, row_of, rows_of_group, rows_of, after_group, group_at}

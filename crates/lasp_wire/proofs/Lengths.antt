@@ -8,8 +8,8 @@ use Rattle.model_values.specs.Token.{Tok, single, both}
 use Rattle.model_values.specs.Row.{Row}
 use Rattle.model_states.specs.Content.{Content}
 use Rattle.model_graph.specs.Graph.{Kind, OrSet, GSet, Counter, MaxReg, Union, Product, Intersection, Map, Filter, Fold}
-use Rattle.model_messages.specs.Message.{Sent, Message}
-use Rattle.model_messages.specs.Spelling.{number, truth, spelled_value, spelled_token, spelled_rows, spelled_top, spelled_content, spelled_source, spelled}
+use Rattle.model_graph.specs.Message.{Sent, Message}
+use Rattle.model_graph.specs.Spelling.{number, truth, spelled_value, spelled_token, spelled_rows, spelled_top, spelled_content, spelled_source, spelled}
 use Rattle.model_wire.specs.Lawful.{IsSourceValue, IsBase, IsRow, IsSource, IsSent, IsMessage}
 use Rattle.lasp_wire.specs.Written.{spelled_mark, run, is_first, spelled_head, spelled_after}
 use Rattle.lasp_wire.specs.Length.{rows_len}

@@ -6,8 +6,8 @@ use Rattle.std.proofs.lemmas.Grind.{flat_map-append}
 use Rattle.model_values.specs.Value.{Val, int, text, pair}
 use Rattle.model_values.specs.Token.{Tok, single, both}
 use Rattle.model_values.specs.Row.{Row}
-use Rattle.model_messages.specs.Message.{Sent, Message}
-use Rattle.model_messages.specs.Spelling.{spelled_value, spelled_token, spelled_rows, spelled_values, spelled_source, spelled}
+use Rattle.model_graph.specs.Message.{Sent, Message}
+use Rattle.model_graph.specs.Spelling.{spelled_value, spelled_token, spelled_rows, spelled_values, spelled_source, spelled}
 use Rattle.model_wire.specs.Lawful.{IsMessage}
 use Rattle.lasp_logset.specs.Weights.{IsBounded, val_weight, tok_weight, rows_weight, values_weight}
 use Rattle.lasp_wire.specs.Written.{is_first}

@@ -7,7 +7,7 @@ use Rattle.std.proofs.lemmas.List.{drop-drop, drop_at, length-drop, length-appen
 use Rattle.model_graph.specs.Chain.{◌>>=◌}
 use Rattle.model_states.specs.Counts.{zeros}
 use Rattle.model_states.proofs.CountLaws.{length-zeros}
-use Rattle.model_messages.specs.Message.{Sent}
+use Rattle.model_graph.specs.Message.{Sent}
 use Rattle.model_wire.specs.declared.wire_why.WireWhy.{WireWhy}
 use Rattle.model_wire.specs.declared.wire_why.WireWhy.TheVariants as why
 use Rattle.model_wire.specs.Reader.{Reading, bytes_at, if_passes, tested, remade, number_at, magic_at}

@@ -7,7 +7,7 @@ use Rattle.std.specs.declared.cmp.Ordering.TheVariants.{Less, Equal, Greater}
 use Rattle.model_values.specs.Value.{Val, val_cmp, val_exact}
 use Rattle.model_values.specs.Token.{Tok}
 use Rattle.model_values.specs.Row.{Row}
-use Rattle.model_messages.specs.Spelling.{number, truth, spelled_value, spelled_token, Group, with_row, groups_of, spelled_group, spelled_rows}
+use Rattle.model_graph.specs.Spelling.{number, truth, spelled_value, spelled_token, Group, with_row, groups_of, spelled_group, spelled_rows}
 use Rattle.lasp_wire.specs.Written.{spelled_mark, run, is_first, spelled_after, values_after}
 
 abbrev same : Val → Val → Bool

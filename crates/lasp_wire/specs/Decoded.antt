@@ -1,6 +1,6 @@
 -- What decoding answered, beside what the bytes are.
 use Rattle.std.specs.Prelude.{◌≡◌, ℕ, List, map, Result, Ok, Err}
-use Rattle.model_messages.specs.Message.{Message}
+use Rattle.model_graph.specs.Message.{Message}
 use Rattle.model_wire.specs.declared.wire_why.WireWhy.{WireWhy}
 use Rattle.model_wire.specs.Stuck.{IsStuck}
 use Rattle.lasp_wire.specs.declared.refused.WireRefused.{WireRefused}

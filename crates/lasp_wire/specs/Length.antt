@@ -2,7 +2,7 @@
 use Rattle.std.specs.Prelude.{ℕ, ◌+◌, List, [], ◌∷◌, length, if◌then◌else◌, Option, Some}
 use Rattle.model_values.specs.Value.{Val}
 use Rattle.model_values.specs.Row.{Row}
-use Rattle.model_messages.specs.Spelling.{spelled_value, spelled_token}
+use Rattle.model_graph.specs.Spelling.{spelled_value, spelled_token}
 use Rattle.lasp_wire.specs.Written.{is_first}
 
 -- what stands before a row: the value and the number of its rows, where it is the first of them

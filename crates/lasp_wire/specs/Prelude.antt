@@ -10,7 +10,7 @@ pub use Rattle.model_values.specs.Value.{val_cmp}
 pub use Rattle.model_sets.specs.Rows.{IsAscending}
 pub use Rattle.model_sets.specs.Values.{AreAscending}
 pub use Rattle.model_states.specs.Counts.{count_max, zeros}
-pub use Rattle.model_messages.specs.Spelling.{number, signed_number, spelled, spelled_content, spelled_counts, spelled_rows, spelled_source, spelled_token, spelled_top, spelled_value, spelled_values, truth}
+pub use Rattle.model_graph.specs.Spelling.{number, signed_number, spelled, spelled_content, spelled_counts, spelled_rows, spelled_source, spelled_token, spelled_top, spelled_value, spelled_values, truth}
 pub use Rattle.lasp_value.specs.Token.{tok_of}
 pub use Rattle.lasp_value.specs.Value.{val_of}
 pub use Rattle.model_wire.specs.Lawful.{AreAtMost, IsMessage, IsSpellable, IsSpelledSo}

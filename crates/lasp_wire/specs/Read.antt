@@ -4,7 +4,7 @@ use Rattle.std.specs.Option.{option_map}
 use Rattle.model_values.specs.Value.{Val}
 use Rattle.model_values.specs.Token.{Tok, single}
 use Rattle.model_values.specs.Row.{Row}
-use Rattle.model_messages.specs.Spelling.{Group}
+use Rattle.model_graph.specs.Spelling.{Group}
 use Rattle.model_wire.specs.Message.{Before}
 use Rattle.lasp_value.specs.Value.{val_of}
 use Rattle.model_wire.specs.declared.wire_why.WireWhy.{WireWhy}

@@ -5,7 +5,7 @@ use Rattle.model_states.specs.Coded.{coded_content}
 use Rattle.model_states.specs.Content.{Content}
 use Rattle.model_graph.specs.Coded.{coded_kind}
 use Rattle.model_graph.specs.Graph.{Kind, OrSet, GSet, Counter, MaxReg, Union}
-use Rattle.model_messages.specs.Message.{Sent, Message}
+use Rattle.model_graph.specs.Message.{Sent, Message}
 use Rattle.model_wire.specs.Message.{Held}
 use Rattle.lasp_state.specs.declared.state.State.{State}
 use Rattle.lasp_state.specs.declared.state.State.TheVariants.{Set, Grow, Count, Max, Fold}

@@ -2,7 +2,7 @@
 
 ghost use Rattle.std.specs.Prelude.{◌≡◌, ℕ, IfOk, IfErr, Result, Ok, Err};
 ghost use Rattle.lasp_wire.specs.Prelude.{decoded, decoded_from, WireWhy, IsMessage, IsSpelledSo, IsStuck, Fails, Refuses, Tells, IsStuckAs, parts_of};
-ghost use Rattle.model_messages.specs.Message as plain;
+ghost use Rattle.model_graph.specs.Message as plain;
 
 use super::counts::Counts;
 use super::message::Message;

@@ -9,7 +9,7 @@ use super::write;
 use std::alloc::{AllocError, Global};
 
 /// The one spelling of a message in version 2. It costs one pass, and for each set a list of its rows' addresses beside the bytes, which is sorted.
-#[tactic(auto, unfolding(model_messages::specs::Spelling::spelled))]
+#[tactic(auto, unfolding(model_graph::specs::Spelling::spelled))]
 pub fn encode(alloc: Global, m: &Message) -> Result<Vec<u8>, AllocError>
     ensures { IfOk result (λ bytes. bytes.items ≡ spelled m.now) }
 {

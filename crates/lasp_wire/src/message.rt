@@ -19,7 +19,7 @@ pub struct Message {
 
 impl Model for Message {
     ghost use Rattle.std.specs.Prelude.{map};
-    ghost use Rattle.model_messages.specs.Message as plain;
+    ghost use Rattle.model_graph.specs.Message as plain;
     ghost use Rattle.model_wire.specs.Lawful.{IsMessage};
     ghost use Rattle.lasp_wire.specs.Sent.{message, sent_of, coded_message};
 

@@ -12,7 +12,7 @@ use Rattle.model_graph.specs.Lawful.{IsDerived}
 use Rattle.model_graph.proofs.PlaceLaws.{equal-numbers, at-set, below-or-not, at-past, set-length}
 use Rattle.model_graph.proofs.EquationLaws.{equation-monotone, equation-ordered}
 use Rattle.model_graph.proofs.LeastLaws.{equation-flat}
-use Rattle.model_messages.specs.Message.{Message}
+use Rattle.model_graph.specs.Message.{Message}
 use Rattle.model_journal.specs.Entry.{Act, Update, Deliver, Bind, Extend, Entry, Frame}
 use Rattle.model_journal.specs.Journal.{Snapshot, Journal, binds_after, journal, graph, vals, val}
 use Rattle.model_journal.specs.Clean.{greatest_bound, base}

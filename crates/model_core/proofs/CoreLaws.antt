@@ -10,7 +10,7 @@ use Rattle.model_states.specs.Update.{Op, delta}
 use Rattle.model_graph.specs.Graph.{Decl, kind_at}
 use Rattle.model_graph.specs.Evaluation.{equation, first_large}
 use Rattle.model_graph.specs.Lawful.{variable_limit, IsDerived, sources_among}
-use Rattle.model_messages.specs.Message.{Message}
+use Rattle.model_graph.specs.Message.{Message}
 use Rattle.model_readings.specs.Lawful as readings
 use Rattle.model_wire.specs.Lawful.{IsMessage}
 use Rattle.model_world.specs.World.{delivered}

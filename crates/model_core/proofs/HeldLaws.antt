@@ -7,7 +7,7 @@ use Rattle.model_graph.specs.Graph.{Decl, is_source, kind_at}
 use Rattle.model_graph.specs.Evaluation.{content_at, first_large}
 use Rattle.model_graph.specs.Lawful.{IsDerived, sources_among}
 use Rattle.model_graph.proofs.PlaceLaws.{at-set}
-use Rattle.model_messages.specs.Message.{Message}
+use Rattle.model_graph.specs.Message.{Message}
 use Rattle.model_wire.specs.Lawful.{IsMessage}
 use Rattle.model_world.specs.World.{Peer, updated, delivered}
 use Rattle.model_runs.specs.Held.{IsHeld, IsUpdate}

@@ -10,7 +10,7 @@ use Rattle.model_graph.specs.Evaluation.{least_of, content_at, equation, first_l
 use Rattle.model_graph.specs.Lawful.{variable_limit, IsDerived, sources_among}
 use Rattle.model_graph.proofs.LimitLaws.{small-words}
 use Rattle.model_graph.proofs.PlaceLaws.{at-set, at-past, at-append, at-last, below-or-not, set-length, length-push}
-use Rattle.model_messages.specs.Message.{Message}
+use Rattle.model_graph.specs.Message.{Message}
 use Rattle.model_readings.specs.Lawful as readings
 use Rattle.model_wire.specs.Lawful.{IsSent, IsMessage}
 use Rattle.model_world.specs.World.{Peer, delivered}

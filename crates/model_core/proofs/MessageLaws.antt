@@ -5,8 +5,8 @@ use Rattle.std.proofs.lemmas.List.{take-append-drop}
 use Rattle.model_values.proofs.ListLaws.{each-weaker}
 use Rattle.model_graph.specs.Graph.{Decl, is_source}
 use Rattle.model_graph.specs.Lawful.{sources_among}
-use Rattle.model_messages.specs.Message.{Message}
-use Rattle.model_messages.proofs.MessageLaws.{among-append}
+use Rattle.model_graph.specs.Message.{Message}
+use Rattle.model_graph.proofs.MessageLaws.{among-append}
 use Rattle.model_wire.specs.Lawful.{IsSent, IsMessage}
 use Rattle.model_runs.specs.Held.{IsSentSource, IsSentTo}
 

@@ -6,7 +6,7 @@ use Rattle.model_states.specs.Update.{Op, delta}
 use Rattle.model_graph.specs.Graph.{Decl, is_source, kind_at}
 use Rattle.model_graph.specs.Evaluation.{least_of, content_at}
 use Rattle.model_graph.specs.Lawful.{IsDerived}
-use Rattle.model_messages.specs.Message.{Sent, Message, brought, gained}
+use Rattle.model_graph.specs.Message.{Sent, Message, brought, gained}
 use Rattle.model_world.specs.World.{fresh_peer, updated, delivered, extended, message_at}
 use Rattle.model_journal.specs.Entry.{Update, Deliver, Bind, Extend, Entry, Frame}
 use Rattle.model_journal.specs.Journal.{Snapshot, graph, vals, val, counts, sources_from, sources}

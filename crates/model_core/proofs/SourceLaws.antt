@@ -4,8 +4,8 @@ use Rattle.model_states.specs.Content.{Content, least}
 use Rattle.model_graph.specs.Graph.{Kind, Decl, is_source, kind_at}
 use Rattle.model_graph.specs.Evaluation.{least_of, content_at}
 use Rattle.model_graph.proofs.PlaceLaws.{same-lists, from-nothing}
-use Rattle.model_messages.specs.Message.{Sent, Message, sent_from, sent_at, source_number, brought, with_gain, gained}
-use Rattle.model_messages.proofs.MessageLaws.{gained-length, gained-at}
+use Rattle.model_graph.specs.Message.{Sent, Message, sent_from, sent_at, source_number, brought, with_gain, gained}
+use Rattle.model_graph.proofs.MessageLaws.{gained-length, gained-at}
 use Rattle.model_journal.specs.Journal.{sources_from}
 use Rattle.model_journal.proofs.GainLaws.{least_of-derived}
 

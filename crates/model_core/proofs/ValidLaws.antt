@@ -16,7 +16,7 @@ use Rattle.model_graph.specs.Lawful.{width_limit, width_at, widths, shape_of}
 use Rattle.model_graph.specs.Width.{HasWidth}
 use Rattle.model_graph.proofs.PlaceLaws.{at-past, below-or-not}
 use Rattle.model_graph.proofs.WidthLaws.{widths-length}
-use Rattle.model_messages.specs.Message.{Sent}
+use Rattle.model_graph.specs.Message.{Sent}
 use Rattle.model_wire.specs.Lawful.{IsSpellable, IsSourceValue, IsBase, AreRows, AreElements, AreAtMost, IsSource, IsSent}
 use Rattle.model_journal.specs.Entry.{Entry, Frame}
 use Rattle.model_journal.specs.Journal.{graph, vals, val}

@@ -8,7 +8,7 @@ ghost use Rattle.model_states.specs.Update.{Op, delta};
 ghost use Rattle.model_graph.specs.Graph.{Decl, kind_at};
 ghost use Rattle.model_graph.specs.Evaluation.{equation, first_large};
 ghost use Rattle.model_graph.specs.Lawful.{variable_limit, IsDerived, sources_among};
-ghost use Rattle.model_messages.specs.Message.{Message};
+ghost use Rattle.model_graph.specs.Message.{Message};
 ghost use Rattle.model_readings.specs.Lawful as readings;
 ghost use Rattle.model_wire.specs.Lawful.{IsMessage};
 ghost use Rattle.model_world.specs.World.{delivered};

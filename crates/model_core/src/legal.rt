@@ -9,7 +9,7 @@ ghost use Rattle.model_graph.specs.Graph.{Kind, Decl, kind_at};
 ghost use Rattle.model_graph.specs.Evaluation.{equation, first_large};
 ghost use Rattle.model_graph.specs.Lawful.{variable_limit, MayFollow, IsGraph, IsDerived, sources_among, shape_of};
 ghost use Rattle.model_graph.specs.Width.{HasWidth};
-ghost use Rattle.model_messages.specs.Message.{Message};
+ghost use Rattle.model_graph.specs.Message.{Message};
 ghost use Rattle.model_readings.specs.Lawful as readings;
 ghost use Rattle.model_wire.specs.Lawful.{IsSource, IsMessage};
 ghost use Rattle.model_world.specs.World.{delivered};

@@ -4,7 +4,7 @@ ghost use Rattle.std.specs.Prelude.{◌≡◌, ℕ, ◌<◌, IsTrue, List, [], �
 ghost use Rattle.model_states.specs.Update.{Op};
 ghost use Rattle.model_graph.specs.Graph.{Decl, is_source, kind_at};
 ghost use Rattle.model_graph.specs.Lawful.{IsDerived};
-ghost use Rattle.model_messages.specs.Message.{Message};
+ghost use Rattle.model_graph.specs.Message.{Message};
 ghost use Rattle.model_world.specs.World.{fresh_peer, updated, delivered, extended, message_at};
 ghost use Rattle.model_journal.specs.Entry.{Update, Deliver, Bind, Extend, Entry, Frame};
 ghost use Rattle.model_journal.specs.Journal.{graph, counts};

@@ -5,7 +5,7 @@ use Rattle.model_states.specs.Counts.{count_at, AreCountsAtMost}
 use Rattle.model_graph.specs.Evaluation.{first_large}
 use Rattle.model_graph.specs.Limit.{AreWithinLimit, IsFirstLarge}
 use Rattle.model_graph.proofs.LimitLaws.{large-words, small-words}
-use Rattle.model_messages.specs.Message.{Message}
+use Rattle.model_graph.specs.Message.{Message}
 use Rattle.model_deltas.specs.Delta.{Delta, carried}
 use Rattle.model_deltas.specs.Applied.{Cause, Gap, TooManyRows, first_gap, IsFirstGap, joined, contents_of, small_or, limited, unless, applied}
 use Rattle.model_world.proofs.StopLaws.{shifted}

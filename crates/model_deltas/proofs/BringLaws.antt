@@ -5,8 +5,8 @@ use Rattle.model_states.specs.Content.{Content, least, join_contents, IsContentA
 use Rattle.model_graph.specs.Graph.{Decl, is_source, kind_at}
 use Rattle.model_graph.specs.Evaluation.{content_at}
 use Rattle.model_graph.proofs.PlaceLaws.{below-or-not}
-use Rattle.model_messages.specs.Message.{Message, source_number, sent_at}
-use Rattle.model_messages.proofs.MessageLaws.{sent-is, sent-past}
+use Rattle.model_graph.specs.Message.{Message, source_number, sent_at}
+use Rattle.model_graph.proofs.MessageLaws.{sent-is, sent-past}
 use Rattle.model_world.specs.World.{Peer, message_at}
 use Rattle.model_known.specs.Delta as known
 use Rattle.model_known.specs.Holds.{Carries}

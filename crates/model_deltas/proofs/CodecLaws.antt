@@ -7,8 +7,8 @@ use Rattle.std.proofs.lemmas.List.{nil_from_length}
 use Rattle.model_graph.specs.Chain.{◌>>=◌}
 use Rattle.model_graph.proofs.PlaceLaws.{below-or-not, at-past}
 use Rattle.model_states.specs.Counts.{count_at, AreCountsAtMost}
-use Rattle.model_messages.specs.Message.{Sent}
-use Rattle.model_messages.specs.Spelling.{spelled_counts, spelled_source}
+use Rattle.model_graph.specs.Message.{Sent}
+use Rattle.model_graph.specs.Spelling.{spelled_counts, spelled_source}
 use Rattle.model_wire.specs.declared.wire_why.WireWhy.TheVariants as why
 use Rattle.model_wire.specs.Reader.{Reading, both_at, counted, list_at, magic_at}
 use Rattle.model_wire.specs.Message.{sources_at, counts_at, decoded_from}

@@ -1,7 +1,7 @@
 -- What the messages of a lawful run bring as deltas, at each place.
 use Rattle.std.proofs.Common.{◌≡◌, ℕ, ◌<◌, inl, inr, List, [], length, Option, Some, None, Ok, refl, sym, ap, subst, ◌∙◌, append-nil}
 use Rattle.model_graph.specs.Graph.{Decl}
-use Rattle.model_messages.specs.Message.{Message}
+use Rattle.model_graph.specs.Message.{Message}
 use Rattle.model_world.specs.Command.{Command}
 use Rattle.model_world.specs.World.{Run, Post, peer_at, message_at, sent_number, act}
 use Rattle.model_known.specs.Follow.{Followed}

@@ -13,7 +13,7 @@ use Rattle.model_states.specs.Counts.{count_max}
 use Rattle.model_states.specs.Register.{FitsTop}
 use Rattle.model_states.specs.Content.{Content}
 use Rattle.model_graph.specs.Graph.{Kind, OrSet, GSet, Counter, MaxReg, Union, Product, Intersection, Map, Filter, Fold}
-use Rattle.model_messages.specs.Message.{Sent, Message, sent_at}
+use Rattle.model_graph.specs.Message.{Sent, Message, sent_at}
 use Rattle.model_wire.specs.Lawful.{IsSourceValue, IsRow, AreAtMost, IsSource, IsSent, IsMessage}
 use Rattle.model_deltas.specs.Delta.{new_values, changed_counts, changed_top, changed_content, changed_sources, delta_of}
 use Rattle.model_deltas.specs.Before.{IsBefore, IsDelta}

@@ -7,7 +7,7 @@ use Rattle.model_states.proofs.CountLaws.{length-larger}
 use Rattle.model_states.proofs.ContentLaws.{join-nothing, join-commutative, ordered-least}
 use Rattle.model_graph.specs.Graph.{Decl}
 use Rattle.model_graph.specs.Limit.{AreWithinLimit}
-use Rattle.model_messages.specs.Message.{Sent, Message, sent_at}
+use Rattle.model_graph.specs.Message.{Sent, Message, sent_at}
 use Rattle.model_wire.specs.Lawful.{IsNodes, IsSource, IsSent, IsMessage}
 use Rattle.model_runs.proofs.EachLaws.{each-larger}
 use Rattle.model_runs.proofs.SourceLaws.{source-ordered, source-join}

@@ -8,8 +8,8 @@ use Rattle.model_graph.specs.Graph.{Decl, is_source, kind_at}
 use Rattle.model_graph.specs.Evaluation.{content_at}
 use Rattle.model_graph.specs.Lawful.{sources_among}
 use Rattle.model_graph.proofs.PlaceLaws.{same-lists, from-nothing}
-use Rattle.model_messages.specs.Message.{Sent, Message, source_number, sent_at, brought, with_gain, gained}
-use Rattle.model_messages.proofs.MessageLaws.{sent-is, sent-among, among-append, gained-length, gained-at}
+use Rattle.model_graph.specs.Message.{Sent, Message, source_number, sent_at, brought, with_gain, gained}
+use Rattle.model_graph.proofs.MessageLaws.{sent-is, sent-among, among-append, gained-length, gained-at}
 use Rattle.model_world.specs.Command.{Command}
 use Rattle.model_world.specs.World.{Peer, peer_at, message_at, delivered}
 use Rattle.model_runs.specs.Held.{IsHeld, IsSentTo}

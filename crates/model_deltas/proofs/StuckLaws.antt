@@ -6,8 +6,8 @@ use Rattle.std.proofs.Math.Dec.{eqb-suc-zero}
 use Rattle.model_graph.specs.Chain.{◌>>=◌}
 use Rattle.model_graph.proofs.PlaceLaws.{below-or-not, at-past}
 use Rattle.model_states.specs.Counts.{count_at}
-use Rattle.model_messages.specs.Message.{Sent, Message}
-use Rattle.model_messages.specs.Spelling.{spelled_counts}
+use Rattle.model_graph.specs.Message.{Sent, Message}
+use Rattle.model_graph.specs.Spelling.{spelled_counts}
 use Rattle.model_wire.specs.declared.wire_why.WireWhy.{WireWhy}
 use Rattle.model_wire.specs.declared.wire_why.WireWhy.TheVariants as why
 use Rattle.model_wire.specs.Reader.{Reading, paired, remade, both_at}

@@ -4,8 +4,8 @@ use Rattle.model_states.specs.Counts.{AreCountsAtMost}
 use Rattle.model_states.proofs.CountLaws.{count_at-zeros, length-zeros}
 use Rattle.model_graph.specs.Graph.{Decl}
 use Rattle.model_graph.specs.Lawful.{sources_among}
-use Rattle.model_messages.specs.Message.{Message}
-use Rattle.model_messages.proofs.MessageLaws.{sent-among, among-append}
+use Rattle.model_graph.specs.Message.{Message}
+use Rattle.model_graph.proofs.MessageLaws.{sent-among, among-append}
 use Rattle.model_world.specs.Command.{Command}
 use Rattle.model_world.specs.World.{peer_at}
 use Rattle.model_known.specs.Delta as known

@@ -6,7 +6,7 @@ use Rattle.model_states.proofs.CountLaws.{count_at-zeros}
 use Rattle.model_graph.specs.Chain.{◌>>=◌}
 use Rattle.model_graph.specs.Graph.{Decl}
 use Rattle.model_graph.proofs.PlaceLaws.{below-or-not, at-append, at-last, at-set, length-replicate, length-push, set-length}
-use Rattle.model_messages.specs.Message.{Message}
+use Rattle.model_graph.specs.Message.{Message}
 use Rattle.model_world.specs.Command.{Command}
 use Rattle.model_world.specs.Command as command
 use Rattle.model_world.specs.Lawful.{Stage, opening_stage, stage_after, MayBeDone}

@@ -5,7 +5,7 @@ use Rattle.model_states.specs.Counts.{AreCountsAtMost}
 use Rattle.model_states.specs.Update.{Add, Remove, Insert, Inc, Max, Join}
 use Rattle.model_graph.specs.Graph.{Decl}
 use Rattle.model_graph.proofs.PlaceLaws.{below-or-not, at-append, at-last, length-push}
-use Rattle.model_messages.specs.Message.{Message}
+use Rattle.model_graph.specs.Message.{Message}
 use Rattle.model_world.specs.Command.{Command}
 use Rattle.model_world.specs.Command as command
 use Rattle.model_world.specs.Lawful.{Stage, opening_stage, stage_after, MayBeDone, AreLawful}

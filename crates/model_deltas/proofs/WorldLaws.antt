@@ -10,8 +10,8 @@ use Rattle.model_graph.specs.Graph.{Kind, OrSet, GSet, Counter, MaxReg, Union, P
 use Rattle.model_graph.specs.Evaluation.{least_of}
 use Rattle.model_graph.specs.Lawful.{shape_of}
 use Rattle.model_graph.proofs.PlaceLaws.{below-or-not}
-use Rattle.model_messages.specs.Message.{Sent, Message, source_number, sent_at}
-use Rattle.model_messages.proofs.MessageLaws.{sent-past}
+use Rattle.model_graph.specs.Message.{Sent, Message, source_number, sent_at}
+use Rattle.model_graph.proofs.MessageLaws.{sent-past}
 use Rattle.model_known.specs.Delta as known
 use Rattle.model_known.specs.Holds.{Carries}
 use Rattle.model_known.proofs.KnownLaws.{known-larger}

@@ -3,7 +3,7 @@ use Rattle.std.specs.Prelude.{◌≡◌, ℕ, ◌+◌, ◌≤◌, ◌<◌, List,
 use Rattle.model_states.specs.Counts.{count_at, larger}
 use Rattle.model_states.specs.Content.{Content, join_contents}
 use Rattle.model_graph.specs.Evaluation.{first_large}
-use Rattle.model_messages.specs.Message.{Sent, Message}
+use Rattle.model_graph.specs.Message.{Sent, Message}
 use Rattle.model_deltas.specs.Delta.{Delta, carried}
 
 pub data Cause : Type 0 where

@@ -3,7 +3,7 @@ use Rattle.std.specs.Prelude.{◌≡◌, ◌≤◌, List, [], ◌∷◌, length}
 use Rattle.std.specs.List.{AllByRecursion}
 use Rattle.model_states.specs.Counts.{AreCountsAtMost}
 use Rattle.model_states.specs.Content.{IsContentAtMost}
-use Rattle.model_messages.specs.Message.{Sent, Message}
+use Rattle.model_graph.specs.Message.{Sent, Message}
 use Rattle.model_wire.specs.Lawful.{IsNodes, AreAtMost, IsSent}
 use Rattle.model_deltas.specs.Delta.{Delta}
 

@@ -5,7 +5,7 @@ use Rattle.model_values.specs.Value.{Val}
 use Rattle.model_sets.specs.Values.{held}
 use Rattle.model_sets.specs.Equations.{changed}
 use Rattle.model_states.specs.Content.{Content}
-use Rattle.model_messages.specs.Message.{Sent, Message, sent_at}
+use Rattle.model_graph.specs.Message.{Sent, Message, sent_at}
 
 -- the counts from which it goes on, those to which it leads, and what changed in each source
 pub record Delta : Type 0 where

@@ -1,7 +1,7 @@
 -- What holds at each place of a run by deltas.
 use Rattle.std.specs.Prelude.{◌≡◌, ℕ, ◌<◌, length, Option, None, IfSome, slice_index_or}
 use Rattle.model_states.specs.Counts.{AreCountsAtMost}
-use Rattle.model_messages.specs.Message.{Message}
+use Rattle.model_graph.specs.Message.{Message}
 use Rattle.model_world.specs.Lawful.{Stage}
 use Rattle.model_world.specs.World.{Run, peer_at, sent_number}
 use Rattle.model_known.specs.Follow.{Followed}

@@ -3,7 +3,7 @@ use Rattle.std.specs.Prelude.{ℕ, ◌+◌, ◌==◌, if◌then◌else◌, List,
 use Rattle.std.specs.Int.{w64}
 use Rattle.model_states.specs.Counts.{count_at}
 use Rattle.model_graph.specs.Chain.{◌>>=◌}
-use Rattle.model_messages.specs.Message.{Sent}
+use Rattle.model_graph.specs.Message.{Sent}
 use Rattle.model_wire.specs.declared.wire_why.WireWhy.{WireWhy}
 use Rattle.model_wire.specs.declared.wire_why.WireWhy.TheVariants as why
 use Rattle.model_wire.specs.Reader.{Reader, both_at, counted, made, list_at, ranged_at, magic_at}

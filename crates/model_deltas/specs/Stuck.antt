@@ -1,7 +1,7 @@
 -- Where bytes can't be read on as a delta, and why: what stands before the place is whole, lawful and in order, and what stands there fails. Said by how the parts of a delta are spelled, and by nothing that reads them; the parts that it shares with a message fail as they do there.
 use Rattle.std.specs.Prelude.{◌≡◌, ◌≢◌, ℕ, ◌<◌, ◌≤◌, List, [], ◌∷◌, ◌++◌, length, codes}
 use Rattle.model_states.specs.Counts.{count_at}
-use Rattle.model_messages.specs.Spelling.{number, spelled_counts}
+use Rattle.model_graph.specs.Spelling.{number, spelled_counts}
 use Rattle.model_wire.specs.declared.wire_why.WireWhy.{WireWhy}
 use Rattle.model_wire.specs.declared.wire_why.WireWhy.TheVariants.{Magic, Range, Rest}
 use Rattle.model_wire.specs.Lawful.{AreAtMost}

@@ -4,7 +4,7 @@ ghost use Rattle.std.specs.Prelude.{◌≡◌, ℕ, ◌↔◌, Ok, Err, length, 
 ghost use Rattle.model_states.specs.Counts.{count_at, AreCountsAtMost};
 ghost use Rattle.model_states.specs.Content.{join_contents};
 ghost use Rattle.model_graph.specs.Limit.{AreWithinLimit, IsFirstLarge};
-ghost use Rattle.model_messages.specs.Message.{Message, sent_at};
+ghost use Rattle.model_graph.specs.Message.{Message, sent_at};
 ghost use Rattle.model_wire.specs.Lawful.{IsMessage};
 ghost use Rattle.model_deltas.specs.Delta.{Delta, carried};
 ghost use Rattle.model_deltas.specs.Applied.{Gap, TooManyRows, IsFirstGap, joined, contents_of, applied};

@@ -7,7 +7,7 @@ ghost use Rattle.model_sets.specs.Rows.{mark};
 ghost use Rattle.model_sets.specs.Values.{IsHeld};
 ghost use Rattle.model_states.specs.Counts.{count_at};
 ghost use Rattle.model_states.specs.Content.{Content, join_contents, IsContentAtMost, IsOrdered};
-ghost use Rattle.model_messages.specs.Message.{Message, sent_at};
+ghost use Rattle.model_graph.specs.Message.{Message, sent_at};
 ghost use Rattle.model_wire.specs.Lawful.{IsMessage};
 ghost use Rattle.model_deltas.specs.Delta.{Delta, changed_content, delta_of};
 ghost use Rattle.model_deltas.specs.Before.{IsBefore, IsDelta};

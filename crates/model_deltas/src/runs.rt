@@ -2,7 +2,7 @@
 
 ghost use Rattle.std.specs.Prelude.{◌≡◌, ℕ, ◌<◌, ◌↔◌, List, length, None, Ok, Err};
 ghost use Rattle.model_graph.specs.Graph.{Decl};
-ghost use Rattle.model_messages.specs.Message.{Message};
+ghost use Rattle.model_graph.specs.Message.{Message};
 ghost use Rattle.model_world.specs.Command.{Command, Script};
 ghost use Rattle.model_world.specs.World.{Run, Act, Post, act, ended, peer_at, message_at, sent_number, delivered};
 ghost use Rattle.model_world.specs.declared.stop.Stop.{Stop};

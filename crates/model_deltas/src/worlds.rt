@@ -2,7 +2,7 @@
 
 ghost use Rattle.std.specs.Prelude.{ℕ, ◌<◌, ◌++◌, List, length};
 ghost use Rattle.model_graph.specs.Graph.{Decl};
-ghost use Rattle.model_messages.specs.Message.{Message};
+ghost use Rattle.model_graph.specs.Message.{Message};
 ghost use Rattle.model_world.specs.Command.{Command};
 ghost use Rattle.model_world.specs.World.{sent_number};
 ghost use Rattle.model_known.specs.Delta as known;

@@ -12,7 +12,7 @@ use Rattle.model_graph.specs.Graph.{Decl, kind_at}
 use Rattle.model_graph.specs.Evaluation.{content_at, rows_at, least_of}
 use Rattle.model_graph.proofs.PlaceLaws.{below-or-not, at-past, at-set, at-replicate, set-length, pairs-push, length-push, length-replicate}
 use Rattle.model_graph.proofs.LeastLaws.{least_of-rows}
-use Rattle.model_messages.specs.Message.{Message}
+use Rattle.model_graph.specs.Message.{Message}
 use Rattle.model_world.specs.Command as command
 use Rattle.model_world.specs.Command.{Command}
 use Rattle.model_world.specs.Lawful.{Stage, opening_stage, stage_after, MayBeDone, AreLawful}

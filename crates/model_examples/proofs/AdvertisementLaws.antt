@@ -4,7 +4,7 @@ use Rattle.std.specs.Fmt.{digits}
 use Rattle.model_values.specs.Text.{escaped}
 use Rattle.model_functions.specs.Map.{mapped}
 use Rattle.model_functions.specs.Predicate.{passes}
-use Rattle.model_messages.specs.Spelling.{spelled}
+use Rattle.model_graph.specs.Spelling.{spelled}
 use Rattle.model_world.specs.World.{play}
 use Rattle.model_examples.specs.Case.{told, lines}
 use Rattle.model_examples.specs.Advertisements.{advertisement_graph, advertisement_script}

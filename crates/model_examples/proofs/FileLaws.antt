@@ -2,7 +2,7 @@
 use Rattle.std.proofs.Common.{refl}
 use Rattle.std.specs.Prelude.{◌≡◌, [], ◌∷◌, ◌++◌, codes, true, false, None, Ok, Err}
 use Rattle.std.specs.Fmt.{digits}
-use Rattle.model_messages.specs.Spelling.{spelled}
+use Rattle.model_graph.specs.Spelling.{spelled}
 use Rattle.model_world.specs.World.{play, fresh_peer}
 use Rattle.model_wire.specs.Reader.{list_at}
 use Rattle.model_wire.specs.Value.{text_at, part_at, value_at, token_at, row_at}

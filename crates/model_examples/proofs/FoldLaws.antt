@@ -2,7 +2,7 @@
 use Rattle.std.proofs.Common.{◌≡◌, [], ◌∷◌, codes, Ok, refl}
 use Rattle.std.specs.Fmt.{digits}
 use Rattle.std.specs.Int.{int_wrap}
-use Rattle.model_messages.specs.Spelling.{spelled}
+use Rattle.model_graph.specs.Spelling.{spelled}
 use Rattle.model_world.specs.World.{play}
 use Rattle.model_examples.specs.Case.{told, lines}
 use Rattle.model_examples.specs.Folds.{sum_graph, folds_graph, sum_script, folds_script}

@@ -1,7 +1,7 @@
 -- What these cases come to, by computation.
 use Rattle.std.proofs.Common.{◌≡◌, [], ◌∷◌, codes, Ok, refl}
 use Rattle.std.specs.Fmt.{digits}
-use Rattle.model_messages.specs.Spelling.{spelled}
+use Rattle.model_graph.specs.Spelling.{spelled}
 use Rattle.model_world.specs.World.{play}
 use Rattle.model_examples.specs.Case.{told, lines}
 use Rattle.model_examples.specs.Graphs.{set_graph}

@@ -3,7 +3,7 @@ use Rattle.std.proofs.Common.{◌≡◌, pos, false, [], ◌∷◌, ◌++◌, re
 use Rattle.model_values.specs.Value.{int}
 use Rattle.model_values.specs.Token.{single}
 use Rattle.model_graph.specs.Evaluation.{rows_at}
-use Rattle.model_messages.specs.Spelling.{spelled}
+use Rattle.model_graph.specs.Spelling.{spelled}
 use Rattle.model_known.specs.Follow.{follow}
 use Rattle.model_examples.specs.Losses.{example_commands, example_repeats, example_node}
 

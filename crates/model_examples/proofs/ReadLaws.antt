@@ -2,7 +2,7 @@
 use Rattle.std.proofs.Common.{◌≡◌, [], ◌∷◌, codes, Ok, Err, refl}
 use Rattle.std.specs.Fmt.{digits}
 use Rattle.model_functions.specs.Predicate.{passes}
-use Rattle.model_messages.specs.Spelling.{spelled}
+use Rattle.model_graph.specs.Spelling.{spelled}
 use Rattle.model_world.specs.World.{play}
 use Rattle.model_world.specs.declared.stop.Stop.TheVariants.{NotReached}
 use Rattle.model_examples.specs.Case.{told, lines}

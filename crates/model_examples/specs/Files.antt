@@ -4,7 +4,7 @@ use Rattle.model_values.specs.Value.{int}
 use Rattle.model_values.specs.Token.{single}
 use Rattle.model_states.specs.Content.{of_set}
 use Rattle.model_graph.specs.Graph.{OrSet, Counter, Union, Decl}
-use Rattle.model_messages.specs.Message.{Message}
+use Rattle.model_graph.specs.Message.{Message}
 use Rattle.model_world.specs.Command.{Add, Script}
 use Rattle.model_examples.specs.Case.{variable}
 

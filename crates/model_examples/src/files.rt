@@ -1,7 +1,7 @@
 //! Worked exports and merges, by computation.
 
 ghost use Rattle.std.specs.Prelude.{◌≡◌, ◌++◌, [], ◌∷◌, codes, true, false, None, Ok, Err};
-ghost use Rattle.model_messages.specs.Spelling.{spelled};
+ghost use Rattle.model_graph.specs.Spelling.{spelled};
 ghost use Rattle.model_world.specs.World.{fresh_peer};
 ghost use Rattle.model_wire.specs.declared.wire_why.WireWhy.TheVariants.{Short};
 ghost use Rattle.model_scripts.specs.declared.script_why.ScriptWhy.TheVariants.{NoSuchNode};

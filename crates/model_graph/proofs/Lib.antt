@@ -8,3 +8,4 @@ pub mod WidthLaws
 pub mod GroupLaws
 pub mod IncrementLaws
 pub mod LimitLaws
+pub mod MessageLaws

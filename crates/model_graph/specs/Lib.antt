@@ -9,3 +9,5 @@ pub mod Algebra
 pub mod Increment
 pub mod Limit
 pub mod Coded
+pub mod Message
+pub mod Spelling

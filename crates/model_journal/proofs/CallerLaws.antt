@@ -7,12 +7,12 @@ use Rattle.model_states.specs.Update.{delta}
 use Rattle.model_graph.specs.Graph.{Decl, is_source, kind_at}
 use Rattle.model_graph.specs.Evaluation.{content_at, equation}
 use Rattle.model_graph.proofs.PlaceLaws.{at-past, length-append, below-or-not, equal-numbers}
-use Rattle.model_messages.specs.Message.{brought, with_gain, gained}
+use Rattle.model_graph.specs.Message.{brought, with_gain, gained}
 use Rattle.model_journal.specs.Entry.{Act, Update, Deliver, Bind, Extend, Entry, Frame}
 use Rattle.model_journal.specs.Journal.{Snapshot, Journal, snapshot_at, gain, opened, contents_after, graph_after, counts_after, snapshot_after, next, run, start, journal, graph, val, counts}
 use Rattle.model_journal.specs.Callers.{MayMake, AreMadeByTheirCallers, made_by}
 use Rattle.model_journal.specs.Legal.{IsLawful, IsLegalFrom, IsLegal}
-use Rattle.model_messages.proofs.MessageLaws.{gained-length}
+use Rattle.model_graph.proofs.MessageLaws.{gained-length}
 use Rattle.model_journal.proofs.GraphLaws.{graph-keeps}
 use Rattle.model_journal.proofs.StepLaws.{after-at}
 use Rattle.model_journal.proofs.GoodLaws.{IsGood, to-now, start-good}

@@ -10,12 +10,12 @@ use Rattle.model_graph.specs.Graph.{Decl, is_source, kind_at}
 use Rattle.model_graph.specs.Evaluation.{least_of, content_at, equation}
 use Rattle.model_graph.specs.Lawful.{IsDerived}
 use Rattle.model_graph.proofs.PlaceLaws.{equal-numbers, same-lists}
-use Rattle.model_messages.specs.Message.{Message, sent_at, source_number, with_gain, gained}
+use Rattle.model_graph.specs.Message.{Message, sent_at, source_number, with_gain, gained}
 use Rattle.model_journal.specs.Entry.{Act, Update, Deliver, Bind, Extend, Entry, Frame}
 use Rattle.model_journal.specs.Journal.{Snapshot, Journal, snapshot_at, gain, graph_after, version_after, snapshot_after, next, run, start, journal, graph, vals, val, counts, declared_by, declared}
 use Rattle.model_journal.specs.Clean.{version}
 use Rattle.model_journal.specs.Legal.{IsLegal}
-use Rattle.model_messages.proofs.MessageLaws.{gained-length, gained-at}
+use Rattle.model_graph.proofs.MessageLaws.{gained-length, gained-at}
 use Rattle.model_journal.proofs.StepLaws.{after-at}
 use Rattle.model_journal.proofs.JournalLaws.{journal-push, journal-good}
 use Rattle.model_journal.proofs.CleanLaws.{snapshot-take}

@@ -4,7 +4,7 @@ use Rattle.model_states.specs.Content.{Content, least, IsContentAtMost, IsOrdere
 use Rattle.model_states.proofs.ContentLaws.{at_most-itself, join-left, ordered-join, counts-join}
 use Rattle.model_graph.specs.Graph.{Kind, OrSet, GSet, Counter, MaxReg, Union, Product, Intersection, Map, Filter, Fold, is_source, is_set}
 use Rattle.model_graph.specs.Evaluation.{least_of}
-use Rattle.model_messages.specs.Message.{with_gain}
+use Rattle.model_graph.specs.Message.{with_gain}
 
 pub gain-grows : (s : Content) (gain : Option Content) → IsContentAtMost s (with_gain s gain)
 gain-grows s None = at_most-itself s

@@ -12,7 +12,7 @@ use Rattle.model_graph.specs.Lawful.{width_limit, width_at, width_of, widths, Is
 use Rattle.model_graph.proofs.EquationLaws.{equation-ordered}
 use Rattle.model_graph.proofs.PlaceLaws.{equal-numbers}
 use Rattle.model_graph.proofs.WidthLaws.{width-source}
-use Rattle.model_messages.specs.Message.{Sent, sent_at, source_number, with_gain}
+use Rattle.model_graph.specs.Message.{Sent, sent_at, source_number, with_gain}
 use Rattle.model_journal.specs.Entry.{Act, Update, Deliver, Bind, Extend, Entry, Frame}
 use Rattle.model_journal.specs.Journal.{Snapshot, snapshot_at, gain, counts_after, journal, graph, val, counts}
 use Rattle.model_journal.specs.Legal.{count_limit, IsValid, IsValidSnapshot, IsLawful, AreValidSources, BringsValid, IsLegal}

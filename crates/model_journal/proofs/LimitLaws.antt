@@ -5,11 +5,11 @@ use Rattle.model_graph.specs.Graph.{Decl, no_decl, decl_at, kind_at}
 use Rattle.model_graph.specs.Evaluation.{least_of, content_at}
 use Rattle.model_graph.specs.Lawful.{width_at, widths}
 use Rattle.model_graph.proofs.PlaceLaws.{at-last, length-append, below-or-not}
-use Rattle.model_messages.specs.Message.{with_gain, gained}
+use Rattle.model_graph.specs.Message.{with_gain, gained}
 use Rattle.model_journal.specs.Entry.{Act, Update, Deliver, Bind, Extend, Entry, Frame}
 use Rattle.model_journal.specs.Journal.{Snapshot, Journal, gain, contents_after, graph_after, snapshot_after, journal, graph, vals, val}
 use Rattle.model_journal.specs.Legal.{IsValid, IsValidSnapshot, IsWithinLimits, IsLawful, BringsValid, IsLegal}
-use Rattle.model_messages.proofs.MessageLaws.{gained-length}
+use Rattle.model_graph.proofs.MessageLaws.{gained-length}
 use Rattle.model_journal.proofs.GraphLaws.{graph-keeps, graph-longer}
 use Rattle.model_journal.proofs.StepLaws.{after-at}
 use Rattle.model_journal.proofs.NextLaws.{next-graph}

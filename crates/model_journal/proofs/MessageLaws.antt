@@ -5,8 +5,8 @@ use Rattle.model_graph.specs.Graph.{Decl, is_source, kind_at}
 use Rattle.model_graph.specs.Evaluation.{content_at}
 use Rattle.model_graph.specs.Lawful.{width_at, widths, sources_among}
 use Rattle.model_graph.proofs.WidthLaws.{width-source}
-use Rattle.model_messages.specs.Message.{sent_at, source_number, sent_from}
-use Rattle.model_messages.proofs.MessageLaws.{sent-is, sent-among, among-append}
+use Rattle.model_graph.specs.Message.{sent_at, source_number, sent_from}
+use Rattle.model_graph.proofs.MessageLaws.{sent-is, sent-among, among-append}
 use Rattle.model_journal.specs.Entry.{Deliver, Entry, Frame}
 use Rattle.model_journal.specs.Journal.{journal, graph, vals, val}
 use Rattle.model_journal.specs.Message.{message}

@@ -12,13 +12,13 @@ use Rattle.model_graph.proofs.PlaceLaws.{at-append, at-last, length-append, belo
 use Rattle.model_graph.proofs.EquationLaws.{equation-ordered, equation-monotone, equation-least}
 use Rattle.model_graph.proofs.EvalLaws.{graph-earlier}
 pub use Rattle.model_graph.proofs.LeastLaws.{equation-flat}
-use Rattle.model_messages.specs.Message.{with_gain, gained}
+use Rattle.model_graph.specs.Message.{with_gain, gained}
 use Rattle.model_journal.specs.Entry.{Act, Update, Deliver, Bind, Extend, Entry, Frame}
 use Rattle.model_journal.specs.Journal.{Snapshot, Journal, snapshot_at, gain, opened, contents_after, graph_after, snapshot_after, binds_after, next}
 use Rattle.model_journal.specs.Clean.{greatest_bound}
 use Rattle.model_journal.specs.Legal.{IsOpOf, IsLawful}
 use Rattle.model_journal.proofs.PlaceLaws.{at-more, at-kept}
-use Rattle.model_messages.proofs.MessageLaws.{gained-length}
+use Rattle.model_graph.proofs.MessageLaws.{gained-length}
 use Rattle.model_journal.proofs.GainLaws.{least_of-derived}
 use Rattle.model_journal.proofs.GraphLaws.{graph-push, input-set, graph-keeps}
 use Rattle.model_journal.proofs.StepLaws.{after-at, after-ordered, opened-length, IsLater, later-itself, later-chain, step-later}

@@ -7,11 +7,11 @@ use Rattle.model_graph.specs.Evaluation.{content_at}
 use Rattle.model_graph.specs.Order.{ContentsAtMost}
 use Rattle.model_graph.proofs.PlaceLaws.{at-append, at-past, length-append, below-or-not}
 use Rattle.model_graph.proofs.LeastLaws.{least_of-ordered}
-use Rattle.model_messages.specs.Message.{with_gain, gained}
+use Rattle.model_graph.specs.Message.{with_gain, gained}
 use Rattle.model_journal.specs.Entry.{Act, Update, Deliver, Bind, Extend, Frame}
 use Rattle.model_journal.specs.Journal.{Snapshot, Journal, gain, opened, contents_after, graph_after, snapshot_after}
 use Rattle.model_journal.proofs.PlaceLaws.{past-append}
-use Rattle.model_messages.proofs.MessageLaws.{gained-length, gained-at}
+use Rattle.model_graph.proofs.MessageLaws.{gained-length, gained-at}
 use Rattle.model_journal.proofs.GainLaws.{gain-grows, gain-ordered, gain-wider}
 use Rattle.model_journal.proofs.GraphLaws.{graph-keeps, graph-longer}
 

@@ -5,7 +5,7 @@ use Rattle.model_states.specs.Content.{Content, least, is_content_at_most}
 use Rattle.model_states.specs.Update.{delta}
 use Rattle.model_graph.specs.Graph.{Decl, kind_at, is_source}
 use Rattle.model_graph.specs.Evaluation.{least_of, content_at, equation}
-use Rattle.model_messages.specs.Message.{brought, gained}
+use Rattle.model_graph.specs.Message.{brought, gained}
 use Rattle.model_journal.specs.Entry.{Act, Update, Deliver, Bind, Extend, Entry, Frame}
 
 -- what stands after some entries: the graph, the content of each variable, the counts, and how often each variable grew

@@ -14,7 +14,7 @@ use Rattle.model_states.specs.Register.{FitsTop}
 use Rattle.model_graph.specs.Graph.{Kind, OrSet, GSet, Counter, MaxReg, Decl, is_source, kind_at}
 use Rattle.model_graph.specs.Evaluation.{content_at}
 use Rattle.model_graph.specs.Lawful.{width_at, widths, MayFollow, IsGraph, IsDerived, sources_among, shape_of}
-use Rattle.model_messages.specs.Message.{Sent}
+use Rattle.model_graph.specs.Message.{Sent}
 use Rattle.model_journal.specs.Entry.{Act, Update, Deliver, Bind, Extend, Entry, Frame}
 use Rattle.model_journal.specs.Journal.{Journal, Snapshot, snapshot_at, next, start}
 

@@ -1,6 +1,6 @@
 -- The message that a replica may send: what it knows, with its sources in their order.
 use Rattle.std.specs.Prelude.{List}
-use Rattle.model_messages.specs.Message.{Message, message_of}
+use Rattle.model_graph.specs.Message.{Message, message_of}
 use Rattle.model_journal.specs.Entry.{Entry, Frame}
 use Rattle.model_journal.specs.Journal.{graph, vals, counts}
 

@@ -7,7 +7,7 @@ ghost use Rattle.model_states.specs.Update.{Op, delta};
 ghost use Rattle.model_graph.specs.Graph.{Decl, is_source, kind_at};
 ghost use Rattle.model_graph.specs.Evaluation.{least_of, equation};
 ghost use Rattle.model_graph.specs.Lawful.{IsDerived};
-ghost use Rattle.model_messages.specs.Message.{Message, sent_at, source_number};
+ghost use Rattle.model_graph.specs.Message.{Message, sent_at, source_number};
 ghost use Rattle.model_journal.specs.Entry.{Update, Deliver, Bind, Extend, Entry, Frame};
 ghost use Rattle.model_journal.specs.Journal.{graph, vals, val, counts, declared};
 ghost use Rattle.model_journal.specs.Clean.{version};

@@ -2,7 +2,7 @@
 
 ghost use Rattle.std.specs.Prelude.{◌≡◌, ℕ, ◌<◌, IsTrue, List, ◌++◌, length};
 ghost use Rattle.model_graph.specs.Graph.{Decl, is_source, kind_at};
-ghost use Rattle.model_messages.specs.Message.{sent_at, source_number};
+ghost use Rattle.model_graph.specs.Message.{sent_at, source_number};
 ghost use Rattle.model_journal.specs.Entry.{Deliver, Entry, Frame};
 ghost use Rattle.model_journal.specs.Journal.{journal, graph, val};
 ghost use Rattle.model_journal.specs.Message.{message};

@@ -8,8 +8,8 @@ use Rattle.model_graph.specs.Graph.{Kind, Decl, is_source, no_decl, kind_at}
 use Rattle.model_graph.specs.Evaluation.{content_at, least_of}
 use Rattle.model_graph.proofs.PlaceLaws.{below-or-not, from-nothing, at-append, at-last, length-push}
 use Rattle.model_graph.proofs.LeastLaws.{least_of-ordered}
-use Rattle.model_messages.specs.Message.{Message, message_of, source_number, sent_at, brought, gained, with_gain}
-use Rattle.model_messages.proofs.MessageLaws.{sent-is, sent-past, sent-length, number-append, number-rises, gained-length, gained-at}
+use Rattle.model_graph.specs.Message.{Message, message_of, source_number, sent_at, brought, gained, with_gain}
+use Rattle.model_graph.proofs.MessageLaws.{sent-is, sent-past, sent-length, number-append, number-rises, gained-length, gained-at}
 use Rattle.model_known.specs.Delta.{Delta, first_deltas, brought_to, known}
 use Rattle.model_known.specs.Holds.{Holds, Carries, Keeps}
 use Rattle.model_known.specs.Known.{Each, IsOfSource}

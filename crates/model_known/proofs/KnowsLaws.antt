@@ -8,7 +8,7 @@ use Rattle.model_graph.specs.Graph.{Decl, is_source, no_decl, kind_at}
 use Rattle.model_graph.specs.Evaluation.{content_at, least_of}
 use Rattle.model_graph.proofs.PlaceLaws.{below-or-not, at-past, at-push, at-set, at-map-low, at-replicate, length-replicate, set-length, map-length}
 use Rattle.model_graph.proofs.LeastLaws.{least_of-ordered}
-use Rattle.model_messages.specs.Message.{Message, source_number, sent_at, sent_from}
+use Rattle.model_graph.specs.Message.{Message, source_number, sent_at, sent_from}
 use Rattle.model_world.specs.World.{Peer, fresh_peer, no_peer, peer_at, delivered, extended, message_at, no_message, sent_number}
 use Rattle.model_known.specs.Delta.{Delta, deltas_at, first_deltas, brought_to, join_all}
 use Rattle.model_known.specs.Holds.{Holds, Carries}

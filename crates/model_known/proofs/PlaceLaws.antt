@@ -8,7 +8,7 @@ use Rattle.model_states.proofs.CountLaws.{larger-commutative, larger-at_most}
 use Rattle.model_graph.specs.Graph.{Decl}
 use Rattle.model_graph.specs.Evaluation.{content_at}
 use Rattle.model_graph.proofs.PlaceLaws.{same-lists, length-push}
-use Rattle.model_messages.specs.Message.{Message}
+use Rattle.model_graph.specs.Message.{Message}
 use Rattle.model_world.specs.Command.{Command}
 use Rattle.model_world.specs.World.{Peer, Act, Update, Keep, Post, Take, Point, Show, Open, Reach, Extend, peer_at, sent_number, delivered, acts}
 use Rattle.model_known.specs.Delta.{Delta, known, known_contents}

@@ -6,7 +6,7 @@ use Rattle.model_states.specs.Update.{Op, Join}
 use Rattle.model_graph.specs.Graph.{Decl, is_source, kind_at}
 use Rattle.model_graph.specs.Evaluation.{content_at}
 use Rattle.model_graph.proofs.PlaceLaws.{below-or-not, at-append, at-last, length-push}
-use Rattle.model_messages.specs.Message.{Message}
+use Rattle.model_graph.specs.Message.{Message}
 use Rattle.model_world.specs.World.{Peer, Marked, Act, Update, Keep, Post, Take, Point, Show, Open, Reach, Extend, fresh_peer, peer_at, updated, delivered, extended, message_at, sent_number, no_mark, mark_at}
 use Rattle.model_known.specs.Delta.{Delta, deltas_at}
 use Rattle.model_known.specs.Follow.{Followed, delta_of, begin}

@@ -7,7 +7,7 @@ use Rattle.model_states.proofs.ContentLaws.{ordered-join}
 use Rattle.model_graph.specs.Graph.{Decl, kind_at}
 use Rattle.model_graph.specs.Evaluation.{content_at, least_of}
 use Rattle.model_graph.proofs.PlaceLaws.{below-or-not, at-past, at-set, set-length, length-push}
-use Rattle.model_messages.specs.Message.{Message}
+use Rattle.model_graph.specs.Message.{Message}
 use Rattle.model_known.specs.Delta.{Delta, deltas_at, first_deltas, brought_to, join_all, known}
 use Rattle.model_known.specs.Holds.{AreMade, Holds, Carries, Keeps}
 use Rattle.model_known.proofs.MeasureLaws.{IsMeasure, same_from_measures, measure-all, one, total-own, first-kept}

@@ -4,7 +4,7 @@ use Rattle.model_states.specs.Counts.{count_at}
 use Rattle.model_states.specs.Content.{Content, join_contents}
 use Rattle.model_graph.specs.Graph.{Decl, is_source, kind_at}
 use Rattle.model_graph.specs.Evaluation.{content_at, least_of}
-use Rattle.model_messages.specs.Message.{Message, source_number, sent_at}
+use Rattle.model_graph.specs.Message.{Message, source_number, sent_at}
 use Rattle.model_world.specs.Command.{Command}
 use Rattle.model_world.specs.Lawful.{opening_stage, AreLawful}
 use Rattle.model_known.specs.Delta.{Delta, deltas_at, known}

@@ -2,7 +2,7 @@
 use Rattle.std.specs.Prelude.{◌≡◌, ℕ, ◌<◌, IsTrue, List, [], ◌∷◌, length}
 use Rattle.model_states.specs.Counts.{count_at}
 use Rattle.model_graph.specs.Graph.{Decl, is_source, kind_at}
-use Rattle.model_messages.specs.Message.{Message}
+use Rattle.model_graph.specs.Message.{Message}
 use Rattle.model_world.specs.World.{Peer, peer_at, sent_number}
 use Rattle.model_known.specs.Delta.{Delta, deltas_at}
 use Rattle.model_known.specs.Holds.{Holds, Carries}

@@ -6,7 +6,7 @@ ghost use Rattle.model_states.specs.Content.{join_contents};
 ghost use Rattle.model_states.specs.Update.{Op, delta};
 ghost use Rattle.model_graph.specs.Graph.{Decl, is_source, kind_at};
 ghost use Rattle.model_graph.specs.Evaluation.{content_at};
-ghost use Rattle.model_messages.specs.Message.{Message, source_number, sent_at};
+ghost use Rattle.model_graph.specs.Message.{Message, source_number, sent_at};
 ghost use Rattle.model_world.specs.World.{Peer, Run, Act, Update, peer_at, sent_number, start, act};
 ghost use Rattle.model_known.specs.Delta.{Delta, deltas_at};
 ghost use Rattle.model_known.specs.Known.{IsKnown};

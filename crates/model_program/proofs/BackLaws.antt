@@ -7,7 +7,7 @@ use Rattle.model_functions.specs.Library.{Library}
 use Rattle.model_graph.specs.Chain.{◌>>=◌, check}
 use Rattle.model_graph.specs.Evaluation.{eval, first_large}
 use Rattle.model_graph.specs.Graph.{Decl, name_at}
-use Rattle.model_messages.specs.Message.{Message}
+use Rattle.model_graph.specs.Message.{Message}
 use Rattle.model_world.specs.Command.{Script}
 use Rattle.model_world.specs.Report.{report_of}
 use Rattle.model_world.specs.World.{Run, ended}

@@ -7,7 +7,7 @@ use Rattle.std.proofs.lemmas.Slice.Eq.{bytes_eq-Decides}
 use Rattle.model_states.specs.Counts.{larger}
 use Rattle.model_states.proofs.CountLaws.{length-larger, length-zeros}
 use Rattle.model_graph.specs.Graph.{Kind, OrSet, GSet, Counter, MaxReg, Union, Product, Intersection, Map, Filter, Fold, Decl, is_source}
-use Rattle.model_messages.specs.Message.{Message}
+use Rattle.model_graph.specs.Message.{Message}
 use Rattle.model_world.specs.World.{Peer, fresh_peer, delivered}
 use Rattle.model_readings.specs.Graph.{declaration}
 use Rattle.model_program.specs.Plan.{Says, exactly}

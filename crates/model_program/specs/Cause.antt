@@ -3,7 +3,7 @@ use Rattle.std.specs.Prelude.{◌≡◌, ◌<◌, ◌≤◌, ◌+◌, ◌++◌, 
 use Rattle.model_functions.specs.Library.{Library}
 use Rattle.model_graph.specs.Evaluation.{eval, first_large}
 use Rattle.model_graph.specs.Graph.{Decl, name_at}
-use Rattle.model_messages.specs.Message.{Message}
+use Rattle.model_graph.specs.Message.{Message}
 use Rattle.model_world.specs.Command.{Script}
 use Rattle.model_world.specs.Report.{report_of}
 use Rattle.model_deltas.specs.Gossip.{Gossip, gossiped, gossip_output}

@@ -6,7 +6,7 @@ use Rattle.model_states.specs.Content.{Content}
 use Rattle.model_graph.specs.Chain.{◌>>=◌, check, refusing}
 use Rattle.model_graph.specs.Graph.{Kind, OrSet, GSet, Counter, MaxReg, Decl, is_source, name_at}
 use Rattle.model_graph.specs.Evaluation.{content_at, eval, first_large}
-use Rattle.model_messages.specs.Message.{Message}
+use Rattle.model_graph.specs.Message.{Message}
 use Rattle.model_wire.specs.Message.{decoded}
 use Rattle.model_wire.specs.declared.wire_why.WireWhy.{WireWhy}
 use Rattle.model_world.specs.Line.{line, shown_content}

@@ -6,7 +6,7 @@ use Rattle.std.specs.Str.Parse.{digits_value}
 use Rattle.model_functions.specs.Library.{Library}
 use Rattle.model_graph.specs.Graph.{Decl, name_at}
 use Rattle.model_graph.specs.Chain.{◌>>=◌, check, refusing}
-use Rattle.model_messages.specs.Spelling.{spelled}
+use Rattle.model_graph.specs.Spelling.{spelled}
 use Rattle.model_world.specs.Command.{Script}
 use Rattle.model_world.specs.World.{Run, ended, message_at, peer_at}
 use Rattle.model_world.specs.Report.{report_of}

@@ -7,9 +7,9 @@ use Rattle.model_states.specs.Update.{Op, delta}
 use Rattle.model_graph.specs.Graph.{Decl, is_source, kind_at}
 use Rattle.model_graph.specs.Evaluation.{least_of, content_at}
 use Rattle.model_graph.specs.Lawful.{width_at, widths, sources_among}
-use Rattle.model_messages.specs.Message.{Message, message_of, sent_from, gained, brought}
+use Rattle.model_graph.specs.Message.{Message, message_of, sent_from, gained, brought}
 use Rattle.model_graph.proofs.WidthLaws.{width-source}
-use Rattle.model_messages.proofs.MessageLaws.{sent-among}
+use Rattle.model_graph.proofs.MessageLaws.{sent-among}
 use Rattle.model_world.specs.World.{Peer, updated, delivered, extended, message_at}
 use Rattle.model_journal.specs.Entry.{Update, Deliver, Extend, Entry, Frame}
 use Rattle.model_journal.specs.Journal.{Journal, graph, vals, val, counts}

@@ -7,8 +7,8 @@ use Rattle.model_graph.specs.Graph.{Kind, Decl, is_source, kind_at}
 use Rattle.model_graph.specs.Evaluation.{least_of, content_at, first_large}
 use Rattle.model_graph.specs.Lawful.{MayFollow, sources_among, shape_of}
 use Rattle.model_graph.proofs.PlaceLaws.{below-or-not, at-append, at-last, at-past, at-set, set-length, at-map-low, length-push}
-use Rattle.model_messages.specs.Message.{Message}
-use Rattle.model_messages.proofs.MessageLaws.{among-append}
+use Rattle.model_graph.specs.Message.{Message}
+use Rattle.model_graph.proofs.MessageLaws.{among-append}
 use Rattle.model_world.specs.World as world
 use Rattle.model_world.specs.World.{Peer, Run, peer_at, updated, delivered, extended, message_at, no_message, sent_number, no_mark, mark_at, no_peer, act}
 use Rattle.model_known.specs.Delta.{Delta, deltas_at}

@@ -11,8 +11,8 @@ use Rattle.model_graph.specs.Evaluation.{content_at, first_large, least_of}
 use Rattle.model_graph.specs.Graph.{Decl}
 use Rattle.model_graph.proofs.EvalLaws.{eval-length}
 use Rattle.model_graph.proofs.PlaceLaws.{length-append, length-push, map-length, set-length}
-use Rattle.model_messages.specs.Message.{brought}
-use Rattle.model_messages.proofs.MessageLaws.{gained-length}
+use Rattle.model_graph.specs.Message.{brought}
+use Rattle.model_graph.proofs.MessageLaws.{gained-length}
 use Rattle.model_world.specs.Command as command
 use Rattle.model_world.specs.Command.{Command, Script}
 use Rattle.model_world.specs.Lawful.{Stage, opening_stage, stage_after, MayBeDone, AreLawful, IsLawful}

@@ -6,7 +6,7 @@ use Rattle.model_states.specs.Update.{Op, Add, Remove, Insert, Inc, Max, Join}
 use Rattle.model_graph.specs.Graph.{Decl, OrSet, GSet, Counter, MaxReg, is_source, kind_at}
 use Rattle.model_graph.specs.Evaluation.{content_at, least_of}
 use Rattle.model_graph.specs.Lawful.{sources_among}
-use Rattle.model_messages.specs.Message.{Message, Sent}
+use Rattle.model_graph.specs.Message.{Message, Sent}
 use Rattle.model_world.specs.World.{Peer}
 use Rattle.model_wire.specs.Lawful.{IsSource, IsSourceValue}
 

@@ -4,7 +4,7 @@ use Rattle.model_states.specs.Content.{Content, join_contents}
 use Rattle.model_graph.specs.Graph.{Decl, is_source, kind_at}
 use Rattle.model_graph.specs.Evaluation.{content_at}
 use Rattle.model_graph.specs.Lawful.{sources_among}
-use Rattle.model_messages.specs.Message.{Message, Sent, source_number, sent_at}
+use Rattle.model_graph.specs.Message.{Message, Sent, source_number, sent_at}
 
 -- the message's sources are the first of the graph's
 abbrev pub IsBeginning : Message → List Decl → Type 0

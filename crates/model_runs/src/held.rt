@@ -9,7 +9,7 @@ ghost use Rattle.model_graph.specs.Evaluation.{content_at, first_large};
 ghost use Rattle.model_graph.specs.Graph.{Kind, Decl};
 ghost use Rattle.model_graph.specs.Lawful.{shape_of};
 ghost use Rattle.model_graph.specs.Width.{HasWidth};
-ghost use Rattle.model_messages.specs.Message.{Message};
+ghost use Rattle.model_graph.specs.Message.{Message};
 ghost use Rattle.model_readings.specs.Lawful.{IsGraph};
 ghost use Rattle.model_wire.specs.Lawful.{IsSource, IsMessage};
 ghost use Rattle.model_world.specs.World.{Peer, fresh_peer, updated, delivered, extended, message_at};

@@ -6,8 +6,8 @@ use Rattle.model_functions.specs.Library.{Library}
 use Rattle.model_graph.specs.Chain.{◌>>=◌, check, refusing}
 use Rattle.model_graph.specs.Evaluation.{content_at, first_large}
 use Rattle.model_graph.specs.Graph.{Decl, name_at}
-use Rattle.model_messages.specs.Message.{Message}
-use Rattle.model_messages.specs.Spelling.{spelled}
+use Rattle.model_graph.specs.Message.{Message}
+use Rattle.model_graph.specs.Spelling.{spelled}
 use Rattle.model_readings.specs.Graph.{graph_of}
 use Rattle.model_scripts.specs.Script.{script_of}
 use Rattle.model_scripts.specs.declared.script_why.ScriptWhy.TheVariants.{NoSuchNode}

@@ -14,7 +14,7 @@ use Rattle.model_graph.specs.Lawful.{IsGraph}
 use Rattle.model_graph.proofs.EvalLaws.{eval-monotone}
 use Rattle.model_graph.proofs.PlaceLaws.{at-set}
 use Rattle.model_journal.proofs.GainLaws.{gain-grows}
-use Rattle.model_messages.specs.Message.{Message, gained, brought}
+use Rattle.model_graph.specs.Message.{Message, gained, brought}
 use Rattle.model_world.specs.Command.{Command}
 use Rattle.model_world.specs.World.{Peer, fresh_peer, sent_number, updated, delivered, message_at, shown_at}
 use Rattle.model_program.specs.Merge.{taking}

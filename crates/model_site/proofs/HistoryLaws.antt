@@ -9,7 +9,7 @@ use Rattle.model_states.specs.Content.{Content, IsContentAtMost, least}
 use Rattle.model_graph.specs.Evaluation.{content_at, least_of}
 use Rattle.model_graph.specs.Graph.{Decl, OrSet, GSet, Counter, MaxReg, is_source, kind_at, no_decl}
 use Rattle.model_graph.proofs.PlaceLaws.{at-set, set-length, at-replicate, length-replicate, map-length, at-map-low}
-use Rattle.model_messages.specs.Message.{Message}
+use Rattle.model_graph.specs.Message.{Message}
 use Rattle.model_known.specs.Delta.{Delta, deltas_at, first_deltas, brought_to, join_all, known_contents}
 use Rattle.model_known.specs.Follow.{Followed, begin, delta_of}
 use Rattle.model_known.specs.Holds.{Holds, Carries}

@@ -8,7 +8,7 @@ use Rattle.model_states.specs.Update.{Op}
 use Rattle.model_states.proofs.CountLaws.{count_at-larger, count_at-set, length-larger, length-zeros}
 use Rattle.model_graph.specs.Graph.{Decl}
 use Rattle.model_graph.proofs.PlaceLaws.{set-length}
-use Rattle.model_messages.specs.Message.{Message}
+use Rattle.model_graph.specs.Message.{Message}
 use Rattle.model_scripts.proofs.Reached.{accepted-script_of}
 use Rattle.model_world.specs.Command.{Command, Script}
 use Rattle.model_world.specs.Lawful.{opening_stage, AreLawful}

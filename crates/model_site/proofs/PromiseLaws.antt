@@ -5,8 +5,8 @@ use Rattle.model_functions.specs.Library.{Library}
 use Rattle.model_graph.specs.Chain.{◌>>=◌}
 use Rattle.model_graph.specs.Evaluation.{first_large}
 use Rattle.model_graph.specs.Graph.{Decl}
-use Rattle.model_messages.specs.Message.{Message}
-use Rattle.model_messages.specs.Spelling.{spelled}
+use Rattle.model_graph.specs.Message.{Message}
+use Rattle.model_graph.specs.Spelling.{spelled}
 use Rattle.model_readings.specs.Graph.{graph_of}
 use Rattle.model_scripts.specs.Script.{script_of}
 use Rattle.model_world.specs.Command.{Script}

@@ -11,7 +11,7 @@ use Rattle.model_graph.specs.Chain.{◌>>=◌, check}
 use Rattle.model_graph.specs.Evaluation.{content_at, first_large}
 use Rattle.model_graph.specs.Graph.{Decl, name_at}
 use Rattle.model_graph.proofs.PlaceLaws.{at-set, set-length, at-replicate, length-replicate, length-push}
-use Rattle.model_messages.specs.Message.{Message}
+use Rattle.model_graph.specs.Message.{Message}
 use Rattle.model_world.specs.Command.{Command}
 use Rattle.model_world.specs.World.{Peer, Run, Act, Update, Take, fresh_peer, no_peer, peer_at, sent_number, updated, delivered, shown_at, with_peer, stop_from, checked_update, checked_delivery, act, acts, each, step}
 use Rattle.model_world.specs.declared.stop.Stop.{Stop}

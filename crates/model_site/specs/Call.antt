@@ -3,8 +3,8 @@ use Rattle.std.specs.Prelude.{◌≡◌, ◌≢◌, ◌<◌, ◌⊎◌, ℕ, Lis
 use Rattle.std.specs.List.{AllByRecursion}
 use Rattle.model_functions.specs.Library.{Library}
 use Rattle.model_graph.specs.Graph.{Decl}
-use Rattle.model_messages.specs.Message.{Message}
-use Rattle.model_messages.specs.Spelling.{spelled}
+use Rattle.model_graph.specs.Message.{Message}
+use Rattle.model_graph.specs.Spelling.{spelled}
 use Rattle.model_values.specs.Faults.{Rose}
 use Rattle.model_values.specs.Told.{Appends, AppendsPrefix}
 use Rattle.model_world.specs.Command.{Script}

@@ -2,8 +2,8 @@
 use Rattle.std.specs.Prelude.{◌≡◌, ℕ, ◌+◌, ◌<◌, ◌==◌, if◌then◌else◌, List, [], ◌∷◌, ◌++◌, length, map, replicate, slice_index_or, slice_set, Option, Some, None, Ok}
 use Rattle.std.specs.List.{AllByRecursion}
 use Rattle.model_graph.specs.Graph.{Decl}
-use Rattle.model_messages.specs.Message.{Message}
-use Rattle.model_messages.specs.Spelling.{spelled}
+use Rattle.model_graph.specs.Message.{Message}
+use Rattle.model_graph.specs.Spelling.{spelled}
 use Rattle.model_known.specs.Delta.{Delta, deltas_at}
 use Rattle.model_known.specs.Follow.{delta_of}
 use Rattle.model_states.specs.Update.{Op}

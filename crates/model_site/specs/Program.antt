@@ -3,7 +3,7 @@ use Rattle.std.specs.Prelude.{ℕ, ◌+◌, ◌-◌, zero, suc, ◌&&◌, nat_lt
 use Rattle.model_functions.specs.Library.{Library}
 use Rattle.model_graph.specs.Chain.{◌>>=◌, check}
 use Rattle.model_graph.specs.Graph.{Decl}
-use Rattle.model_messages.specs.Spelling.{spelled}
+use Rattle.model_graph.specs.Spelling.{spelled}
 use Rattle.model_readings.specs.Graph.{graph_of}
 use Rattle.model_readings.specs.declared.graph_why.GraphWhy.{GraphWhy}
 use Rattle.model_scripts.specs.Script.{script_of}

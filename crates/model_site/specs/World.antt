@@ -4,7 +4,7 @@ use Rattle.std.specs.List.{range_with_len}
 use Rattle.model_graph.specs.Chain.{◌>>=◌}
 use Rattle.model_graph.specs.Graph.{Decl}
 use Rattle.model_graph.specs.Evaluation.{first_large}
-use Rattle.model_messages.specs.Message.{Message}
+use Rattle.model_graph.specs.Message.{Message}
 use Rattle.model_world.specs.Command.{Command}
 use Rattle.model_world.specs.World.{Run, Take, fresh_peer, peer_at, shown_at, each, step}
 use Rattle.model_world.specs.declared.stop.Stop.{Stop}

@@ -3,7 +3,7 @@
 ghost use Rattle.std.specs.Prelude.{◌≡◌, ℕ, List, Option, Some};
 ghost use Rattle.model_functions.specs.Library.{Library};
 ghost use Rattle.model_graph.specs.Graph.{Decl};
-ghost use Rattle.model_messages.specs.Message.{Message};
+ghost use Rattle.model_graph.specs.Message.{Message};
 ghost use Rattle.model_world.specs.Command.{Script};
 ghost use Rattle.model_site.specs.Call.{TellsSite};
 ghost use Rattle.model_site.specs.Cause.{HasCause};

@@ -10,7 +10,7 @@ use Rattle.model_values.specs.Size.{leaves, text_bytes}
 use Rattle.model_values.specs.Token.{Tok}
 use Rattle.model_values.specs.Row.{Row}
 use Rattle.model_values.proofs.SizeLaws.{leaves-some}
-use Rattle.model_messages.specs.Spelling.{spelled_value}
+use Rattle.model_graph.specs.Spelling.{spelled_value}
 use Rattle.model_wire.specs.declared.wire_why.WireWhy.{WireWhy}
 use Rattle.model_wire.specs.declared.wire_why.WireWhy.TheVariants as why
 use Rattle.model_wire.specs.Reader.{Reading, Reader, bytes_at, tested, both_at, counted, made, number_at, between, ranged_at, kind_at}

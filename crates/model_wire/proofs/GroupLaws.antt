@@ -9,7 +9,7 @@ use Rattle.std.proofs.lemmas.List.{length-append, length-map}
 use Rattle.model_values.specs.Value.{Val, val_cmp, val_total, val_exact}
 use Rattle.model_values.specs.Token.{Tok, tok_cmp}
 use Rattle.model_values.specs.Row.{Row, row_cmp}
-use Rattle.model_messages.specs.Spelling.{Group, with_row, groups_of, spelled_value, spelled_group, spelled_rows}
+use Rattle.model_graph.specs.Spelling.{Group, with_row, groups_of, spelled_value, spelled_group, spelled_rows}
 use Rattle.model_wire.specs.declared.wire_why.WireWhy.TheVariants as why
 use Rattle.model_wire.specs.Reader.{both_at, counted, list_at, ranged_at}
 use Rattle.model_wire.specs.Value.{value_at, token_at, is_above, mark_cmp, latest}

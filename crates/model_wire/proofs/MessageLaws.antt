@@ -7,8 +7,8 @@ use Rattle.std.proofs.lemmas.List.{nil_from_length}
 use Rattle.model_graph.specs.Chain.{◌>>=◌}
 use Rattle.model_graph.specs.Graph.{Kind, OrSet, GSet, Counter, MaxReg, Union, Product, Intersection, Map, Filter, Fold}
 use Rattle.model_states.specs.Content.{Content}
-use Rattle.model_messages.specs.Message.{Sent, Message}
-use Rattle.model_messages.specs.Spelling.{number, spelled_counts, spelled_content, spelled_source, spelled}
+use Rattle.model_graph.specs.Message.{Sent, Message}
+use Rattle.model_graph.specs.Spelling.{number, spelled_counts, spelled_content, spelled_source, spelled}
 use Rattle.model_wire.specs.declared.wire_why.WireWhy.{WireWhy}
 use Rattle.model_wire.specs.declared.wire_why.WireWhy.TheVariants as why
 use Rattle.model_wire.specs.Reader.{Reading, Reader, tested, paired, both_at, counted, list_at, number_at, ranged_at, magic_at}

@@ -4,7 +4,7 @@ use Rattle.std.specs.Int.{w8, w64, to_be_bytes}
 use Rattle.model_values.specs.Value.{Val}
 use Rattle.model_values.specs.Token.{Tok, single, both}
 use Rattle.model_values.specs.Row.{Row}
-use Rattle.model_messages.specs.Spelling.{number, truth, spelled_value, spelled_token}
+use Rattle.model_graph.specs.Spelling.{number, truth, spelled_value, spelled_token}
 use Rattle.model_wire.specs.Reader.{both_at, ranged_at, kind_at}
 use Rattle.model_wire.specs.Value.{value_at, token_parts_at, token_made, token_at, row_made, row_at}
 use Rattle.model_wire.specs.Spelling.{spelled_row}

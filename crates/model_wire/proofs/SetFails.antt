@@ -12,7 +12,7 @@ use Rattle.model_values.specs.Row.{Row, Key, key_cmp, key_total}
 use Rattle.model_values.proofs.ListLaws.{each-push}
 use Rattle.model_sets.specs.Rows.{IsAscending}
 use Rattle.model_sets.specs.Values.{AreAscending}
-use Rattle.model_messages.specs.Spelling.{Group, spelled_value, spelled_group}
+use Rattle.model_graph.specs.Spelling.{Group, spelled_value, spelled_group}
 use Rattle.model_wire.specs.declared.wire_why.WireWhy.TheVariants as why
 use Rattle.model_wire.specs.Reader.{Reader, tested, both_at, counted, list_at, ranged_at}
 use Rattle.model_wire.specs.Value.{value_at, token_at, row_at, is_above, latest}

@@ -5,7 +5,7 @@ use Rattle.std.specs.FinMap.Entries.{is_sorted}
 use Rattle.std.proofs.lemmas.List.{map-id}
 use Rattle.model_values.specs.Value.{Val, val_cmp, val_total}
 use Rattle.model_values.specs.Row.{Row, Key, row_cmp, key_cmp, key_total}
-use Rattle.model_messages.specs.Spelling.{spelled_value, spelled_values}
+use Rattle.model_graph.specs.Spelling.{spelled_value, spelled_values}
 use Rattle.model_wire.specs.declared.wire_why.WireWhy.TheVariants as why
 use Rattle.model_wire.specs.Reader.{list_at, ranged_at}
 use Rattle.model_wire.specs.Value.{value_at, row_at, is_above, latest}

@@ -8,7 +8,7 @@ use Rattle.model_values.specs.Value.{Val}
 use Rattle.model_values.specs.Row.{Row}
 use Rattle.model_values.specs.Name.{is_name}
 use Rattle.model_states.specs.Counts.{count_max}
-use Rattle.model_messages.specs.Message.{Sent, Message}
+use Rattle.model_graph.specs.Message.{Sent, Message}
 use Rattle.model_wire.specs.declared.wire_why.WireWhy.{WireWhy}
 use Rattle.model_wire.specs.declared.wire_why.WireWhy.TheVariants as why
 use Rattle.model_wire.specs.Reader.{Reading, Reader, bytes_at, nothing_at, tested, both_at, counted, made, list_at, number_at, magic_at}

@@ -9,8 +9,8 @@ use Rattle.model_values.specs.Row.{Row}
 use Rattle.model_states.specs.Counts.{count_max}
 use Rattle.model_states.specs.Content.{Content, of_set, of_grow, of_counts, of_top}
 use Rattle.model_graph.specs.Graph.{Kind, OrSet, GSet, Counter, MaxReg, Union, Product, Intersection, Map, Filter, Fold}
-use Rattle.model_messages.specs.Message.{Sent}
-use Rattle.model_messages.specs.Spelling.{signed_number, spelled_values, spelled_rows, spelled_counts, spelled_top}
+use Rattle.model_graph.specs.Message.{Sent}
+use Rattle.model_graph.specs.Spelling.{signed_number, spelled_values, spelled_rows, spelled_counts, spelled_top}
 use Rattle.model_values.specs.Name.{is_name}
 use Rattle.model_wire.specs.declared.wire_why.WireWhy.TheVariants as why
 use Rattle.model_wire.specs.Reader.{bytes_at, nothing_at, tested, both_at, counted, made, list_at, ranged_at, kind_at}

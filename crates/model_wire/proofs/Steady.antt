@@ -8,8 +8,8 @@ use Rattle.model_values.specs.Value.{Val, val_cmp}
 use Rattle.model_values.specs.Token.{Tok}
 use Rattle.model_values.specs.Row.{Row, row_cmp}
 use Rattle.model_graph.specs.Chain.{◌>>=◌}
-use Rattle.model_messages.specs.Message.{Sent, Message}
-use Rattle.model_messages.specs.Spelling.{Group}
+use Rattle.model_graph.specs.Message.{Sent, Message}
+use Rattle.model_graph.specs.Spelling.{Group}
 use Rattle.model_values.specs.Name.{is_name}
 use Rattle.model_states.specs.Counts.{count_max}
 use Rattle.model_wire.specs.declared.wire_why.WireWhy.{WireWhy}

@@ -7,7 +7,7 @@ use Rattle.std.proofs.lemmas.Int.{to_z-of_z, of_z-to_z}
 use mir.ValLaws.{to_z-Fits, of_z_fits}
 use Rattle.model_values.specs.Value.{Val, int, text, pair}
 use Rattle.model_values.specs.Size.{leaves, text_bytes}
-use Rattle.model_messages.specs.Spelling.{signed_number, spelled_value}
+use Rattle.model_graph.specs.Spelling.{signed_number, spelled_value}
 use Rattle.std.proofs.lemmas.Bool.{and_parts, and_from, leb-true, le-leb, eqb-true, eqb-false, ne_eqb}
 use Rattle.model_values.proofs.SizeLaws.{leaves-some}
 use Rattle.model_wire.specs.declared.wire_why.WireWhy.TheVariants as why

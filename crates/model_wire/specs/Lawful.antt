@@ -12,7 +12,7 @@ use Rattle.model_states.specs.Counts.{count_max}
 use Rattle.model_states.specs.Content.{Content, of_set, of_grow, of_counts, of_top}
 use Rattle.model_states.specs.Register.{FitsTop}
 use Rattle.model_graph.specs.Graph.{Kind, OrSet, GSet, Counter, MaxReg}
-use Rattle.model_messages.specs.Message.{Sent, Message}
+use Rattle.model_graph.specs.Message.{Sent, Message}
 use Rattle.model_values.specs.Name.{is_name}
 use Rattle.model_wire.specs.Message.{is_version}
 use Rattle.model_wire.specs.Spelling.{spelled_in}

@@ -8,8 +8,8 @@ use Rattle.model_states.specs.Counts.{count_max}
 use Rattle.model_states.specs.Content.{Content, of_set, of_grow, of_counts, of_top}
 use Rattle.model_graph.specs.Chain.{◌>>=◌}
 use Rattle.model_graph.specs.Graph.{Kind, OrSet, GSet, Counter, MaxReg}
-use Rattle.model_messages.specs.Message.{Sent, Message}
-use Rattle.model_messages.specs.Spelling.{Group}
+use Rattle.model_graph.specs.Message.{Sent, Message}
+use Rattle.model_graph.specs.Spelling.{Group}
 use Rattle.model_values.specs.Name.{is_name}
 use Rattle.model_wire.specs.declared.wire_why.WireWhy.{WireWhy}
 use Rattle.model_wire.specs.declared.wire_why.WireWhy.TheVariants as why

@@ -1,6 +1,6 @@
 -- Bytes that go on behind a message.
 use Rattle.std.specs.Prelude.{◌≡◌, ◌≢◌, ◌++◌, ℕ, true, List, [], length}
-use Rattle.model_messages.specs.Message.{Message}
+use Rattle.model_graph.specs.Message.{Message}
 use Rattle.model_wire.specs.Message.{is_version}
 use Rattle.model_wire.specs.Spelling.{spelled_in}
 use Rattle.model_wire.specs.Lawful.{IsMessage}

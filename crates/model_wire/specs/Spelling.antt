@@ -3,8 +3,8 @@ use Rattle.std.specs.Prelude.{ℕ, ◌++◌, ◌==◌, List, [], ◌∷◌, leng
 use Rattle.model_values.specs.Row.{Row}
 use Rattle.model_states.specs.Content.{Content}
 use Rattle.model_graph.specs.Graph.{Kind, OrSet}
-use Rattle.model_messages.specs.Message.{Sent, Message}
-use Rattle.model_messages.specs.Spelling.{number, truth, spelled_value, spelled_token, spelled_rows, spelled_content}
+use Rattle.model_graph.specs.Message.{Sent, Message}
+use Rattle.model_graph.specs.Spelling.{number, truth, spelled_value, spelled_token, spelled_rows, spelled_content}
 
 -- a row with its value
 abbrev pub spelled_row : Row → List ℕ

@@ -10,7 +10,7 @@ use Rattle.model_values.specs.Name.{is_name}
 use Rattle.model_sets.specs.Rows.{IsAscending}
 use Rattle.model_sets.specs.Values.{AreAscending}
 use Rattle.model_states.specs.Counts.{count_max}
-use Rattle.model_messages.specs.Spelling.{Group, number, truth, spelled_value, spelled_token, spelled_group, spelled_counts}
+use Rattle.model_graph.specs.Spelling.{Group, number, truth, spelled_value, spelled_token, spelled_group, spelled_counts}
 use Rattle.model_wire.specs.declared.wire_why.WireWhy.{WireWhy}
 use Rattle.model_wire.specs.declared.wire_why.WireWhy.TheVariants.{Short, Magic, Kind, Order, Text, Range, Rest}
 use Rattle.model_wire.specs.Message.{is_version}

@@ -1,8 +1,8 @@
 //! The laws of messages as bytes. Each is the contract of a function that does nothing.
 
 ghost use Rattle.std.specs.Prelude.{◌≡◌, ℕ, ◌≤◌, ◌++◌, [], true, List, length, Ok, Err};
-ghost use Rattle.model_messages.specs.Message.{Message};
-ghost use Rattle.model_messages.specs.Spelling.{spelled};
+ghost use Rattle.model_graph.specs.Message.{Message};
+ghost use Rattle.model_graph.specs.Spelling.{spelled};
 ghost use Rattle.model_wire.specs.declared.wire_why.WireWhy.{WireWhy};
 ghost use Rattle.model_wire.specs.Message.{is_version, read_message, decoded};
 ghost use Rattle.model_wire.specs.Spelling.{spelled_in};

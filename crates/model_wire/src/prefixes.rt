@@ -1,7 +1,7 @@
 //! The laws of bytes that begin others. Each is the contract of a function that does nothing.
 
 ghost use Rattle.std.specs.Prelude.{◌≡◌, ◌≢◌, ℕ, ◌++◌, [], true, List, Err};
-ghost use Rattle.model_messages.specs.Message.{Message};
+ghost use Rattle.model_graph.specs.Message.{Message};
 ghost use Rattle.model_wire.specs.declared.wire_why.WireWhy.{WireWhy};
 ghost use Rattle.model_wire.specs.declared.wire_why.WireWhy.TheVariants.{Short, Rest};
 ghost use Rattle.model_wire.specs.Message.{is_version, decoded};

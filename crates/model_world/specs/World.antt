@@ -11,8 +11,8 @@ use Rattle.model_states.specs.Threshold as threshold
 use Rattle.model_graph.specs.Graph.{Decl, kind_at}
 use Rattle.model_graph.specs.Evaluation.{content_at, least_of, eval, first_large}
 use Rattle.model_graph.specs.Lawful.{shape_of}
-use Rattle.model_messages.specs.Message.{Message, message_of, brought, gained}
-use Rattle.model_messages.specs.Spelling.{spelled}
+use Rattle.model_graph.specs.Message.{Message, message_of, brought, gained}
+use Rattle.model_graph.specs.Spelling.{spelled}
 use Rattle.model_world.specs.Command as command
 use Rattle.model_world.specs.Command.{Until, Command, Script}
 use Rattle.model_world.specs.Line.{print_line}

@@ -2,7 +2,7 @@
 
 ghost use Rattle.std.specs.Prelude.{◌≡◌, ◌+◌, ◌<◌, ◌^◌, Err, Some, IfOk, length, slice_get};
 ghost use Rattle.std.specs.Arc.{arc_value};
-ghost use Rattle.model_messages.specs.Spelling.{spelled};
+ghost use Rattle.model_graph.specs.Spelling.{spelled};
 ghost use Rattle.lasp_gossip.specs.Network.{size_of};
 ghost use Rattle.lasp_gossip.specs.declared.refused.SendRefused.TheVariants as refused;
 

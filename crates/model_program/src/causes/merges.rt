@@ -4,7 +4,7 @@ ghost use Rattle.std.specs.Prelude.{◌≡◌, ◌<◌, ◌++◌, ℕ, List, [],
 ghost use Rattle.model_functions.specs.Library.{Library};
 ghost use Rattle.model_graph.specs.Evaluation.{eval, first_large};
 ghost use Rattle.model_graph.specs.Graph.{Decl, name_at};
-ghost use Rattle.model_messages.specs.Message.{Message};
+ghost use Rattle.model_graph.specs.Message.{Message};
 ghost use Rattle.model_readings.specs.Graph.{graph_of};
 ghost use Rattle.model_readings.specs.declared.graph_why.GraphWhy.{GraphWhy};
 ghost use Rattle.model_wire.specs.Message.{decoded};

@@ -3,7 +3,7 @@ use Rattle.std.specs.List.{AllByRecursion}
 use Rattle.model_states.specs.Counts.{larger}
 use Rattle.model_states.specs.Content.{size_of, row_limit}
 use Rattle.model_states.proofs.CountLaws.{length-larger}
-use Rattle.model_messages.specs.Message.{Message}
+use Rattle.model_graph.specs.Message.{Message}
 use Rattle.model_wire.specs.Lawful.{IsSent, IsMessage}
 use Rattle.model_deltas.specs.Applied.{joined_sources, joined}
 use Rattle.model_deltas.proofs.JoinedLaws.{length-joined}

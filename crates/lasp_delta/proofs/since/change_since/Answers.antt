@@ -1,7 +1,7 @@
 use Rattle.std.proofs.Common.{◌≡◌, Some, sym, ap, ◌∙◌}
 use Rattle.std.specs.Prelude.{slice_get}
 use Rattle.std.proofs.lemmas.Result.{IfOk-weaker}
-use Rattle.model_messages.specs.Message.{Message}
+use Rattle.model_graph.specs.Message.{Message}
 use Rattle.model_deltas.specs.Delta.{changed_sources}
 use Rattle.lasp_state.specs.declared.state.State.{State}
 use Rattle.lasp_wire.specs.Sent.{kind_of, sent}

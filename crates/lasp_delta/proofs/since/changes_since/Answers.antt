@@ -1,6 +1,6 @@
 use Rattle.std.proofs.Common.{◌≡◌, ◌+◌, ℕ, List, length, sym, ap, subst, arith}
 use Rattle.model_values.proofs.ListLaws.{each-at}
-use Rattle.model_messages.specs.Message.{Message, Sent}
+use Rattle.model_graph.specs.Message.{Message, Sent}
 use Rattle.model_wire.specs.Lawful.{IsSent}
 use Rattle.model_deltas.specs.Delta.{changed_sources}
 use Rattle.model_deltas.proofs.DeltaLaws.{length-changed, sources-lawful}

@@ -1,4 +1,4 @@
-use Rattle.model_messages.specs.Message.{Message}
+use Rattle.model_graph.specs.Message.{Message}
 use Rattle.model_deltas.specs.Delta.{changed_sources}
 use Rattle.lasp_delta.specs.Since.{LeadTo}
 use Rattle.lasp_delta.proofs.BegunLaws.{IsBegun}

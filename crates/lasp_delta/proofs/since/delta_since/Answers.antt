@@ -1,5 +1,5 @@
 use Rattle.std.proofs.Common.{◌≡◌, sym, subst, ◌∙◌}
-use Rattle.model_messages.specs.Message.{Message}
+use Rattle.model_graph.specs.Message.{Message}
 use Rattle.model_deltas.specs.Before.{IsDelta}
 use Rattle.model_deltas.proofs.DeltaLaws.{delta-lawful}
 use Rattle.lasp_delta.specs.Delta.{going_on}

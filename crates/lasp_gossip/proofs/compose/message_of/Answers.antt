@@ -1,7 +1,7 @@
 use Rattle.std.proofs.Common.{◌+◌, ◌<◌, length, subst, sym, ap, ◌∙◌, arith}
 use Rattle.std.specs.Arc.{arc_value}
 use Rattle.model_graph.specs.Graph.{is_source}
-use Rattle.model_messages.specs.Message.{Sent, Message}
+use Rattle.model_graph.specs.Message.{Sent, Message}
 use Rattle.model_wire.specs.Lawful.{IsMessage}
 use Rattle.lasp_graph.specs.Decl.{decl_of}
 use Rattle.lasp_graph.specs.States.{contents_of}

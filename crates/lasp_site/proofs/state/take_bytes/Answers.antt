@@ -3,7 +3,7 @@ use Rattle.std.specs.Prelude.{Err}
 use Rattle.std.specs.Arc.{arc_value}
 use Rattle.std.specs.declared.sync.Arc.{Arc}
 use Rattle.std.specs.declared.alloc.Global.{Global}
-use Rattle.model_messages.specs.Message.{Message}
+use Rattle.model_graph.specs.Message.{Message}
 use Rattle.model_site.specs.Follows.{Gives}
 use Rattle.model_site.specs.Site.{file_taken}
 use Rattle.model_site.specs.declared.site_failure.SiteFailure.{SiteFailure}

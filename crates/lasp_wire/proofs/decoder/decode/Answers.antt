@@ -1,6 +1,6 @@
 use Rattle.std.proofs.Common.{◌≡◌, ◌∙◌, ℕ, List, Result, Ok, Err, map, sym, ap, subst, arith}
 use Rattle.std.proofs.lemmas.Result.{err_from_is_err_and}
-use Rattle.model_messages.specs.Message as plain
+use Rattle.model_graph.specs.Message as plain
 use Rattle.model_wire.specs.declared.wire_why.WireWhy.{WireWhy}
 use Rattle.model_wire.specs.Message.{decoded}
 use Rattle.model_wire.specs.Lawful.{IsBytes, IsMessage, IsSpelledSo}

@@ -1,6 +1,6 @@
 use Rattle.std.proofs.Common.{List, length, sym, subst}
 use Rattle.std.specs.List.{AllByRecursion}
-use Rattle.model_messages.specs.Message.{Sent}
+use Rattle.model_graph.specs.Message.{Sent}
 use Rattle.model_wire.specs.Lawful.{IsSent}
 use Rattle.lasp_wire.proofs.Short.{short_sources}
 use Rattle.lasp_wire.proofs.encoder.put_sources.Goals as goal

@@ -1,7 +1,7 @@
 use Rattle.std.proofs.Common.{◌≤◌, ◌^◌, List, ℕ, length, arith, sym, subst, ap}
 use Rattle.std.specs.List.{flat_map}
-use Rattle.model_messages.specs.Message.{Sent}
-use Rattle.model_messages.specs.Spelling.{spelled_source}
+use Rattle.model_graph.specs.Message.{Sent}
+use Rattle.model_graph.specs.Spelling.{spelled_source}
 use Rattle.lasp_wire.proofs.Lengths.{sources_fit_in, spelled_len}
 use Rattle.lasp_wire.proofs.length.encoded_len.Goals as goal
 

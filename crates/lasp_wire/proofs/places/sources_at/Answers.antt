@@ -1,6 +1,6 @@
 use Rattle.std.proofs.Common.{◌≡◌, ℕ, ◌-◌, List, Ok, length, drop, map, sym, ap, subst, ◌∙◌, arith}
 use Rattle.std.proofs.lemmas.List.{take_rest}
-use Rattle.model_messages.specs.Message.{Sent, Message}
+use Rattle.model_graph.specs.Message.{Sent, Message}
 use Rattle.model_wire.specs.Message.{sources_at}
 use Rattle.model_wire.proofs.Within.{sources_inside}
 use Rattle.lasp_wire.specs.declared.refused.WireRefused.{WireRefused}

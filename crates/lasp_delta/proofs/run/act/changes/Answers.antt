@@ -1,6 +1,6 @@
 use Rattle.std.proofs.Common.{rules, ◌≡◌, Some, sym, subst}
 use Rattle.std.proofs.lemmas.Result.{IfOk-weaker}
-use Rattle.model_messages.specs.Message.{Message}
+use Rattle.model_graph.specs.Message.{Message}
 use Rattle.model_deltas.specs.Delta.{delta_of}
 use Rattle.lasp_delta.specs.Since.{LeadTo}
 use Rattle.lasp_delta.proofs.run.act.changes.Goals as goal

@@ -1,7 +1,7 @@
 use Rattle.std.proofs.Common.{◌∷◌, [], List, length, sym, subst, slice_set}
 use Rattle.std.specs.Arc.{arc_value}
 use Rattle.model_graph.specs.Graph.{Decl}
-use Rattle.model_messages.specs.Message.{Message}
+use Rattle.model_graph.specs.Message.{Message}
 use Rattle.model_world.specs.World.{Peer, Take, peer_at, delivered}
 use Rattle.model_runs.specs.Part.{BringsAsMuch}
 use Rattle.lasp_drive.specs.Nodes.{peers_of}

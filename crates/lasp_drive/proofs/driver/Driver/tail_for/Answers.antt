@@ -1,7 +1,7 @@
 use Rattle.std.proofs.Common.{List, ℕ, length, sym, ap, subst, ◌∙◌}
 use Rattle.std.specs.Arc.{arc_value}
 use Rattle.model_states.specs.Counts.{AreCountsAtMost}
-use Rattle.model_messages.specs.Message.{Message}
+use Rattle.model_graph.specs.Message.{Message}
 use Rattle.model_world.specs.World.{Peer, peer_at, sent_number}
 use Rattle.model_runs.specs.Part.{BringsAsMuch}
 use Rattle.lasp_drive.specs.Nodes.{peers_of}

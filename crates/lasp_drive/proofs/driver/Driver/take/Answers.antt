@@ -6,7 +6,7 @@ use Rattle.std.specs.declared.sync.Arc.{Arc}
 use Rattle.std.specs.declared.alloc.Global.{Global}
 use Rattle.lasp_wire.specs.declared.message.Message as rust
 use Rattle.model_states.specs.Counts.{AreCountsAtMost}
-use Rattle.model_messages.specs.Message.{Message}
+use Rattle.model_graph.specs.Message.{Message}
 use Rattle.model_world.specs.World.{Peer, Take, peer_at, sent_number}
 use Rattle.model_runs.specs.Part.{BringsAsMuch}
 use Rattle.model_runs.proofs.PartLaws.{brings-equal}

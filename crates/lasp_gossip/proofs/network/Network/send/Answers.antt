@@ -1,7 +1,7 @@
 use Rattle.std.proofs.Common.{◌≡◌, ◌≤◌, ◌+◌, ◌++◌, [], ◌∷◌, List, length, map, ap, subst, ◌∙◌, arith}
 use Rattle.std.specs.Arc.{arc_value}
-use Rattle.model_messages.specs.Message.{Message}
-use Rattle.model_messages.specs.Spelling.{spelled}
+use Rattle.model_graph.specs.Message.{Message}
+use Rattle.model_graph.specs.Spelling.{spelled}
 use Rattle.lasp_gossip.specs.Network.{Network, network, with_sent, size_of}
 use Rattle.lasp_gossip.proofs.SizeLaws.{sent-more, size_more, tally-within}
 use Rattle.lasp_gossip.proofs.network.Network.send.Goals as goal

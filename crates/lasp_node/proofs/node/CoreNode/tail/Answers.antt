@@ -1,6 +1,6 @@
 use Rattle.std.proofs.Common.{◌≤◌, length, refl, sym, subst}
 use Rattle.std.specs.Prelude.{Option}
-use Rattle.model_messages.specs.Message.{Message}
+use Rattle.model_graph.specs.Message.{Message}
 use Rattle.lasp_core.specs.Since.{IsTailSince}
 use Rattle.lasp_node.specs.View.{entries_sent}
 use Rattle.lasp_node.specs.declared.node.LastSent.{LastSent}

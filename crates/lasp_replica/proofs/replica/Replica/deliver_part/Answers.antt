@@ -2,7 +2,7 @@ use Rattle.std.proofs.Common.{rules, ◌≡◌, ◌++◌, ◌∷◌, [], ℕ, Bo
 use Rattle.std.specs.Arc.{arc_value}
 use Rattle.model_graph.specs.Graph.{Decl}
 use Rattle.model_states.specs.Counts.{larger}
-use Rattle.model_messages.specs.Message.{Message, brought, gained}
+use Rattle.model_graph.specs.Message.{Message, brought, gained}
 use Rattle.model_runs.specs.Held.{IsSentTo}
 use Rattle.model_wire.specs.Lawful.{IsMessage}
 use Rattle.lasp_history.proofs.KeptLaws.{where-ok}

@@ -1,6 +1,6 @@
 use Rattle.std.proofs.Common.{◌≡◌, ◌<◌, ℕ, ◌+◌, ◌++◌, [], ◌∷◌, Bool, false, List, length, map, slice_set, sym, ap, subst, ◌∙◌, arith}
 use Rattle.model_states.specs.Content.{join_contents}
-use Rattle.model_messages.specs.Message.{sent_at, brought, gained}
+use Rattle.model_graph.specs.Message.{sent_at, brought, gained}
 use Rattle.model_graph.specs.Graph.{is_source}
 use Rattle.lasp_graph.specs.States.{Held, held_at, contents_of}
 use Rattle.lasp_history.specs.Kept.{Kept}

@@ -3,7 +3,7 @@ use Rattle.std.specs.Prelude.{List, None, length}
 use Rattle.std.specs.Arc.{arc_value}
 use Rattle.std.specs.declared.sync.Arc.{Arc}
 use Rattle.std.specs.declared.alloc.Global.{Global}
-use Rattle.model_messages.specs.Message.{Message}
+use Rattle.model_graph.specs.Message.{Message}
 use Rattle.model_graph.specs.Graph.{Decl}
 use Rattle.model_world.specs.World.{Peer, fresh_peer}
 use Rattle.model_program.specs.Follows.{Gives}

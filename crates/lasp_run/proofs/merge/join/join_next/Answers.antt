@@ -2,7 +2,7 @@ use Rattle.std.specs.Prelude.{Some}
 use Rattle.std.specs.Arc.{arc_value}
 use Rattle.std.specs.declared.sync.Arc.{Arc}
 use Rattle.std.specs.declared.alloc.Global.{Global}
-use Rattle.model_messages.specs.Message.{Message}
+use Rattle.model_graph.specs.Message.{Message}
 use Rattle.lasp_call.specs.Message.{peer_by}
 use Rattle.lasp_run.proofs.JoinLaws.{file-given, file-refused}
 use Rattle.lasp_run.proofs.merge.join.join_next.Goals as goal

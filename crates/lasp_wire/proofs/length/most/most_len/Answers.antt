@@ -1,7 +1,7 @@
 use Rattle.std.proofs.Common.{ℕ, ◌+◌, ◌*◌, List, length, ap, subst, arith}
 use Rattle.std.specs.List.{flat_map}
-use Rattle.model_messages.specs.Message.{Sent}
-use Rattle.model_messages.specs.Spelling.{spelled_source}
+use Rattle.model_graph.specs.Message.{Sent}
+use Rattle.model_graph.specs.Spelling.{spelled_source}
 use Rattle.lasp_logset.specs.Weights.{IsBounded}
 use Rattle.lasp_wire.proofs.MostLaws.{whole_most}
 use Rattle.lasp_wire.proofs.length.most.most_len.Goals as goal

@@ -1,6 +1,6 @@
 use Rattle.std.proofs.Common.{length, map, take}
 use Rattle.std.specs.List.{flat_map}
-use Rattle.model_messages.specs.Spelling.{spelled_source}
+use Rattle.model_graph.specs.Spelling.{spelled_source}
 use Rattle.lasp_logset.specs.Weights.{IsBounded}
 use Rattle.lasp_wire.specs.Sent.{sent_of}
 use Rattle.lasp_wire.proofs.length.most.most_of_sources.Given as goal

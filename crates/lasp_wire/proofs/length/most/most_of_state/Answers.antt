@@ -1,5 +1,5 @@
 use Rattle.std.proofs.Common.{ℕ, length, sym, subst, arith}
-use Rattle.model_messages.specs.Spelling.{spelled_content}
+use Rattle.model_graph.specs.Spelling.{spelled_content}
 use Rattle.lasp_logset.specs.Weights.{IsBounded}
 use Rattle.lasp_state.specs.State.{content_of}
 use Rattle.lasp_state.specs.declared.state.State.{State}

@@ -1,6 +1,6 @@
 use Rattle.std.proofs.Common.{◌≡◌, ◌+◌, length}
 use Rattle.std.specs.Option.{option_map}
-use Rattle.model_messages.specs.Spelling.{spelled_rows}
+use Rattle.model_graph.specs.Spelling.{spelled_rows}
 use Rattle.lasp_value.specs.Value.{val_of}
 use Rattle.lasp_wire.specs.Length.{rows_len}
 use Rattle.lasp_wire.proofs.length.rows.set_len.Given as goal

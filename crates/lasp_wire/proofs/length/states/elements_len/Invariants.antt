@@ -1,6 +1,6 @@
 use Rattle.std.proofs.Common.{◌≡◌, ◌+◌, length}
 use Rattle.std.specs.List.{flat_map}
-use Rattle.model_messages.specs.Spelling.{spelled_value, spelled_values}
+use Rattle.model_graph.specs.Spelling.{spelled_value, spelled_values}
 use Rattle.lasp_wire.proofs.length.states.elements_len.Given as goal
 
 abbrev pub invariant-loop-value : goal.invariant-loop-value

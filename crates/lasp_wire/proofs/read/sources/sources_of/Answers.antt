@@ -1,7 +1,7 @@
 use Rattle.std.proofs.Common.{◌≡◌, ◌++◌, ◌∷◌, [], map}
 use Rattle.std.proofs.lemmas.Result.{err_from_is_err_and}
 use Rattle.std.proofs.lemmas.List.{map_push}
-use Rattle.model_messages.specs.Message.{Sent}
+use Rattle.model_graph.specs.Message.{Sent}
 use Rattle.model_wire.specs.Reader.{list_at}
 use Rattle.model_wire.specs.Message.{any_source_at, nothing_of_sources}
 use Rattle.lasp_wire.specs.Sent.{sent_of}

@@ -1,6 +1,6 @@
 use Rattle.std.proofs.Common.{◌≡◌, ◌++◌, ◌∙◌, None, OnOk, List, ℕ, ap, subst}
 use Rattle.model_values.specs.Row.{Row}
-use Rattle.model_messages.specs.Spelling.{number}
+use Rattle.model_graph.specs.Spelling.{number}
 use Rattle.lasp_wire.specs.Written.{values_after, spelled_after}
 use Rattle.lasp_wire.proofs.WrittenRows.{written_rows}
 use Rattle.lasp_wire.proofs.write.rows.put_set.Goals as goal

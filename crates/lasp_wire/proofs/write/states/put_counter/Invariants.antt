@@ -1,5 +1,5 @@
 use Rattle.std.proofs.Common.{◌≡◌, ◌++◌, take}
-use Rattle.model_messages.specs.Spelling.{spelled_counts}
+use Rattle.model_graph.specs.Spelling.{spelled_counts}
 use Rattle.lasp_wire.proofs.write.states.put_counter.Given as goal
 
 abbrev pub invariant-loop-i : goal.invariant-loop-i

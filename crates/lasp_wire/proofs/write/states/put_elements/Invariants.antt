@@ -1,6 +1,6 @@
 use Rattle.std.proofs.Common.{◌≡◌, ◌++◌, length}
 use Rattle.std.specs.List.{flat_map, AllByRecursion}
-use Rattle.model_messages.specs.Spelling.{spelled_value, spelled_values}
+use Rattle.model_graph.specs.Spelling.{spelled_value, spelled_values}
 use Rattle.lasp_wire.specs.Written.{IsShort}
 use Rattle.lasp_wire.proofs.write.states.put_elements.Given as goal
 

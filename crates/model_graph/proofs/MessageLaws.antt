@@ -4,7 +4,7 @@ use Rattle.model_states.specs.Content.{Content, least}
 use Rattle.model_graph.specs.Graph.{Decl, is_source, kind_at}
 use Rattle.model_graph.specs.Evaluation.{content_at}
 use Rattle.model_graph.specs.Lawful.{sources_among}
-use Rattle.model_messages.specs.Message.{Sent, sent_from, source_number, sent_at, with_gain, gained}
+use Rattle.model_graph.specs.Message.{Sent, sent_from, source_number, sent_at, with_gain, gained}
 
 -- what a message has of the source at a place
 pub sent_at-found : (sources : List Sent) (i : ℕ) (t : Sent) → slice_get sources i ≡ Some t → sent_at sources i ≡ t.content

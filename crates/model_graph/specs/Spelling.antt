@@ -8,7 +8,7 @@ use Rattle.model_values.specs.Token.{Tok, single, both}
 use Rattle.model_values.specs.Row.{Row}
 use Rattle.model_states.specs.Content.{Content}
 use Rattle.model_graph.specs.Graph.{Kind, OrSet, GSet, Counter, MaxReg}
-use Rattle.model_messages.specs.Message.{Sent, Message}
+use Rattle.model_graph.specs.Message.{Sent, Message}
 
 -- a number of k bytes
 abbrev pub number : ℕ → ℕ → List ℕ

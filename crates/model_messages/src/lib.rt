@@ -1,2 +1,0 @@
-//! Messages between replicas, what a replica makes of them, and their bytes: definitions and laws, no code.
-#![tactic(auto)]
