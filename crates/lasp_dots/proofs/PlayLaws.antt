@@ -8,7 +8,7 @@ use Rattle.model_world.specs.Command as command
 use Rattle.model_world.specs.Command.{Command}
 use Rattle.model_world.specs.Lawful.{Stage, stage_after, AreLawful}
 use Rattle.model_world.specs.World.{Act, Post, Take, sync_acts}
-use Rattle.model_known.proofs.RoundLaws.{AreCalm, calm-sync, posts, posts-sync}
+use Rattle.model_world.proofs.RoundLaws.{AreCalm, calm-sync, posts, posts-sync}
 use Rattle.model_dots.specs.Dots.{join_dots}
 use Rattle.model_dots.specs.DotReport.{dot_print, dot_text}
 use Rattle.model_dots.specs.DotWorld.{DotWorld, dots_at, IsDotCommand, dot_acts, dot_act, dot_each, dot_play}

@@ -9,7 +9,7 @@ use Rattle.model_states.specs.Update.{Op}
 use Rattle.model_world.specs.World as world
 use Rattle.model_world.specs.World.{Run, Act, act, each, sent_number}
 use Rattle.model_world.specs.declared.stop.Stop.{Stop}
-use Rattle.model_known.proofs.FollowLaws.{bound}
+use Rattle.model_world.proofs.FollowLaws.{bound}
 use Rattle.model_journal.specs.Entry as model
 use Rattle.model_journal.specs.Entry.{Entry}
 use Rattle.model_runs.specs.Calls.{fed, call_of, when_done, calls_of_acts}

@@ -4,9 +4,9 @@ use Rattle.model_graph.specs.Graph.{Decl}
 use Rattle.model_states.specs.Update.{Op}
 use Rattle.model_world.specs.Command.{Until}
 use Rattle.model_world.specs.World.{Run, Act, Update, Keep, Post, Take, Show, Open, Extend, peer_at, start, act}
-use Rattle.model_known.specs.Follow.{delta_of}
-use Rattle.model_known.proofs.KnowsLaws.{known-begin}
-use Rattle.model_known.proofs.ActLaws.{acts-update, acts-others}
+use Rattle.model_world.specs.Follow.{delta_of}
+use Rattle.model_world.proofs.KnowsLaws.{known-begin}
+use Rattle.model_world.proofs.ActLaws.{acts-update, acts-others}
 use Rattle.model_runs.specs.Held.{IsUpdate}
 use Rattle.model_runs.proofs.SourceLaws.{update-source}
 use Rattle.lasp_drive.specs.Driver.{IsRunKnown}

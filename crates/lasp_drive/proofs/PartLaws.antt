@@ -8,8 +8,8 @@ use Rattle.model_graph.specs.Lawful.{sources_among}
 use Rattle.model_graph.specs.Message.{Message, Sent, source_number, sent_at}
 use Rattle.model_world.specs.Lawful.{Stage}
 use Rattle.model_world.specs.World.{Run, peer_at, sent_number}
-use Rattle.model_known.proofs.VariableLaws.{known-ordered}
-use Rattle.model_known.proofs.KnowsLaws.{known-covered}
+use Rattle.model_world.proofs.VariableLaws.{known-ordered}
+use Rattle.model_world.proofs.KnowsLaws.{known-covered}
 use Rattle.model_runs.specs.Sound.{IsSound}
 use Rattle.model_runs.specs.Part.{IsBeginning, BringsAsMuch}
 use Rattle.lasp_drive.specs.Driver.{IsRunKnown}

@@ -5,8 +5,8 @@ use Rattle.model_graph.specs.Graph.{Decl}
 use Rattle.model_graph.specs.Message.{Message}
 use Rattle.model_world.specs.Lawful.{Stage, opening_stage}
 use Rattle.model_world.specs.World.{Opened, Run, start, network_limit}
-use Rattle.model_known.specs.Delta.{Delta}
-use Rattle.model_known.specs.Known.{IsKnown}
+use Rattle.model_world.specs.Delta.{Delta}
+use Rattle.model_world.specs.Known.{IsKnown}
 use Rattle.model_core.specs.Core.{Read}
 use Rattle.model_runs.specs.Sound.{IsSound}
 use Rattle.lasp_drive.specs.Node.{NodeView, AreNodes, HaveNoReads}

@@ -3,7 +3,7 @@ use Rattle.std.proofs.Common.{◌≡◌, ℕ, zero, suc, ◌<◌, IsTrue, List, 
 use Rattle.std.specs.List.{AllByRecursion}
 use Rattle.model_graph.specs.Graph.{Kind, Decl}
 use Rattle.model_graph.proofs.PlaceLaws.{length-push}
-use Rattle.model_known.proofs.VariableLaws.{kind-append}
+use Rattle.model_world.proofs.VariableLaws.{kind-append}
 use Rattle.lasp_replica.specs.declared.entry.Act.{Act}
 use Rattle.lasp_replica.specs.declared.entry.Act.TheVariants as act
 use Rattle.lasp_replica.specs.declared.entry.Entry.{Entry}

@@ -8,8 +8,8 @@ use Rattle.model_graph.specs.Graph.{Decl, kind_at}
 use Rattle.model_graph.specs.Evaluation.{least_of}
 use Rattle.model_graph.proofs.LeastLaws.{least_of-ordered}
 use Rattle.model_graph.specs.Message.{Sent, sent_at}
-use Rattle.model_known.specs.Delta as known
-use Rattle.model_known.specs.Holds.{Carries}
+use Rattle.model_world.specs.Delta as known
+use Rattle.model_world.specs.Holds.{Carries}
 use Rattle.model_deltas.specs.Before.{AreSourcesBefore, AreSourcesAlike}
 use Rattle.model_deltas.specs.World.{nothing_told}
 

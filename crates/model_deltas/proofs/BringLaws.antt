@@ -8,8 +8,8 @@ use Rattle.model_graph.proofs.PlaceLaws.{below-or-not}
 use Rattle.model_graph.specs.Message.{Message, source_number, sent_at}
 use Rattle.model_graph.proofs.MessageLaws.{sent-is, sent-past}
 use Rattle.model_world.specs.World.{Peer, message_at}
-use Rattle.model_known.specs.Delta as known
-use Rattle.model_known.specs.Holds.{Carries}
+use Rattle.model_world.specs.Delta as known
+use Rattle.model_world.specs.Holds.{Carries}
 use Rattle.model_runs.specs.Part.{BringsAsMuch}
 use Rattle.model_wire.specs.Lawful.{IsSent, IsMessage}
 use Rattle.model_deltas.specs.Delta.{delta_of, carried}

@@ -4,11 +4,11 @@ use Rattle.model_graph.specs.Graph.{Decl}
 use Rattle.model_graph.specs.Message.{Message}
 use Rattle.model_world.specs.Command.{Command}
 use Rattle.model_world.specs.World.{Run, Post, peer_at, message_at, sent_number, act}
-use Rattle.model_known.specs.Follow.{Followed}
-use Rattle.model_known.specs.Holds.{IsPlaceOf}
-use Rattle.model_known.proofs.EffectLaws.{act-effect}
-use Rattle.model_known.proofs.HoldLaws.{sends-known}
-use Rattle.model_known.proofs.PlayLaws.{place-sound}
+use Rattle.model_world.specs.Follow.{Followed}
+use Rattle.model_world.specs.Holds.{IsPlaceOf}
+use Rattle.model_world.proofs.EffectLaws.{act-effect}
+use Rattle.model_world.proofs.HoldLaws.{sends-known}
+use Rattle.model_world.proofs.PlayLaws.{place-sound}
 use Rattle.model_runs.specs.Part.{BringsAsMuch}
 use Rattle.model_wire.specs.Lawful.{IsMessage}
 use Rattle.model_deltas.specs.Delta.{Delta, delta_of, carried}

@@ -14,10 +14,10 @@ use Rattle.model_world.specs.Command.{Command}
 use Rattle.model_world.specs.World.{Peer, peer_at, message_at, delivered}
 use Rattle.model_runs.specs.Held.{IsHeld, IsSentTo}
 use Rattle.model_runs.proofs.SourceLaws.{source-ordered}
-use Rattle.model_known.specs.Holds.{IsPlaceOf}
-use Rattle.model_known.specs.Follow.{Followed}
-use Rattle.model_known.proofs.KnownLaws.{replica-holds}
-use Rattle.model_known.proofs.VariableLaws.{known-ordered}
+use Rattle.model_world.specs.Holds.{IsPlaceOf}
+use Rattle.model_world.specs.Follow.{Followed}
+use Rattle.model_world.proofs.KnownLaws.{replica-holds}
+use Rattle.model_world.proofs.VariableLaws.{known-ordered}
 use Rattle.model_wire.specs.Lawful.{IsNodes, AreAtMost, IsMessage}
 use Rattle.model_deltas.specs.Delta.{changed_sources}
 use Rattle.model_deltas.specs.Applied.{joined_sources, joined}

@@ -8,12 +8,12 @@ use Rattle.model_graph.specs.Message.{Message}
 use Rattle.model_graph.proofs.MessageLaws.{sent-among, among-append}
 use Rattle.model_world.specs.Command.{Command}
 use Rattle.model_world.specs.World.{peer_at}
-use Rattle.model_known.specs.Delta as known
-use Rattle.model_known.specs.Follow.{Followed}
-use Rattle.model_known.specs.Holds.{Holds, Carries, IsPlaceOf}
-use Rattle.model_known.proofs.HoldLaws.{sends-known}
-use Rattle.model_known.proofs.PlayLaws.{place-sound}
-use Rattle.model_known.proofs.SoundLaws.{IsSound}
+use Rattle.model_world.specs.Delta as known
+use Rattle.model_world.specs.Follow.{Followed}
+use Rattle.model_world.specs.Holds.{Holds, Carries, IsPlaceOf}
+use Rattle.model_world.proofs.HoldLaws.{sends-known}
+use Rattle.model_world.proofs.PlayLaws.{place-sound}
+use Rattle.model_world.proofs.SoundLaws.{IsSound}
 use Rattle.model_wire.specs.Lawful.{IsMessage}
 use Rattle.model_deltas.specs.Before.{IsBefore, AreAlike}
 use Rattle.model_deltas.specs.World.{nothing_told, told_at, IsMessageIn, AreOfOneWorld, DeltaStandsFor}

@@ -10,18 +10,18 @@ use Rattle.model_world.specs.Command.{Command}
 use Rattle.model_world.specs.Command as command
 use Rattle.model_world.specs.Lawful.{Stage, opening_stage, stage_after, MayBeDone, AreLawful}
 use Rattle.model_world.specs.World.{Act, Update, Keep, Post, Take, Point, Show, Open, Reach, Extend, peer_at, mark_at, no_message, sent_number, takes, sync_acts, acts}
-use Rattle.model_known.specs.Follow.{Followed, delta_of, begin, follow_step, follow}
-use Rattle.model_known.specs.Holds.{Carries, IsPlaceOf}
-use Rattle.model_known.specs.Known.{Each, IsOfSource}
-use Rattle.model_known.proofs.EffectLaws.{followed}
-use Rattle.model_known.proofs.FollowLaws.{afters, bound, step-effect}
-use Rattle.model_known.proofs.HoldLaws.{carries-longer}
-use Rattle.model_known.proofs.KnownLaws.{first-place}
-use Rattle.model_known.proofs.PlaceLaws.{follow-more}
-use Rattle.model_known.proofs.PlayLaws.{stage_of, stage_after_all, follow-sound, place-sound}
-use Rattle.model_known.proofs.RoundLaws.{AreCalm, calm-sync}
-use Rattle.model_known.proofs.SoundLaws.{sound-begin}
-use Rattle.model_known.proofs.UpdateLaws.{carries-kept}
+use Rattle.model_world.specs.Follow.{Followed, delta_of, begin, follow_step, follow}
+use Rattle.model_world.specs.Holds.{Carries, IsPlaceOf}
+use Rattle.model_world.specs.Known.{Each, IsOfSource}
+use Rattle.model_world.proofs.EffectLaws.{followed}
+use Rattle.model_world.proofs.FollowLaws.{afters, bound, step-effect}
+use Rattle.model_world.proofs.HoldLaws.{carries-longer}
+use Rattle.model_world.proofs.KnownLaws.{first-place}
+use Rattle.model_world.proofs.PlaceLaws.{follow-more}
+use Rattle.model_world.proofs.PlayLaws.{stage_of, stage_after_all, follow-sound, place-sound}
+use Rattle.model_world.proofs.RoundLaws.{AreCalm, calm-sync}
+use Rattle.model_world.proofs.SoundLaws.{sound-begin}
+use Rattle.model_world.proofs.UpdateLaws.{carries-kept}
 use Rattle.model_deltas.specs.World.{told_at, IsToldAmong}
 use Rattle.model_deltas.proofs.RiseLaws.{counts-itself, counts-rise, peers-stay}
 

@@ -12,9 +12,9 @@ use Rattle.model_graph.specs.Lawful.{shape_of}
 use Rattle.model_graph.proofs.PlaceLaws.{below-or-not}
 use Rattle.model_graph.specs.Message.{Sent, Message, source_number, sent_at}
 use Rattle.model_graph.proofs.MessageLaws.{sent-past}
-use Rattle.model_known.specs.Delta as known
-use Rattle.model_known.specs.Holds.{Carries}
-use Rattle.model_known.proofs.KnownLaws.{known-larger}
+use Rattle.model_world.specs.Delta as known
+use Rattle.model_world.specs.Holds.{Carries}
+use Rattle.model_world.proofs.KnownLaws.{known-larger}
 use Rattle.model_runs.proofs.SourceLaws.{source-shape, source-ordered}
 use Rattle.model_wire.specs.Lawful.{IsSource, IsSent, IsMessage}
 use Rattle.model_deltas.specs.Delta.{changed_content, changed_sources, delta_of, carried}

@@ -4,8 +4,8 @@ use Rattle.model_states.specs.Counts.{AreCountsAtMost}
 use Rattle.model_graph.specs.Message.{Message}
 use Rattle.model_world.specs.Lawful.{Stage}
 use Rattle.model_world.specs.World.{Run, peer_at, sent_number}
-use Rattle.model_known.specs.Follow.{Followed}
-use Rattle.model_known.proofs.PlayLaws.{IsAt}
+use Rattle.model_world.specs.Follow.{Followed}
+use Rattle.model_world.proofs.PlayLaws.{IsAt}
 use Rattle.model_wire.specs.Lawful.{IsMessage}
 use Rattle.model_deltas.specs.Delta.{Delta, delta_of}
 use Rattle.model_deltas.specs.Before.{IsBefore}

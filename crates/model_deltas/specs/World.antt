@@ -5,8 +5,8 @@ use Rattle.model_graph.specs.Graph.{Decl}
 use Rattle.model_graph.specs.Message.{Message}
 use Rattle.model_world.specs.Command.{Command}
 use Rattle.model_world.specs.World.{peer_at, message_at}
-use Rattle.model_known.specs.Follow.{Followed}
-use Rattle.model_known.specs.Holds.{IsPlaceOf}
+use Rattle.model_world.specs.Follow.{Followed}
+use Rattle.model_world.specs.Holds.{IsPlaceOf}
 use Rattle.model_deltas.specs.Delta.{delta_of}
 use Rattle.model_deltas.specs.Applied.{first_gap, joined, limited, unless, applied}
 

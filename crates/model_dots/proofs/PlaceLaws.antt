@@ -7,14 +7,14 @@ use Rattle.model_graph.proofs.PlaceLaws.{length-push}
 use Rattle.model_world.specs.Command.{Command}
 use Rattle.model_world.specs.Line.{shown_content}
 use Rattle.model_world.specs.World.{Peer, Act, Update, Keep, Post, Take, Point, Show, Open, Reach, Extend, peer_at, delivered, sent_number, mark_at, acts, shown_at}
-use Rattle.model_known.specs.Delta.{deltas_at, known, known_contents}
-use Rattle.model_known.specs.Follow.{Followed, delta_of, begin}
-use Rattle.model_known.specs.Holds.{AreMade, Holds, Carries, Keeps}
-use Rattle.model_known.proofs.EffectLaws.{followed}
-use Rattle.model_known.proofs.FollowLaws.{afters}
-use Rattle.model_known.proofs.PlaceLaws.{IsLater, holds-contents, late-nothing}
-use Rattle.model_known.proofs.UpdateLaws.{made-more, known-kept}
-use Rattle.model_known.proofs.VariableLaws.{known-append}
+use Rattle.model_world.specs.Delta.{deltas_at, known, known_contents}
+use Rattle.model_world.specs.Follow.{Followed, delta_of, begin}
+use Rattle.model_world.specs.Holds.{AreMade, Holds, Carries, Keeps}
+use Rattle.model_world.proofs.EffectLaws.{followed}
+use Rattle.model_world.proofs.FollowLaws.{afters}
+use Rattle.model_world.proofs.PlaceLaws.{IsLater, holds-contents, late-nothing}
+use Rattle.model_world.proofs.UpdateLaws.{made-more, known-kept}
+use Rattle.model_world.proofs.VariableLaws.{known-append}
 use Rattle.model_dots.specs.Unlimited.{IsUnlimitedPlaceOf}
 use Rattle.model_dots.proofs.UnlimitedLaws.{followed_all, all-place, place-sound}
 

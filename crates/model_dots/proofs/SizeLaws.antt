@@ -9,7 +9,7 @@ use Rattle.model_world.specs.Command as command
 use Rattle.model_world.specs.Command.{Command, Script}
 use Rattle.model_world.specs.Lawful.{IsWithinLimits}
 use Rattle.model_world.specs.World.{Act, Update, Post, Take, sync_acts}
-use Rattle.model_known.proofs.RoundLaws.{AreCalm, calm-sync}
+use Rattle.model_world.proofs.RoundLaws.{AreCalm, calm-sync}
 use Rattle.model_dots.specs.Dots.{Dots, no_dots, join_dots, raised, count_limit}
 use Rattle.model_dots.specs.DotWorld.{DotWorld, dots_at, dot_start, dot_acts, dots_updated, dot_act, dot_each, dot_play}
 use Rattle.model_dots.specs.Sizes.{is_update, updates, CountAtMost}

@@ -15,12 +15,12 @@ use Rattle.model_world.specs.Lawful.{Stage, opening_stage, stage_after, MayBeDon
 use Rattle.model_world.specs.Line.{line, known_line, print_line}
 use Rattle.model_world.specs.Report.{known_lines, read_lines, report_of}
 use Rattle.model_world.specs.World.{Peer, Run, Opened, peer_at, shown_content_at, sync_acts, acts, ended}
-use Rattle.model_known.specs.Delta.{known}
-use Rattle.model_known.specs.Follow.{Followed, begin}
-use Rattle.model_known.proofs.SoundLaws.{IsSound}
-use Rattle.model_known.proofs.FollowLaws.{afters}
-use Rattle.model_known.proofs.RoundLaws.{calm-sync}
-use Rattle.model_known.proofs.PlayLaws.{IsAt, stage_of}
+use Rattle.model_world.specs.Delta.{known}
+use Rattle.model_world.specs.Follow.{Followed, begin}
+use Rattle.model_world.proofs.SoundLaws.{IsSound}
+use Rattle.model_world.proofs.FollowLaws.{afters}
+use Rattle.model_world.proofs.RoundLaws.{calm-sync}
+use Rattle.model_world.proofs.PlayLaws.{IsAt, stage_of}
 use Rattle.model_dots.specs.Dots.{Dots}
 use Rattle.model_dots.proofs.StandLaws.{live-visible}
 use Rattle.model_dots.specs.Unlimited.{IsUnlimited}
@@ -29,7 +29,7 @@ use Rattle.model_dots.specs.DotReport.{dot_print, dot_text, dot_known, dot_sizes
 use Rattle.model_dots.proofs.UnlimitedLaws.{followed_all, all-run, step-stands, begin-at, all-sound, ended-unlimited}
 use Rattle.model_dots.proofs.CountedLaws.{Counted, counted-begin, counted-step}
 use Rattle.model_dots.proofs.AgreeLaws.{Agrees, free-command, begin-agrees, step-agrees, end-agrees, end-stands}
-use Rattle.model_known.proofs.DirectLaws.{calm-text}
+use Rattle.model_world.proofs.DirectLaws.{calm-text}
 
 -- ---- one line
 

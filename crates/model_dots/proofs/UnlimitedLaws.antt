@@ -8,13 +8,13 @@ use Rattle.model_world.specs.Command.{Command, Script}
 use Rattle.model_world.specs.Lawful.{Stage, opening_stage, stage_after, MayBeDone, AreLawful}
 use Rattle.model_world.specs.World.{Run, Act, Update, Keep, Post, Take, Point, Show, Open, Reach, Extend, start, peer_at, acts, act, ended}
 use Rattle.model_world.proofs.StopLaws.{point-same}
-use Rattle.model_known.specs.Follow.{Followed, with_run, follow_step, follow, begin}
-use Rattle.model_known.specs.Holds.{IsPlaceOf}
-use Rattle.model_known.proofs.EffectLaws.{effect, followed}
-use Rattle.model_known.proofs.VariableLaws.{known-ordered}
-use Rattle.model_known.proofs.SoundLaws.{IsSound, sound-begin}
-use Rattle.model_known.proofs.FollowLaws.{afters, bound, step-effect, follow-play}
-use Rattle.model_known.proofs.PlayLaws.{IsAt, step-at, stage_after_all}
+use Rattle.model_world.specs.Follow.{Followed, with_run, follow_step, follow, begin}
+use Rattle.model_world.specs.Holds.{IsPlaceOf}
+use Rattle.model_world.proofs.EffectLaws.{effect, followed}
+use Rattle.model_world.proofs.VariableLaws.{known-ordered}
+use Rattle.model_world.proofs.SoundLaws.{IsSound, sound-begin}
+use Rattle.model_world.proofs.FollowLaws.{afters, bound, step-effect, follow-play}
+use Rattle.model_world.proofs.PlayLaws.{IsAt, step-at, stage_after_all}
 use Rattle.model_dots.specs.Unlimited.{after_act, after_acts, unlimited, IsUnlimited, place_after_acts, unlimited_place, IsUnlimitedPlaceOf}
 
 effect-is : (run : Run) (a : Act) → effect run a ≡ after_act run a

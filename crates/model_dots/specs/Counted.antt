@@ -6,8 +6,8 @@ use Rattle.model_sets.specs.Rows.{HasRow}
 use Rattle.model_graph.specs.Graph.{Decl}
 use Rattle.model_world.specs.Command as command
 use Rattle.model_world.specs.Command.{Command}
-use Rattle.model_known.specs.Delta.{Delta, known}
-use Rattle.model_known.specs.Owner.{delta_at}
+use Rattle.model_world.specs.Delta.{Delta, known}
+use Rattle.model_world.specs.Owner.{delta_at}
 use Rattle.model_dots.specs.Dots.{AreGiven}
 
 -- the command binds no mark

@@ -7,7 +7,7 @@ use Rattle.model_world.specs.Command.{Command}
 use Rattle.model_world.specs.Lawful.{opening_stage, AreLawful}
 use Rattle.model_world.specs.Line.{print_line}
 use Rattle.model_world.specs.World.{Run, Act, Update, Keep, Post, Take, Point, Show, Open, Reach, Extend, start, peer_at, updated, delivered, message_at, sent_number, threshold_of, shown_content_at, with_peer, with_mark, with_read, with_text, with_decl, acts}
-use Rattle.model_known.specs.Follow.{Followed, with_run, begin}
+use Rattle.model_world.specs.Follow.{Followed, with_run, begin}
 
 -- the run after an act
 abbrev pub after_act : Run → Act → Run

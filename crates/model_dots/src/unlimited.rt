@@ -7,9 +7,9 @@ ghost use Rattle.model_graph.specs.Evaluation.{content_at};
 ghost use Rattle.model_world.specs.Command.{Command, Script};
 ghost use Rattle.model_world.specs.Line.{shown_content};
 ghost use Rattle.model_world.specs.World.{Run, start, ended, peer_at, sent_number, mark_at, delivered, shown_at};
-ghost use Rattle.model_known.specs.Delta.{deltas_at, known_contents};
-ghost use Rattle.model_known.specs.Follow.{Followed};
-ghost use Rattle.model_known.specs.Holds.{Holds, Carries, Keeps, IsPlaceOf};
+ghost use Rattle.model_world.specs.Delta.{deltas_at, known_contents};
+ghost use Rattle.model_world.specs.Follow.{Followed};
+ghost use Rattle.model_world.specs.Holds.{Holds, Carries, Keeps, IsPlaceOf};
 ghost use Rattle.model_dots.specs.Unlimited.{unlimited, IsUnlimited, IsUnlimitedPlaceOf};
 
 /// The run in which nothing stops is the run at each place that this one comes to, and at its end. It has a place after all lawful commands.

@@ -4,7 +4,7 @@ use Rattle.model_values.specs.Value.{int}
 use Rattle.model_values.specs.Token.{single}
 use Rattle.model_graph.specs.Evaluation.{rows_at}
 use Rattle.model_graph.specs.Spelling.{spelled}
-use Rattle.model_known.specs.Follow.{follow}
+use Rattle.model_world.specs.Follow.{follow}
 use Rattle.model_examples.specs.Losses.{example_commands, example_repeats, example_node}
 
 pub example-counts : (example_node example_commands 1).counts ≡ 2 ∷ 1 ∷ []

@@ -5,7 +5,7 @@ use Rattle.model_graph.specs.Graph.{OrSet, Decl}
 use Rattle.model_world.specs.Command.{Command, Add, Send, Deliver}
 use Rattle.model_world.specs.World.{Peer, no_peer, peer_at}
 use Rattle.model_world.specs.declared.stop.Stop.{Stop}
-use Rattle.model_known.specs.Follow.{Followed, follow, begin}
+use Rattle.model_world.specs.Follow.{Followed, follow, begin}
 
 -- the set a
 abbrev pub example_graph : List Decl

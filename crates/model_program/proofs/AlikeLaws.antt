@@ -4,11 +4,11 @@ use Rattle.std.specs.Prelude.{◌≡◌, ◌<◌, ◌++◌, ◌∷◌, [], ℕ, 
 use Rattle.model_graph.specs.Graph.{Decl}
 use Rattle.model_world.specs.Command.{Command, Script}
 use Rattle.model_world.specs.World.{peer_at}
-use Rattle.model_known.specs.Follow.{Followed}
-use Rattle.model_known.specs.Holds.{IsPlaceOf}
-use Rattle.model_known.proofs.AlikeLaws.{equal-shown, equal-printed}
-use Rattle.model_known.proofs.KnownLaws.{replica-contents}
-use Rattle.model_known.proofs.PlaceLaws.{equal-counts}
+use Rattle.model_world.specs.Follow.{Followed}
+use Rattle.model_world.specs.Holds.{IsPlaceOf}
+use Rattle.model_world.proofs.AlikeLaws.{equal-shown, equal-printed}
+use Rattle.model_world.proofs.KnownLaws.{replica-contents}
+use Rattle.model_world.proofs.PlaceLaws.{equal-counts}
 use Rattle.model_deltas.proofs.TellLaws.{delta-world}
 use Rattle.model_program.specs.Places.{AreKnown, IsAlike, AreAlike, DeltasStand}
 

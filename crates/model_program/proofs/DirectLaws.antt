@@ -9,8 +9,8 @@ use Rattle.model_world.specs.Command.{Script}
 use Rattle.model_world.specs.Report.{report_of}
 use Rattle.model_world.specs.World.{Run, ended}
 use Rattle.model_world.specs.declared.stop.Stop.{Stop}
-use Rattle.model_known.specs.Direct.{direct_report}
-use Rattle.model_known.proofs.DirectLaws.{report-direct}
+use Rattle.model_world.specs.Direct.{direct_report}
+use Rattle.model_world.proofs.DirectLaws.{report-direct}
 use Rattle.model_scripts.specs.Progress.{grown}
 use Rattle.model_scripts.proofs.Reached.{accepted-script_of}
 use Rattle.model_program.specs.Plan.{exactly, told_answer}

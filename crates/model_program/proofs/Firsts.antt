@@ -9,7 +9,7 @@ use Rattle.model_readings.specs.Graph as graph
 use Rattle.model_readings.specs.declared.graph_why.GraphWhy.{GraphWhy}
 use Rattle.model_program.specs.First.{AreDecls, IsRefusedDecl}
 use Rattle.model_program.proofs.FirstLaws.{all_read, refused-found, refused-is, accepted-found, accepted-is}
-use Rattle.model_known.proofs.FollowLaws.{bind-alike}
+use Rattle.model_world.proofs.FollowLaws.{bind-alike}
 
 decls-all_read : (lib : Library) (before : List Decl) (ds : List Data) → decls_read lib before ds ≡ all_read (graph.next_read lib) length before ds
 unfolding decls_read all_read

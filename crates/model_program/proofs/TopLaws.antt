@@ -4,8 +4,8 @@ use Rattle.std.specs.Prelude.{◌≡◌, ◌++◌, ℕ, List, Option, Some, Resu
 use Rattle.model_functions.specs.Library.{Library}
 use Rattle.model_graph.specs.Chain.{◌>>=◌, refusing}
 use Rattle.model_graph.specs.Graph.{Decl}
-use Rattle.model_known.specs.Direct.{direct_report}
-use Rattle.model_known.proofs.DirectLaws.{report-direct}
+use Rattle.model_world.specs.Direct.{direct_report}
+use Rattle.model_world.proofs.DirectLaws.{report-direct}
 use Rattle.model_journal.specs.Entry.{Entry}
 use Rattle.model_program.specs.Generator.{load_graph, load_script}
 use Rattle.model_program.specs.Summary.{load_text}

@@ -12,7 +12,7 @@ use Rattle.model_dots.specs.DotReport.{live_lines}
 use Rattle.model_dots.specs.DotWorld.{one_set}
 use Rattle.model_dots.specs.Unlimited.{unlimited}
 use Rattle.model_deltas.specs.Gossip.{Gossip, gossiped, delta_line}
-use Rattle.model_known.specs.Direct.{direct_report}
+use Rattle.model_world.specs.Direct.{direct_report}
 use Rattle.model_program.specs.Cause.{HasCause}
 use Rattle.model_program.specs.Ends.{Writing, writing, Tells, Ends, NoFault, MeetsFault}
 use Rattle.model_program.specs.Follows.{View, view, Follows}

@@ -7,9 +7,9 @@ use Rattle.model_wire.specs.Lawful.{IsMessage}
 use Rattle.model_world.specs.Command.{Command, Script}
 use Rattle.model_world.specs.Line.{shown_content}
 use Rattle.model_world.specs.World.{peer_at, shown_at}
-use Rattle.model_known.specs.Delta.{known_contents}
-use Rattle.model_known.specs.Follow.{Followed}
-use Rattle.model_known.specs.Holds.{IsPlaceOf}
+use Rattle.model_world.specs.Delta.{known_contents}
+use Rattle.model_world.specs.Follow.{Followed}
+use Rattle.model_world.specs.Holds.{IsPlaceOf}
 use Rattle.model_deltas.specs.Before.{IsBefore}
 use Rattle.model_deltas.specs.World.{IsMessageIn, DeltaStandsFor}
 

@@ -3,7 +3,7 @@ use Rattle.std.specs.Prelude.{◌≡◌, ◌++◌, ℕ, List, Option, Some, None
 use Rattle.model_functions.specs.Library.{Library}
 use Rattle.model_graph.specs.Graph.{Decl}
 use Rattle.model_journal.specs.Entry.{Entry}
-use Rattle.model_known.specs.Direct.{direct_report}
+use Rattle.model_world.specs.Direct.{direct_report}
 use Rattle.model_program.specs.Generator.{load_graph, load_script}
 use Rattle.model_program.specs.Summary.{load_text}
 use Rattle.model_readings.specs.Graph.{graph_of}

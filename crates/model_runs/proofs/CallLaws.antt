@@ -8,12 +8,12 @@ use Rattle.model_world.specs.Command.{Command, Script}
 use Rattle.model_world.specs.Lawful.{IsLawful}
 use Rattle.model_world.specs.World.{Run, peer_at, start, acts, step, ended}
 use Rattle.model_world.specs.declared.stop.Stop.{Stop}
-use Rattle.model_known.specs.Follow.{Followed, follow_step, follow, begin}
-use Rattle.model_known.specs.Holds.{Holds, IsPlaceOf}
-use Rattle.model_known.proofs.VariableLaws.{known-derived}
-use Rattle.model_known.proofs.KnownLaws.{end-place}
-use Rattle.model_known.proofs.FollowLaws.{bound}
-use Rattle.model_known.proofs.PlayLaws.{place-sound}
+use Rattle.model_world.specs.Follow.{Followed, follow_step, follow, begin}
+use Rattle.model_world.specs.Holds.{Holds, IsPlaceOf}
+use Rattle.model_world.proofs.VariableLaws.{known-derived}
+use Rattle.model_world.proofs.KnownLaws.{end-place}
+use Rattle.model_world.proofs.FollowLaws.{bound}
+use Rattle.model_world.proofs.PlayLaws.{place-sound}
 use Rattle.model_journal.specs.Entry.{Entry}
 use Rattle.model_journal.specs.Journal.{graph, vals, val, counts, sources_from, sources}
 use Rattle.model_journal.specs.Legal.{IsLegal}

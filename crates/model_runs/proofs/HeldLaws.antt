@@ -16,7 +16,7 @@ use Rattle.model_graph.proofs.LimitLaws.{small-words}
 use Rattle.model_graph.proofs.PlaceLaws.{below-or-not, from-nothing, at-append, at-last, at-set, at-map-low, set-length, map-length, length-push}
 use Rattle.model_graph.specs.Message.{Sent, Message, sent_from, source_number, sent_at, brought, gained, with_gain}
 use Rattle.model_graph.proofs.MessageLaws.{sent-among, gained-length, gained-at}
-use Rattle.model_known.proofs.VariableLaws.{kind-append}
+use Rattle.model_world.proofs.VariableLaws.{kind-append}
 use Rattle.model_values.specs.Name.{is_name}
 use Rattle.model_values.proofs.ListLaws.{each-weaker}
 use Rattle.model_readings.specs.Lawful.{IsGraph}

@@ -9,7 +9,7 @@ use Rattle.model_graph.specs.Graph.{Kind, Decl, is_source, kind_at}
 use Rattle.model_graph.specs.Lawful.{shape_of}
 use Rattle.model_graph.proofs.PlaceLaws.{below-or-not, at-append, at-last, at-set, at-map-low, at-replicate, length-replicate, length-push, map-length, set-length}
 use Rattle.model_graph.specs.Message.{Message}
-use Rattle.model_known.proofs.VariableLaws.{kind-append}
+use Rattle.model_world.proofs.VariableLaws.{kind-append}
 use Rattle.model_wire.specs.Lawful.{IsSource}
 use Rattle.model_world.specs.Command as command
 use Rattle.model_world.specs.Command.{Until, Mark, Send, Declare}

@@ -10,9 +10,9 @@ use Rattle.model_graph.proofs.PlaceLaws.{equal-numbers, at-set}
 use Rattle.model_world.specs.World as world
 use Rattle.model_world.specs.World.{Peer, Run, peer_at, updated, delivered, extended, message_at, no_message, sent_number, no_mark, mark_at, no_peer, act}
 use Rattle.model_world.specs.declared.stop.Stop.{Stop}
-use Rattle.model_known.specs.Delta.{deltas_at}
-use Rattle.model_known.specs.Follow.{Followed}
-use Rattle.model_known.proofs.SoundLaws.{IsSound}
+use Rattle.model_world.specs.Delta.{deltas_at}
+use Rattle.model_world.specs.Follow.{Followed}
+use Rattle.model_world.proofs.SoundLaws.{IsSound}
 use Rattle.model_journal.specs.Entry.{Act, Entry, Frame}
 use Rattle.model_journal.specs.Journal.{journal}
 use Rattle.model_journal.specs.Legal.{count_limit, IsWithinLimits, IsLawful, BringsValid, IsLegal}

@@ -10,17 +10,17 @@ use Rattle.model_graph.specs.Evaluation.{content_at, least_of}
 use Rattle.model_graph.specs.Graph.{Decl, OrSet, GSet, Counter, MaxReg, is_source, kind_at, no_decl}
 use Rattle.model_graph.proofs.PlaceLaws.{at-set, set-length, at-replicate, length-replicate, map-length, at-map-low}
 use Rattle.model_graph.specs.Message.{Message}
-use Rattle.model_known.specs.Delta.{Delta, deltas_at, first_deltas, brought_to, join_all, known_contents}
-use Rattle.model_known.specs.Follow.{Followed, begin, delta_of}
-use Rattle.model_known.specs.Holds.{Holds, Carries}
-use Rattle.model_known.specs.Owner.{delta_at}
-use Rattle.model_known.proofs.EffectLaws.{followed}
-use Rattle.model_known.proofs.HoldLaws.{sends-known, takes-known}
-use Rattle.model_known.proofs.KnownLaws.{known-above}
-use Rattle.model_known.specs.Known.{Each, IsOfSource}
-use Rattle.model_known.proofs.PlaceLaws.{holds-contents}
-use Rattle.model_known.proofs.PlayLaws.{source-of}
-use Rattle.model_known.proofs.SoundLaws.{IsSound, sound-begin, sound-act}
+use Rattle.model_world.specs.Delta.{Delta, deltas_at, first_deltas, brought_to, join_all, known_contents}
+use Rattle.model_world.specs.Follow.{Followed, begin, delta_of}
+use Rattle.model_world.specs.Holds.{Holds, Carries}
+use Rattle.model_world.specs.Owner.{delta_at}
+use Rattle.model_world.proofs.EffectLaws.{followed}
+use Rattle.model_world.proofs.HoldLaws.{sends-known, takes-known}
+use Rattle.model_world.proofs.KnownLaws.{known-above}
+use Rattle.model_world.specs.Known.{Each, IsOfSource}
+use Rattle.model_world.proofs.PlaceLaws.{holds-contents}
+use Rattle.model_world.proofs.PlayLaws.{source-of}
+use Rattle.model_world.proofs.SoundLaws.{IsSound, sound-begin, sound-act}
 use Rattle.model_world.specs.Command.{Command}
 use Rattle.model_world.specs.Lawful.{opening_stage, stage_after, MayBeDone, AreLawful}
 use Rattle.model_world.specs.World.{Peer, Update, Take, Post, fresh_peer, no_peer, peer_at, sent_number, updated, delivered, message_at, shown_at}

@@ -4,8 +4,8 @@ use Rattle.std.specs.List.{AllByRecursion}
 use Rattle.model_graph.specs.Graph.{Decl}
 use Rattle.model_graph.specs.Message.{Message}
 use Rattle.model_graph.specs.Spelling.{spelled}
-use Rattle.model_known.specs.Delta.{Delta, deltas_at}
-use Rattle.model_known.specs.Follow.{delta_of}
+use Rattle.model_world.specs.Delta.{Delta, deltas_at}
+use Rattle.model_world.specs.Follow.{delta_of}
 use Rattle.model_states.specs.Update.{Op}
 use Rattle.model_world.specs.Command.{Command}
 use Rattle.model_world.specs.Lawful.{opening_stage, AreLawful}

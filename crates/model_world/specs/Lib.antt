@@ -4,3 +4,9 @@ pub mod World
 pub mod Lawful
 pub mod Report
 pub mod Stops
+pub mod Delta
+pub mod Follow
+pub mod Holds
+pub mod Owner
+pub mod Known
+pub mod Direct

@@ -1,5 +1,0 @@
-use Rattle.model_known.proofs.ReportLaws.{place-marked}
-use Rattle.model_known.proofs.tokens.tokens_belong_to_one_add.Goals as goal
-
-pub returns-clause-marked : goal.returns-clause-marked
-returns-clause-marked c = place-marked
