@@ -22,8 +22,8 @@ use Rattle.lasp_graph.specs.States.{held_of}
 use Rattle.lasp_graph.specs.Evaluated.{process, second_of, number_by}
 use Rattle.lasp_graph.specs.Delta as delta
 use Rattle.lasp_graph.specs.declared.inputs.Inputs.{Inputs}
-use Rattle.lasp_job.specs.declared.job.Job.{Job}
-use Rattle.lasp_job.specs.Asked.{has_two}
+use Rattle.lasp_replica.specs.declared.job.Job.{Job}
+use Rattle.lasp_replica.specs.Asked.{has_two}
 use Rattle.lasp_replica.specs.Parts.{first_input, second_input}
 use Rattle.lasp_replica.specs.Jobs.{AreInputsOf, IsJobOf, IsJobNow, IsResultOf, unread, unread_rows}
 use Rattle.lasp_replica.proofs.KindLaws.{equation-process}

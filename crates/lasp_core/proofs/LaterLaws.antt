@@ -14,7 +14,7 @@ use Rattle.lasp_state.specs.declared.state.State.{State}
 use Rattle.lasp_state.specs.State.{content_of}
 use Rattle.lasp_graph.specs.Evaluated.{second_of}
 use Rattle.lasp_graph.specs.Delta.{IsStateOf}
-use Rattle.lasp_job.specs.declared.job.Job.{Job}
+use Rattle.lasp_replica.specs.declared.job.Job.{Job}
 use Rattle.lasp_core.specs.Core.{IsOpen}
 use Rattle.lasp_replica.specs.Jobs.{AreInputsOf, IsJobOf, IsResultOf}
 

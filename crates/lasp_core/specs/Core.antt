@@ -13,7 +13,7 @@ use Rattle.lasp_state.specs.declared.state.State.{State}
 use Rattle.lasp_state.specs.State.{content_of, shape_of, number_of}
 use Rattle.lasp_graph.specs.States.{Held, held_at}
 use Rattle.lasp_graph.specs.Evaluated.{number_by}
-use Rattle.lasp_job.specs.declared.job.Job.{Job}
+use Rattle.lasp_replica.specs.declared.job.Job.{Job}
 use Rattle.lasp_core.specs.Reads.{read_of}
 use Rattle.lasp_core.specs.Listed.{AreClean}
 use Rattle.lasp_replica.specs.Jobs.{greatest_count, counted_up}

@@ -7,7 +7,7 @@ use Rattle.lasp_state.specs.declared.state.State.{State}
 use Rattle.lasp_state.specs.State.{content_of}
 use Rattle.lasp_graph.specs.Evaluated.{process, second_of}
 use Rattle.lasp_graph.specs.Delta.{IsStateOf}
-use Rattle.lasp_job.specs.declared.job.Job.{Job}
+use Rattle.lasp_replica.specs.declared.job.Job.{Job}
 
 -- what the process of a job's variable gives on the job's inputs
 abbrev pub evaluated : Job → Content

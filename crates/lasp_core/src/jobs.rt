@@ -16,7 +16,7 @@ ghost use Rattle.lasp_core.specs.Listed.{IsLater, GoesOn, EndsWith, AreClean, Ha
 
 use crate::read::Released;
 use crate::replica_core::Core;
-use lasp_job::Job;
+use lasp_replica::Job;
 use lasp_state::State;
 use std::alloc::AllocError;
 

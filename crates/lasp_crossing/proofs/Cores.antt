@@ -6,7 +6,7 @@ use Rattle.lasp_crossing.proofs.States.{State-send, State-sync, Threshold-send, 
 use Rattle.lasp_crossing.proofs.Graphs.{Inputs-send, Inputs-sync}
 use Rattle.lasp_crossing.proofs.Replicas.{Replica-send, Replica-sync}
 use Rattle.lasp_graph.proofs.graph.Graph.TheSendSync as graph
-use Rattle.lasp_job.specs.contracts.job.Job as Job
+use Rattle.lasp_replica.specs.contracts.job.Job as Job
 use Rattle.lasp_core.specs.contracts.read.ReadNo as ReadNo
 use Rattle.lasp_core.specs.contracts.read.Released as Released
 use Rattle.lasp_core.specs.contracts.replica_core.Core as Core

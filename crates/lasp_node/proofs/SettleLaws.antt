@@ -20,7 +20,7 @@ use Rattle.model_core.proofs.PeerLaws.{graph-bound, peer-bound}
 use Rattle.model_core.proofs.ReadLaws.{all-kept, met-stays}
 use Rattle.model_journal.proofs.CleanLaws.{all-clean}
 use Rattle.lasp_replica.proofs.OneLaws.{same-or-apart}
-use Rattle.lasp_job.specs.declared.job.Job.{Job}
+use Rattle.lasp_replica.specs.declared.job.Job.{Job}
 use Rattle.lasp_replica.specs.Jobs.{IsUnclean, IsJobNow, greatest_count, counted_up, unread_rows}
 use Rattle.lasp_core.specs.Core.{taken, returned, IsSettled}
 use Rattle.lasp_core.specs.Evaluated.{evaluated}

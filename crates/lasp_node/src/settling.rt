@@ -9,7 +9,7 @@ use lasp_core::Core;
 use lasp_drive::NodeStop;
 use lasp_fns::StepLib;
 use lasp_graph::EvalRefused;
-use lasp_job::Job;
+use lasp_replica::Job;
 use std::alloc::Global;
 
 /// Does the job of the least variable that lacks something: evaluates it, and hands the result to its core; or gives it back.

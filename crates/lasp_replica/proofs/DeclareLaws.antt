@@ -24,7 +24,7 @@ use Rattle.lasp_history.specs.History.{no_history, IsHistory}
 use Rattle.lasp_history.proofs.HistoryLaws.{history-fresh, history-declared}
 use Rattle.lasp_graph.specs.States.{Held, held_at, contents_of}
 use Rattle.lasp_graph.specs.Evaluated.{number_by}
-use Rattle.lasp_job.specs.Asked.{has_two}
+use Rattle.lasp_replica.specs.Asked.{has_two}
 use Rattle.lasp_replica.specs.Parts.{Parts, IsBaseAt, base_at, history_at, first_input, second_input, no_set, fresh_base, fresh_state, IsKept}
 use Rattle.lasp_replica.proofs.KindLaws.{first-input, second-input, number-least}
 use Rattle.lasp_replica.proofs.PartLaws.{base-stays, history-alike, states-long}

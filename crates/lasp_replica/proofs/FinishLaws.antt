@@ -29,9 +29,8 @@ use Rattle.lasp_state.specs.declared.state.State.{State}
 use Rattle.lasp_state.specs.State.{content_of, shape_of, number_of}
 use Rattle.lasp_graph.specs.States.{Held, held_of, held_at}
 use Rattle.lasp_graph.specs.Evaluated.{process, derived_shape, number_by, second_of}
-use Rattle.lasp_job.specs.declared.job.Job.{Job}
-use Rattle.lasp_job.specs.Asked.{IsAsked, IsGained}
-use Rattle.lasp_job.specs.Asked.{has_two}
+use Rattle.lasp_replica.specs.declared.job.Job.{Job}
+use Rattle.lasp_replica.specs.Asked.{IsAsked, IsGained, has_two}
 use Rattle.lasp_replica.specs.Parts.{Parts, IsBase, IsBaseAt, IsKept, history_at, news_of, first_input, second_input}
 use Rattle.lasp_replica.proofs.KindLaws.{equation-process, shape-derived}
 use Rattle.lasp_replica.proofs.PartLaws.{states-long, held-val}

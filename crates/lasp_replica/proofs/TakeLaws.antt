@@ -27,9 +27,8 @@ use Rattle.lasp_graph.specs.Evaluated.{second_of, process}
 use Rattle.lasp_graph.specs.Delta.{IsStateOf}
 use Rattle.lasp_history.specs.History.{rows_before}
 use Rattle.lasp_history.specs.Kept.{Kept}
-use Rattle.lasp_job.specs.Asked.{IsReadable, IsAsked}
-use Rattle.lasp_job.specs.declared.job.Job.{Job}
-use Rattle.lasp_job.specs.Asked.{has_two}
+use Rattle.lasp_replica.specs.Asked.{IsReadable, IsAsked, has_two}
+use Rattle.lasp_replica.specs.declared.job.Job.{Job}
 use Rattle.lasp_replica.specs.Parts.{Base, Parts, IsKept, IsBaseAt, first_input, second_input, history_at}
 use Rattle.lasp_replica.specs.Reading.{IsSmallSet, HasChanged, IsOfItsKind, rows_since}
 use Rattle.lasp_replica.proofs.PartLaws.{held-val, states-long}

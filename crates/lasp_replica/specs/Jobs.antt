@@ -17,8 +17,8 @@ use Rattle.lasp_graph.specs.States.{held_of}
 use Rattle.lasp_graph.specs.Evaluated.{second_of}
 use Rattle.lasp_graph.specs.Delta.{IsStateOf}
 use Rattle.lasp_graph.specs.declared.inputs.Inputs.{Inputs}
-use Rattle.lasp_job.specs.declared.job.Job.{Job}
-use Rattle.lasp_job.specs.Asked.{has_two}
+use Rattle.lasp_replica.specs.declared.job.Job.{Job}
+use Rattle.lasp_replica.specs.Asked.{has_two}
 use Rattle.lasp_replica.specs.Parts.{first_input, second_input}
 use Rattle.lasp_replica.specs.Replica.{frame_of, entries_of, busy_of, IsReplica}
 use Rattle.lasp_replica.specs.declared.refused.NotYet.{NotYet}

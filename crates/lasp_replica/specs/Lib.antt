@@ -8,4 +8,5 @@ pub mod Update
 pub mod Finish
 pub mod Delivery
 pub mod Entries
+pub mod Asked
 pub mod Prelude

@@ -16,7 +16,7 @@ use Rattle.model_journal.specs.Clean.{base}
 use Rattle.lasp_history.specs.History.{History, no_history, IsHistory}
 use Rattle.lasp_graph.specs.States.{Held, held_at, contents_of}
 use Rattle.lasp_graph.specs.Evaluated.{inputs_of, number_by}
-use Rattle.lasp_job.specs.Asked.{has_two}
+use Rattle.lasp_replica.specs.Asked.{has_two}
 
 -- what a process last read: how many entries stood then, and its inputs as they were
 pub record Base : Type 0 where

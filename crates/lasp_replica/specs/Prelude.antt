@@ -34,4 +34,4 @@ pub use Rattle.lasp_replica.specs.Replica.{Goes, Grows, IsAnswered, IsBeginning,
 pub use Rattle.lasp_replica.specs.Since.{AreSince, IsSince}
 pub use Rattle.lasp_replica.specs.TakenIn.{IsInOrder, IsTakenIn}
 pub use Rattle.lasp_replica.specs.Update.{IsGain, IsInFormat, IsPrepared, recorded}
-pub use Rattle.lasp_job.specs.Asked.{has_two}
+pub use Rattle.lasp_replica.specs.Asked.{has_two}

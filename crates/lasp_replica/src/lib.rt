@@ -4,7 +4,9 @@
 #![tactic(auto)]
 
 mod entry;
+mod job;
 mod kept;
+mod parts;
 mod process;
 mod reading;
 mod refused;
@@ -12,7 +14,9 @@ mod replica;
 mod sources;
 
 pub use entry::{Act, Entry};
+pub use job::Job;
 pub use kept::{binds_are_kept, declarations_are_kept, deliveries_are_kept, updates_are_kept};
+pub use parts::JobParts;
 pub use process::Process;
 pub use reading::{bases_tell_what_is_clean, histories_tell_what_changed, news_are_what_is_gained};
 pub use refused::{DeliverRefused, NotYet, UpdateRefused};

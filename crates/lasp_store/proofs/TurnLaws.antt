@@ -14,7 +14,7 @@ use Rattle.model_core.proofs.BaseLaws.{take-first, graph-longer, kind-later}
 use Rattle.lasp_histlock.specs.Names.{LockId}
 use Rattle.lasp_histlock.specs.History.{added, longer}
 use Rattle.lasp_histlock.specs.Passes.{after_miss, after_give, after_rejoin}
-use Rattle.lasp_job.specs.declared.job.Job.{Job}
+use Rattle.lasp_replica.specs.declared.job.Job.{Job}
 use Rattle.model_states.specs.Threshold.{Threshold, suits}
 use Rattle.model_graph.specs.Lawful.{shape_of}
 use Rattle.lasp_core.specs.Reads.{read_of}

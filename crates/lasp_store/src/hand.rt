@@ -8,7 +8,7 @@ use crate::store::{Hand, Store};
 use lasp_core::{
     Core, NotYet, Released, Try, jobs_stay, states_are_those_after_the_entries, variables_stay,
 };
-use lasp_job::Job;
+use lasp_replica::Job;
 use lasp_state::State;
 use std::alloc::AllocError;
 use std::sync::{Arc, Wait};

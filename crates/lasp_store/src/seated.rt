@@ -5,7 +5,7 @@ ghost use Rattle.lasp_store.specs.Prelude.{IsSeated};
 
 use crate::store::{Hand, Store};
 use lasp_core::{Jobs, ReadNo, Released, Try, Watched, reads_stay_open};
-use lasp_job::Job;
+use lasp_replica::Job;
 use lasp_state::State;
 use std::alloc::AllocError;
 use std::marker::Model;

@@ -8,7 +8,7 @@ use crate::store::{Feed, Store};
 use lasp_core::{Core, Settle, evaluated_jobs_have_results, variables_stay};
 use lasp_fns::{Library, StepLib};
 use lasp_graph::EvalRefused;
-use lasp_job::Job;
+use lasp_replica::Job;
 use lasp_state::State;
 use std::alloc::{AllocError, Global};
 use std::sync::Wait;

@@ -11,7 +11,7 @@ ghost use Rattle.lasp_workers.specs.Worked.{Counts, HasEnded};
 use lasp_core::{Jobs, evaluated_jobs_have_results, jobs_stay, variables_stay};
 use lasp_fns::StepLib;
 use lasp_graph::EvalRefused;
-use lasp_job::Job;
+use lasp_replica::Job;
 use std::alloc::{AllocError, Global};
 
 /// Evaluates a job and hands its result in: true where that was taken. A job that can't be evaluated, since the library lacks a function or the result has too many rows, is given back, and so is each that finds no memory.

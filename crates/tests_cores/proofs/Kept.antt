@@ -7,7 +7,7 @@ use Rattle.model_journal.specs.Entry.{Entry, Frame}
 use Rattle.model_journal.specs.Journal.{graph}
 use Rattle.model_core.specs.Core.{Core, Read}
 use Rattle.lasp_state.specs.declared.state.State.{State}
-use Rattle.lasp_job.specs.declared.job.Job.{Job}
+use Rattle.lasp_replica.specs.declared.job.Job.{Job}
 use Rattle.lasp_core.specs.Core.{IsOpen}
 use Rattle.lasp_core.specs.Listed.{GoesOn}
 use Rattle.lasp_replica.specs.Jobs.{IsJobOf, IsResultOf}

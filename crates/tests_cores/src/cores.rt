@@ -19,7 +19,7 @@ use lasp_fns::Library;
 use lasp_graph::{
     Decl, DeclRefused, EvalAll, Graph, States, eval_by_variable, read_decl, read_graph,
 };
-use lasp_job::Job;
+use lasp_replica::Job;
 use lasp_logset::add_delta;
 use lasp_state::{Op, State, Threshold};
 use lasp_value::{Value, Values};

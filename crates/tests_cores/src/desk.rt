@@ -14,7 +14,7 @@ use lasp_core::{
     Core, DeliverRefused, ReadNo, Released, UpdateRefused, jobs_stay, reads_stay_open,
 };
 use lasp_fns::{Library, StepLib};
-use lasp_job::Job;
+use lasp_replica::Job;
 use lasp_state::State;
 use lasp_wire::Message;
 use std::alloc::{AllocError, Global};

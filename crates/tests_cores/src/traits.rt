@@ -10,7 +10,7 @@ use crate::work::evaluated;
 use crate::wrong::Wrong;
 use lasp_core::{Core, Jobs, ReadNo, Released, Try, Watched, states_are_those_after_the_entries};
 use lasp_fns::StepLib;
-use lasp_job::Job;
+use lasp_replica::Job;
 use lasp_state::State;
 use std::alloc::{AllocError, Global};
 use std::sync::Arc;

@@ -10,7 +10,7 @@ use crate::told::is_same;
 use crate::wrong::Wrong;
 use lasp_fns::StepLib;
 use lasp_graph::{Inputs, node_delta};
-use lasp_job::Job;
+use lasp_replica::Job;
 use lasp_state::State;
 use std::alloc::Global;
 

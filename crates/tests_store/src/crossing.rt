@@ -3,8 +3,7 @@
 use lasp_core::{Core, ReadNo, Released};
 use lasp_fns::Library;
 use lasp_graph::{Graph, Inputs, States};
-use lasp_job::Job;
-use lasp_replica::{Entry, Replica};
+use lasp_replica::{Entry, Job, Replica};
 use lasp_script::Script;
 use lasp_state::{Op, State, Threshold};
 use lasp_store::{Hand, Seated, Store};

@@ -10,7 +10,7 @@ use crate::feeding::split;
 use lasp_core::{Jobs, Released, evaluated_jobs_have_results, variables_stay};
 use lasp_fns::{Library, StepLib};
 use lasp_graph::Graph;
-use lasp_job::Job;
+use lasp_replica::Job;
 use lasp_store::{Feed, Hand, Seated, Store};
 use std::alloc::Global;
 use std::sync::atomic::{AtomicU64, Ordering};

@@ -6,9 +6,9 @@ ghost use Rattle.lasp_replica.specs.Jobs.{IsTaken};
 
 use super::Replica;
 use super::least::has_two;
+use crate::Job;
 use crate::process::Process;
 use lasp_graph::{Inputs, Kind};
-use lasp_job::Job;
 use lasp_logset::OrSet;
 use lasp_state::State;
 use std::alloc::AllocError;

@@ -10,7 +10,7 @@ use Rattle.lasp_state.specs.State.{content_of}
 use Rattle.lasp_graph.specs.Library.{library_of}
 use Rattle.lasp_graph.specs.Evaluated.{process, Becomes, second_of}
 use Rattle.lasp_graph.specs.declared.inputs.EvalRefused.{EvalRefused}
-use Rattle.lasp_job.specs.declared.job.Job.{Job}
+use Rattle.lasp_replica.specs.declared.job.Job.{Job}
 use Rattle.lasp_core.specs.Core.{returned}
 use Rattle.lasp_core.proofs.JobLaws.{job-graph, job-derived}
 use Rattle.lasp_node.proofs.SettleLaws.{job-large, job-legal, bound-back, bound-done, clean-done}

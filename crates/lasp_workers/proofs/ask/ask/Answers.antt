@@ -2,7 +2,7 @@ use Rattle.std.proofs.Common.{◌≡◌, Bool, if◌then◌else◌, Option, subs
 use Rattle.std.specs.Prelude.{IfSome}
 use Rattle.lasp_fns.specs.Steps as counted
 use Rattle.lasp_replica.specs.Jobs.{counted_up}
-use Rattle.lasp_job.specs.declared.job.Job.{Job}
+use Rattle.lasp_replica.specs.declared.job.Job.{Job}
 use Rattle.lasp_core.specs.Core.{rows_of}
 use Rattle.lasp_workers.specs.Worked.{HasEnded}
 use Rattle.lasp_workers.proofs.WorkLaws.{added-none, asked-done, ended-none}

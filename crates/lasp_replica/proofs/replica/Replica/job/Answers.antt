@@ -2,7 +2,7 @@ use Rattle.std.proofs.Common.{ℕ, ◌≡◌, ◌∙◌, refl, sym, ap}
 use Rattle.std.specs.Arc.{arc_value}
 use Rattle.lasp_graph.specs.Kind.{kind_of}
 use Rattle.lasp_graph.specs.States.{held_of}
-use Rattle.lasp_job.specs.Asked.{has_two}
+use Rattle.lasp_replica.specs.Asked.{has_two}
 use Rattle.lasp_replica.specs.Parts.{history_at}
 use Rattle.lasp_replica.specs.Reading.{rows_since}
 use Rattle.lasp_replica.specs.Replica.{parts_of}

@@ -9,7 +9,7 @@ use Rattle.lasp_state.specs.State.{content_of}
 use Rattle.lasp_graph.specs.Library.{library_of}
 use Rattle.lasp_graph.specs.Evaluated.{process, Becomes, second_of}
 use Rattle.lasp_graph.specs.declared.inputs.EvalRefused.{EvalRefused}
-use Rattle.lasp_job.specs.declared.job.Job.{Job}
+use Rattle.lasp_replica.specs.declared.job.Job.{Job}
 use Rattle.lasp_core.proofs.JobLaws.{job-derived}
 use Rattle.lasp_store.specs.Turn.{HadTurn, frame_of, graph_seen}
 use Rattle.lasp_store.specs.Settled.{HasBound}

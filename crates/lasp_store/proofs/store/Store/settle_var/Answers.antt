@@ -4,7 +4,7 @@ use Rattle.model_graph.specs.Graph.{Decl}
 use Rattle.model_readings.specs.Lawful.{FitsAll}
 use Rattle.lasp_fns.specs.Steps as counted
 use Rattle.lasp_graph.specs.Library.{library_of}
-use Rattle.lasp_job.specs.declared.job.Job.{Job}
+use Rattle.lasp_replica.specs.declared.job.Job.{Job}
 use Rattle.lasp_replica.specs.Jobs.{IsJobNow, IsUnclean}
 use Rattle.lasp_store.specs.Turn.{frame_of}
 use Rattle.lasp_store.specs.Settled.{IsDone, AreEvaluatedBelow}

@@ -1,6 +1,6 @@
 use Rattle.std.proofs.Common.{rules, ◌<◌, length, sym, subst}
 use Rattle.lasp_state.specs.declared.state.State.{State}
-use Rattle.lasp_job.specs.declared.job.Job.{Job}
+use Rattle.lasp_replica.specs.declared.job.Job.{Job}
 use Rattle.lasp_replica.specs.Jobs.{IsJobOf, IsResultOf}
 use Rattle.lasp_core.specs.Reads.{read_of}
 use Rattle.tests_cores.specs.declared.work.Work.{Work}

@@ -10,7 +10,7 @@ ghost use Rattle.lasp_state.specs.State.{content_of, shape_of, number_of};
 ghost use Rattle.lasp_graph.specs.Library.{library_of};
 ghost use Rattle.lasp_graph.specs.Delta.{gained};
 ghost use Rattle.lasp_graph.specs.Evaluated.{process, Becomes, seen, derived_shape, number_by, second_of};
-ghost use Rattle.lasp_job.specs.Asked.{IsAsked, IsAsked-prop, IsGained, IsGained-prop};
+ghost use Rattle.lasp_replica.specs.Asked.{IsAsked, IsAsked-prop, IsGained, IsGained-prop};
 
 use super::parts::JobParts;
 use lasp_fns::StepLib;
