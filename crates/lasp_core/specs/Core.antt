@@ -8,7 +8,7 @@ use Rattle.model_graph.specs.Lawful as lawful
 use Rattle.model_journal.specs.Entry.{Entry, Frame}
 use Rattle.model_journal.specs.Journal.{graph, val}
 use Rattle.model_core.specs.Core.{Read, Core, IsParked, is_met}
-use Rattle.lasp_history.specs.History.{version_before}
+use Rattle.lasp_replica.specs.History.{version_before}
 use Rattle.lasp_state.specs.declared.state.State.{State}
 use Rattle.lasp_state.specs.State.{content_of, shape_of, number_of}
 use Rattle.lasp_graph.specs.States.{Held, held_at}

@@ -7,7 +7,7 @@ use Rattle.lasp_crossing.proofs.Sets.{Row-send, Row-sync}
 use Rattle.lasp_crossing.proofs.States.{Op-send, Op-sync}
 use Rattle.lasp_crossing.proofs.Graphs.{States-send, States-sync, Inputs-send, Inputs-sync}
 use Rattle.lasp_crossing.proofs.Messages.{Message-send, Message-sync}
-use Rattle.lasp_history.specs.contracts.history.History as History
+use Rattle.lasp_replica.specs.contracts.history.History as History
 use Rattle.lasp_replica.specs.contracts.entry.Entry as Entry
 use Rattle.lasp_replica.specs.contracts.replica.Replica as Replica
 

@@ -15,7 +15,7 @@ use Rattle.model_graph.specs.Evaluation.{content_at, first_large}
 use Rattle.model_graph.proofs.PlaceLaws.{at-map, map-length}
 use Rattle.model_graph.specs.Message.{Message, sent_at, source_number, brought, with_gain, gained}
 use Rattle.model_runs.specs.Part.{BringsAsMuch}
-use Rattle.lasp_history.specs.Kept.{Kept}
+use Rattle.lasp_replica.specs.Kept.{Kept}
 use Rattle.lasp_graph.specs.States.{Held, held_at, contents_of}
 use Rattle.lasp_replica.specs.Parts.{news_of, AreRowsOf}
 use Rattle.lasp_replica.specs.Replica.{kept_at, IsOfGraph, IsDelivered}

@@ -20,8 +20,8 @@ use Rattle.model_journal.proofs.EntryLaws.{extend-vals, extend-counts}
 use Rattle.model_core.proofs.PeerLaws.{graph-extended}
 use Rattle.model_core.proofs.BaseLaws.{base-extended}
 use Rattle.model_runs.proofs.HeldLaws.{each-variable}
-use Rattle.lasp_history.specs.History.{no_history, IsHistory}
-use Rattle.lasp_history.proofs.HistoryLaws.{history-fresh, history-declared}
+use Rattle.lasp_replica.specs.History.{no_history, IsHistory}
+use Rattle.lasp_replica.proofs.HistoryLaws.{history-fresh, history-declared}
 use Rattle.lasp_graph.specs.States.{Held, held_at, contents_of}
 use Rattle.lasp_graph.specs.Evaluated.{number_by}
 use Rattle.lasp_replica.specs.Asked.{has_two}

@@ -28,8 +28,8 @@ use Rattle.model_core.proofs.MessageLaws.{sent-to}
 use Rattle.model_core.proofs.PeerLaws.{graph-delivered}
 use Rattle.model_core.proofs.SourceLaws.{sources-gained}
 use Rattle.model_core.proofs.ValidLaws.{val-small}
-use Rattle.lasp_history.specs.History.{History, grown, AreBelow}
-use Rattle.lasp_history.specs.Kept.{Kept}
+use Rattle.lasp_replica.specs.History.{History, grown, AreBelow}
+use Rattle.lasp_replica.specs.Kept.{Kept}
 use Rattle.lasp_graph.specs.States.{Held, held_at}
 use Rattle.lasp_replica.specs.Parts.{history_at, news_of, AreRowsOf, IsKept}
 use Rattle.lasp_replica.specs.TakenIn.{AreRecorded, IsTakenIn}

@@ -11,7 +11,7 @@ use Rattle.model_journal.specs.Legal.{IsLegal}
 use Rattle.model_journal.proofs.EntryLaws.{deliver-source, deliver-derived, deliver-counts, pushed}
 use Rattle.model_core.proofs.PeerLaws.{graph-delivered}
 use Rattle.model_core.proofs.BaseLaws.{base-delivered}
-use Rattle.lasp_history.specs.History.{IsHistory}
+use Rattle.lasp_replica.specs.History.{IsHistory}
 use Rattle.lasp_graph.specs.States.{held_at}
 use Rattle.lasp_replica.specs.Parts.{Parts, history_at, IsKept}
 use Rattle.lasp_replica.specs.TakenIn.{IsTakenIn, IsInOrder}

@@ -15,8 +15,8 @@ use Rattle.model_core.specs.Peer.{peer_of}
 use Rattle.model_core.proofs.LegalLaws.{legal-extend}
 use Rattle.model_core.proofs.HeldLaws.{held-extend}
 use Rattle.model_core.proofs.PeerLaws.{graph-extended}
-use Rattle.lasp_history.specs.History.{no_history}
-use Rattle.lasp_history.proofs.KeptLaws.{where-ok}
+use Rattle.lasp_replica.specs.History.{no_history}
+use Rattle.lasp_replica.proofs.KeptLaws.{where-ok}
 use Rattle.lasp_replica.specs.Parts.{Parts, IsKept, fresh_state, fresh_base}
 use Rattle.lasp_replica.proofs.DeclareLaws.{kept-extended}
 use Rattle.lasp_replica.specs.declared.replica.Replica.{Replica}

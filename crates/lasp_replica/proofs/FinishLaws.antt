@@ -24,7 +24,7 @@ use Rattle.model_core.proofs.PeerLaws.{graph-bound}
 use Rattle.model_core.proofs.BaseLaws.{vals-take, kind-take, derived-take}
 use Rattle.model_core.proofs.LegalLaws.{legal-bind}
 use Rattle.model_core.proofs.HeldLaws.{held-bind}
-use Rattle.lasp_history.specs.History.{History, AreBelow, grown}
+use Rattle.lasp_replica.specs.History.{History, AreBelow, grown}
 use Rattle.lasp_state.specs.declared.state.State.{State}
 use Rattle.lasp_state.specs.State.{content_of, shape_of, number_of}
 use Rattle.lasp_graph.specs.States.{Held, held_of, held_at}

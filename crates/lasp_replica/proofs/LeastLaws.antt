@@ -13,7 +13,7 @@ use Rattle.model_core.proofs.LegalLaws.{legal-start}
 use Rattle.model_core.proofs.HeldLaws.{held-start}
 use Rattle.model_runs.specs.Held.{IsHeld}
 use Rattle.model_core.specs.Peer.{peer_of}
-use Rattle.lasp_history.specs.History.{no_history}
+use Rattle.lasp_replica.specs.History.{no_history}
 use Rattle.lasp_replica.specs.Parts.{Parts, IsKept, fresh_state, fresh_base}
 use Rattle.lasp_replica.proofs.DeclareLaws.{kept-fresh}
 use Rattle.lasp_replica.specs.declared.replica.Replica.{Replica}

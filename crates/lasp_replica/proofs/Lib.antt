@@ -24,3 +24,6 @@ pub mod DeliverLaws
 pub mod NewsLaws
 pub mod SizeLaws
 pub mod SinceLaws
+pub mod GrowthLaws
+pub mod KeptLaws
+pub mod HistoryLaws

@@ -8,7 +8,7 @@ use Rattle.model_states.specs.Threshold.{Shape, set}
 use Rattle.lasp_replica.specs.Parts.{news_of, AreRowsOf}
 use Rattle.lasp_replica.proofs.ReadLaws.{news-none}
 use Rattle.lasp_replica.proofs.FinishLaws.{none-counted}
-use Rattle.lasp_history.specs.Kept.{Kept}
+use Rattle.lasp_replica.specs.Kept.{Kept}
 use Rattle.model_sets.proofs.RiseLaws.{join-news}
 use Rattle.lasp_state.specs.declared.state.State.{State}
 use Rattle.lasp_state.specs.declared.state.State.TheVariants as state

@@ -19,7 +19,7 @@ use Rattle.model_journal.proofs.CleanLaws.{vals-length}
 use Rattle.model_journal.proofs.EntryLaws.{update-vals, update-counts, bind-vals, bind-counts}
 use Rattle.model_core.proofs.PeerLaws.{graph-updated, graph-bound}
 use Rattle.model_core.proofs.BaseLaws.{base-updated, base-bind, base-apart, bind-later, bind-earlier}
-use Rattle.lasp_history.specs.History.{History, grown, no_history, IsHistory}
+use Rattle.lasp_replica.specs.History.{History, grown, no_history, IsHistory}
 use Rattle.lasp_graph.specs.States as states
 use Rattle.lasp_graph.specs.States.{Held, held_at, contents_of}
 use Rattle.lasp_graph.specs.Evaluated.{number_by}

@@ -17,8 +17,8 @@ use Rattle.model_journal.proofs.PlaceLaws.{take-front}
 use Rattle.model_journal.proofs.CleanLaws.{vals-length}
 use Rattle.model_core.proofs.BaseLaws.{base-within}
 use Rattle.model_core.proofs.ValidLaws.{val-ordered}
-use Rattle.lasp_history.specs.History.{History, grown, IsHistory}
-use Rattle.lasp_history.proofs.HistoryLaws.{history-rows, history-still, history-grown}
+use Rattle.lasp_replica.specs.History.{History, grown, IsHistory}
+use Rattle.lasp_replica.proofs.HistoryLaws.{history-rows, history-still, history-grown}
 use Rattle.lasp_graph.specs.States.{Held, held_at, contents_of}
 use Rattle.lasp_graph.specs.Evaluated.{number_by}
 use Rattle.lasp_replica.specs.Parts.{Base, Parts, IsBase, IsBaseAt, base_at, history_at, news_of, AreRowsOf, IsKept}

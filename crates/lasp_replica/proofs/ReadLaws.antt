@@ -22,9 +22,9 @@ use Rattle.model_journal.proofs.CleanLaws.{val-based}
 use Rattle.model_journal.proofs.WordLaws.{applied-base}
 use Rattle.model_core.proofs.BaseLaws.{base-within, vals-take}
 use Rattle.model_core.proofs.ValidLaws.{val-width, val-small}
-use Rattle.lasp_history.specs.History.{version_before, rows_before}
+use Rattle.lasp_replica.specs.History.{version_before, rows_before}
 use Rattle.model_sets.proofs.RiseLaws.{nothing-changed}
-use Rattle.lasp_history.proofs.HistoryLaws.{history-version, history-rows, history-changed, history-change}
+use Rattle.lasp_replica.proofs.HistoryLaws.{history-version, history-rows, history-changed, history-change}
 use Rattle.lasp_graph.specs.States.{held_at}
 use Rattle.lasp_graph.specs.Evaluated.{process}
 use Rattle.lasp_replica.specs.Parts.{Base, Parts, IsBase, IsBaseAt, base_at, history_at, first_input, second_input, IsKept}

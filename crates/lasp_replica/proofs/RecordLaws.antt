@@ -3,8 +3,8 @@ use Rattle.std.proofs.Common.{◌≡◌, ℕ, zero, suc, ◌+◌, ◌≤◌, ◌
 use Rattle.std.specs.Prelude.{slice_index_or}
 use Rattle.std.proofs.lemmas.List.{get_or-set_same, get_or-set_other}
 use Rattle.model_graph.proofs.PlaceLaws.{below-or-not, set-length}
-use Rattle.lasp_history.specs.History.{grown}
-use Rattle.lasp_history.specs.Kept.{Kept}
+use Rattle.lasp_replica.specs.History.{grown}
+use Rattle.lasp_replica.specs.Kept.{Kept}
 use Rattle.lasp_replica.specs.Replica.{no_kept, kept_at}
 use Rattle.lasp_replica.specs.Delivery.{grows_at, recorded, AreRecordedTo}
 

@@ -10,7 +10,7 @@ use Rattle.model_sets.specs.Rises.{AreRises, AreApart}
 use Rattle.model_sets.proofs.RowLaws.{own_mark, mark-append, mark-put, mark-of_rows, mark-join, same_from_mark, ascending-of_rows, ascending-join}
 use Rattle.model_sets.proofs.EquationLaws.{changed-mark}
 use Rattle.model_sets.proofs.RiseLaws.{level-some, row-apart, nothing-marked, rises-append}
-use Rattle.lasp_history.specs.Kept.{Kept}
+use Rattle.lasp_replica.specs.Kept.{Kept}
 use Rattle.lasp_replica.specs.Parts.{AreRowsOf}
 
 -- rows of keys that no other row has rise from a state that says less of each

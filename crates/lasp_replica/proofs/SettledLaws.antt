@@ -12,8 +12,8 @@ use Rattle.model_journal.specs.Journal.{graph}
 use Rattle.model_journal.specs.Clean.{IsClean, applied, version}
 use Rattle.model_journal.proofs.JournalLaws.{journal-graph}
 use Rattle.lasp_graph.specs.Evaluated.{inputs_of}
-use Rattle.lasp_history.specs.History.{no_history, version_before}
-use Rattle.lasp_history.specs.Kept.{Kept}
+use Rattle.lasp_replica.specs.History.{no_history, version_before}
+use Rattle.lasp_replica.specs.Kept.{Kept}
 use Rattle.lasp_replica.specs.Parts.{Base, IsBaseAt, places_of, first_input, second_input, history_at, base_at}
 use Rattle.lasp_replica.specs.Reading.{IsEarlierInput, IsStill}
 use Rattle.lasp_replica.proofs.ReadLaws.{kept-inputs, kept-clean, kept-applied, kept-version}

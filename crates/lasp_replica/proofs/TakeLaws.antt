@@ -25,8 +25,8 @@ use Rattle.lasp_graph.specs.declared.inputs.Inputs.{Inputs}
 use Rattle.lasp_graph.specs.States.{Held, held_of, held_at}
 use Rattle.lasp_graph.specs.Evaluated.{second_of, process}
 use Rattle.lasp_graph.specs.Delta.{IsStateOf}
-use Rattle.lasp_history.specs.History.{rows_before}
-use Rattle.lasp_history.specs.Kept.{Kept}
+use Rattle.lasp_replica.specs.History.{rows_before}
+use Rattle.lasp_replica.specs.Kept.{Kept}
 use Rattle.lasp_replica.specs.Asked.{IsReadable, IsAsked, has_two}
 use Rattle.lasp_replica.specs.declared.job.Job.{Job}
 use Rattle.lasp_replica.specs.Parts.{Base, Parts, IsKept, IsBaseAt, first_input, second_input, history_at}

@@ -29,8 +29,8 @@ use Rattle.lasp_state.specs.State.{content_of, shape_of as shape}
 use Rattle.lasp_graph.specs.States.{Held, held_of, held_at, contents_of, grown, AreJoinable}
 use Rattle.lasp_wire.specs.Sent.{kind_of, held_in}
 use Rattle.lasp_wire.specs.Sent as sent
-use Rattle.lasp_history.specs.History.{History}
-use Rattle.lasp_history.specs.Kept.{Kept}
+use Rattle.lasp_replica.specs.History.{History}
+use Rattle.lasp_replica.specs.Kept.{Kept}
 use Rattle.lasp_replica.specs.Parts.{news_of, AreRowsOf}
 use Rattle.lasp_replica.specs.declared.refused.DeliverRefused.{DeliverRefused}
 use Rattle.lasp_replica.specs.declared.refused.DeliverRefused.TheVariants as refusal

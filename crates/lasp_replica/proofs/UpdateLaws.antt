@@ -37,9 +37,9 @@ use Rattle.lasp_state.specs.State as state
 use Rattle.lasp_state.specs.State.{op_of, content_of, IsOpOf}
 use Rattle.lasp_graph.specs.States.{Held, held_of, held_at, contents_of, grown}
 use Rattle.lasp_wire.specs.Sent as wire
-use Rattle.lasp_history.specs.History as history
-use Rattle.lasp_history.specs.History.{History}
-use Rattle.lasp_history.specs.Kept.{Kept, kept}
+use Rattle.lasp_replica.specs.History as history
+use Rattle.lasp_replica.specs.History.{History}
+use Rattle.lasp_replica.specs.Kept.{Kept, kept}
 use Rattle.lasp_replica.specs.Replica.{frame_of, entries_of, parts_of, busy_of, told, seen_process as seen, base_of, jobs_of, IsReplica, IsSmall, Goes, Stays, shape_for, is_for, update_check, update_refusal, or_too_many, kept_at}
 use Rattle.lasp_replica.specs.Update.{IsInFormat, IsGain, IsPrepared, recorded}
 use Rattle.lasp_replica.specs.Entries.{entry_of}
@@ -49,7 +49,7 @@ use Rattle.lasp_replica.specs.declared.process.Process.{Process}
 use Rattle.lasp_replica.specs.declared.replica.Replica.{Replica}
 use Rattle.lasp_replica.specs.declared.refused.UpdateRefused.{UpdateRefused}
 use Rattle.lasp_replica.specs.declared.refused.UpdateRefused.TheVariants as update
-use Rattle.lasp_history.proofs.KeptLaws.{where-ok}
+use Rattle.lasp_replica.proofs.KeptLaws.{where-ok}
 use Rattle.lasp_replica.proofs.ReplicaLaws.{frame-same, replica-kept}
 use Rattle.lasp_replica.proofs.SuitLaws.{suited-same, suited-more}
 use Rattle.lasp_replica.proofs.TakenLaws.{no-fold, told-set}

@@ -6,8 +6,8 @@ use Rattle.model_graph.specs.Evaluation.{first_large}
 use Rattle.model_graph.specs.Lawful.{shape_of}
 use Rattle.model_graph.specs.Message.{Message, Sent, source_number, brought, with_gain, gained}
 use Rattle.lasp_graph.specs.States.{Held, held_at, contents_of}
-use Rattle.lasp_history.specs.History.{History, grown, AreBelow}
-use Rattle.lasp_history.specs.Kept.{Kept}
+use Rattle.lasp_replica.specs.History.{History, grown, AreBelow}
+use Rattle.lasp_replica.specs.Kept.{Kept}
 use Rattle.lasp_replica.specs.Replica.{kept_at}
 use Rattle.lasp_replica.specs.Parts.{news_of, AreRowsOf}
 use Rattle.lasp_replica.specs.declared.refused.DeliverRefused.{DeliverRefused}

@@ -9,8 +9,8 @@ use Rattle.lasp_state.specs.State as state
 use Rattle.lasp_graph.specs.States.{Held, held_of, held_at}
 use Rattle.lasp_graph.specs.Evaluated.{second_of}
 use Rattle.lasp_graph.specs.declared.inputs.Inputs.{Inputs}
-use Rattle.lasp_history.specs.History.{History, grown}
-use Rattle.lasp_history.specs.Kept.{Kept}
+use Rattle.lasp_replica.specs.History.{History, grown}
+use Rattle.lasp_replica.specs.Kept.{Kept}
 use Rattle.lasp_replica.specs.Parts.{Base, news_of, AreRowsOf}
 use Rattle.lasp_replica.specs.Replica.{told, kept_at}
 use Rattle.lasp_replica.specs.declared.replica.Replica.{Replica}

@@ -9,4 +9,6 @@ pub mod Finish
 pub mod Delivery
 pub mod Entries
 pub mod Asked
+pub mod History
+pub mod Kept
 pub mod Prelude

@@ -13,7 +13,7 @@ use Rattle.model_journal.specs.Entry.{Entry, Frame}
 use Rattle.model_journal.specs.Journal as journal
 use Rattle.model_journal.specs.Journal.{vals}
 use Rattle.model_journal.specs.Clean.{base}
-use Rattle.lasp_history.specs.History.{History, no_history, IsHistory}
+use Rattle.lasp_replica.specs.History.{History, no_history, IsHistory}
 use Rattle.lasp_graph.specs.States.{Held, held_at, contents_of}
 use Rattle.lasp_graph.specs.Evaluated.{inputs_of, number_by}
 use Rattle.lasp_replica.specs.Asked.{has_two}

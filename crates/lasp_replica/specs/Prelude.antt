@@ -19,7 +19,7 @@ pub use Rattle.model_runs.specs.Held.{IsSentTo}
 pub use Rattle.model_runs.specs.Part.{BringsAsMuch}
 pub use Rattle.model_core.specs.Known.{BringsNothing}
 pub use Rattle.model_readings.specs.Lawful.{IsNext}
-pub use Rattle.lasp_history.specs.History.{AreBelow, grown, no_history, rows_before, version_before}
+pub use Rattle.lasp_replica.specs.History.{AreBelow, grown, no_history, rows_before, version_before, History, IsHistory}
 pub use Rattle.lasp_state.specs.State.{content_of, op_of}
 pub use Rattle.lasp_graph.specs.Decl.{decl_of}
 pub use Rattle.lasp_graph.specs.Evaluated.{number_by, second_of}
@@ -35,3 +35,5 @@ pub use Rattle.lasp_replica.specs.Since.{AreSince, IsSince}
 pub use Rattle.lasp_replica.specs.TakenIn.{IsInOrder, IsTakenIn}
 pub use Rattle.lasp_replica.specs.Update.{IsGain, IsInFormat, IsPrepared, recorded}
 pub use Rattle.lasp_replica.specs.Asked.{has_two}
+pub use Rattle.model_sets.specs.Rises.{AreApart}
+pub use Rattle.lasp_replica.specs.Kept.{growth}

@@ -9,7 +9,7 @@ use Rattle.model_graph.specs.Graph.{Decl, Kind, is_set, kind_at}
 use Rattle.model_graph.specs.Evaluation.{equation}
 use Rattle.model_graph.specs.Width.{HasWidth}
 use Rattle.model_graph.specs.Increment.{IsChange}
-use Rattle.lasp_history.specs.History.{History, version_before, rows_before}
+use Rattle.lasp_replica.specs.History.{History, version_before, rows_before}
 use Rattle.lasp_graph.specs.States.{Held}
 use Rattle.lasp_graph.specs.Evaluated.{process, derived_shape, number_by}
 use Rattle.lasp_replica.specs.Parts.{Base, Parts, history_at}

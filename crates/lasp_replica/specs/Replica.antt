@@ -27,8 +27,8 @@ use Rattle.lasp_state.specs.State as state
 use Rattle.lasp_graph.specs.States.{held_of}
 use Rattle.lasp_graph.specs.Evaluated.{second_of}
 use Rattle.lasp_wire.specs.Sent.{kind_of}
-use Rattle.lasp_history.specs.History.{History, Growth}
-use Rattle.lasp_history.specs.Kept as kept
+use Rattle.lasp_replica.specs.History.{History, Growth}
+use Rattle.lasp_replica.specs.Kept as kept
 use Rattle.lasp_replica.specs.Entries.{entry_of}
 use Rattle.lasp_replica.specs.Parts.{Base, Parts, IsKept, history_at}
 use Rattle.lasp_replica.specs.declared.entry.Act.{Act}

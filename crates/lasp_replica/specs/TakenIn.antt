@@ -5,7 +5,7 @@ use Rattle.model_states.specs.Counts.{larger}
 use Rattle.model_states.specs.Content.{Content, IsOrdered, IsContentAtMost}
 use Rattle.model_graph.specs.Lawful.{IsDerived}
 use Rattle.model_graph.specs.Message.{Message, brought, gained}
-use Rattle.lasp_history.specs.History.{History, grown}
+use Rattle.lasp_replica.specs.History.{History, grown}
 use Rattle.lasp_graph.specs.States.{held_at, contents_of}
 use Rattle.lasp_replica.specs.Parts.{Parts, history_at, news_of, AreRowsOf}
 

@@ -13,9 +13,9 @@ use Rattle.lasp_state.specs.declared.op.Op.{Op}
 use Rattle.lasp_state.specs.declared.op.Op.TheVariants as op
 use Rattle.lasp_state.specs.State.{content_of, op_of}
 use Rattle.lasp_graph.specs.States.{Held, held_of, held_at, grown, AreJoinable}
-use Rattle.lasp_history.specs.History as history
-use Rattle.lasp_history.specs.History.{History}
-use Rattle.lasp_history.specs.Kept.{Kept}
+use Rattle.lasp_replica.specs.History as history
+use Rattle.lasp_replica.specs.History.{History}
+use Rattle.lasp_replica.specs.Kept.{Kept}
 use Rattle.lasp_replica.specs.Parts.{news_of, AreRowsOf}
 use Rattle.lasp_replica.specs.Replica.{told, is_for, kept_at}
 use Rattle.lasp_replica.specs.declared.replica.Replica.{Replica}

@@ -4,8 +4,12 @@
 #![tactic(auto)]
 
 mod entry;
+mod growth;
+mod history;
 mod job;
 mod kept;
+mod laws;
+mod news;
 mod parts;
 mod process;
 mod reading;
@@ -14,8 +18,10 @@ mod replica;
 mod sources;
 
 pub use entry::{Act, Entry};
+pub use history::History;
 pub use job::Job;
 pub use kept::{binds_are_kept, declarations_are_kept, deliveries_are_kept, updates_are_kept};
+pub use laws::{histories_follow_the_journal, histories_tell_rows_since};
 pub use parts::JobParts;
 pub use process::Process;
 pub use reading::{bases_tell_what_is_clean, histories_tell_what_changed, news_are_what_is_gained};

@@ -15,10 +15,10 @@ mod take;
 mod update;
 mod upkeep;
 
+use crate::History;
 use crate::entry::Entry;
 use crate::process::Process;
 use lasp_graph::{Graph, States};
-use lasp_history::History;
 use lasp_wire::Counts;
 use least::{fresh_histories, fresh_processes, fresh_states, zeros};
 use std::alloc::{AllocError, Global};

@@ -1,6 +1,6 @@
 //! The calls of a history, once each.
 
-use lasp_history::History;
+use lasp_replica::History;
 use lasp_logset::add_delta;
 use lasp_value::Value;
 use std::alloc::{AllocError, Global};

@@ -6,9 +6,9 @@ ghost use Rattle.model_journal.specs.Entry as model;
 
 use super::Replica;
 use super::least::{fresh_process, least_state};
+use crate::History;
 use crate::entry::{Act, Entry};
 use lasp_graph::Decl;
-use lasp_history::History;
 use std::alloc::AllocError;
 use std::sync::Arc;
 

@@ -4,9 +4,9 @@ ghost use Rattle.std.specs.Prelude.{◌≡◌, ◌<◌, IfOk, length, map};
 ghost use Rattle.lasp_replica.specs.Prelude.{arc_value, decl_at, held_of, kind_of, no_history, has_two, fresh_state, fresh_base, no_set, told, jobs_of, seen_process};
 ghost use Rattle.model_states.specs.Counts as plain;
 
+use crate::History;
 use crate::process::Process;
 use lasp_graph::{Graph, Inputs, Kind, States};
-use lasp_history::History;
 use lasp_state::State;
 use lasp_wire::Counts;
 use std::alloc::{AllocError, Global};

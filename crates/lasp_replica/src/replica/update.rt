@@ -9,10 +9,10 @@ ghost use Rattle.lasp_state.specs.State as state;
 
 use super::sizes::{brought, fits, grows_by, news};
 use super::{MOST_UPDATES, Replica};
+use crate::History;
 use crate::entry::{Act, Entry};
 use crate::refused::UpdateRefused;
 use lasp_graph::Kind;
-use lasp_history::History;
 use lasp_state::{Op, State};
 use lasp_wire::recall_value;
 use std::alloc::{AllocError, Global};

@@ -3,7 +3,7 @@ use Rattle.std.proofs.lemmas.List.{map-append}
 use Rattle.std.specs.Arc.{arc_value}
 use Rattle.model_graph.specs.Lawful.{IsDerived}
 use Rattle.model_graph.proofs.PlaceLaws.{set-length}
-use Rattle.lasp_history.specs.History.{AreBelow}
+use Rattle.lasp_replica.specs.History.{AreBelow}
 use Rattle.lasp_graph.specs.States.{Held, held_of}
 use Rattle.lasp_replica.specs.declared.replica.Replica.{Replica}
 use Rattle.lasp_replica.specs.Entries.{entry_of}

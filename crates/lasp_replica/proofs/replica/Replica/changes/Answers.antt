@@ -1,7 +1,7 @@
 use Rattle.std.proofs.Common.{arith, drop}
 use Rattle.std.specs.Arc.{arc_value}
 use Rattle.model_sets.specs.Rows.{of_rows}
-use Rattle.lasp_history.specs.History.{rows_before}
+use Rattle.lasp_replica.specs.History.{rows_before}
 use Rattle.lasp_replica.specs.Replica.{growths_at, log_at}
 use Rattle.lasp_replica.proofs.SettledLaws.{histories-many}
 use Rattle.lasp_replica.proofs.TakeLaws.{states-at, set-state, all-changed, ok-same}

@@ -5,7 +5,7 @@ use Rattle.model_states.specs.Counts.{larger}
 use Rattle.model_graph.specs.Message.{Message, brought, gained}
 use Rattle.model_runs.specs.Held.{IsSentTo}
 use Rattle.model_wire.specs.Lawful.{IsMessage}
-use Rattle.lasp_history.proofs.KeptLaws.{where-ok}
+use Rattle.lasp_replica.proofs.KeptLaws.{where-ok}
 use Rattle.lasp_graph.specs.States.{Held, AreSourcesOfKind, contents_of}
 use Rattle.model_journal.specs.Entry.{Deliver, entry}
 use Rattle.lasp_replica.specs.declared.entry.Entry.{Entry}

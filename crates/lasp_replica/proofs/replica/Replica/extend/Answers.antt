@@ -3,7 +3,7 @@ use Rattle.std.specs.Arc.{arc_value}
 use Rattle.model_graph.specs.Graph.{Decl, decl_at}
 use Rattle.model_journal.specs.Entry as model
 use Rattle.model_journal.specs.Entry.{entry}
-use Rattle.lasp_history.specs.History.{no_history}
+use Rattle.lasp_replica.specs.History.{no_history}
 use Rattle.lasp_replica.specs.Parts.{fresh_state, fresh_base}
 use Rattle.lasp_graph.specs.Decl.{decl_of}
 use Rattle.lasp_graph.specs.States.{Held, held_of}

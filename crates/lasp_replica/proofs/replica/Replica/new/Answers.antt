@@ -2,7 +2,7 @@ use Rattle.std.proofs.Common.{◌∙◌, refl, List, length, map, ap, subst}
 use Rattle.std.specs.Arc.{arc_value}
 use Rattle.model_graph.specs.Graph.{Decl}
 use Rattle.model_readings.specs.Lawful as readings
-use Rattle.lasp_history.specs.History.{no_history}
+use Rattle.lasp_replica.specs.History.{no_history}
 use Rattle.lasp_replica.specs.Parts.{fresh_state, fresh_base}
 use Rattle.lasp_replica.specs.Entries.{entry_of}
 use Rattle.lasp_replica.proofs.LeastLaws.{map-same, fresh-replica}

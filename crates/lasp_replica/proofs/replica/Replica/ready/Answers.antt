@@ -1,7 +1,7 @@
 use Rattle.std.proofs.Common.{◌≡◌, ℕ, ◌<◌, IsTrue, slice_set, refl, sym, ap, subst, ◌∙◌, arith}
 use Rattle.std.proofs.Math.Seq.{map-set_same}
 use Rattle.std.proofs.lemmas.List.{get_or-set_same}
-use Rattle.lasp_history.specs.Kept.{Kept}
+use Rattle.lasp_replica.specs.Kept.{Kept}
 use Rattle.lasp_replica.specs.Replica.{told, no_kept, kept_at}
 use Rattle.lasp_replica.proofs.RowsLaws.{ready-rows}
 use Rattle.lasp_replica.proofs.FinishLaws.{job-derived, history-there}

@@ -3,7 +3,7 @@ use Rattle.model_states.specs.Content.{join_contents}
 use Rattle.model_graph.specs.Message.{sent_at, brought, gained}
 use Rattle.model_graph.specs.Graph.{is_source}
 use Rattle.lasp_graph.specs.States.{Held, held_at, contents_of}
-use Rattle.lasp_history.specs.Kept.{Kept}
+use Rattle.lasp_replica.specs.Kept.{Kept}
 use Rattle.lasp_replica.specs.Replica.{told}
 use Rattle.lasp_replica.specs.Delivery.{AreTaken}
 use Rattle.lasp_replica.proofs.TakenLaws.{taken-number, taken-like, taken-source, taken-derived, taken-large, taken-all, told-set, told-long, refused-passed}

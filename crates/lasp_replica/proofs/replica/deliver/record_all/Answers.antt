@@ -1,6 +1,6 @@
 use Rattle.std.proofs.Common.{◌≡◌, ◌<◌, ◌+◌, List, length, slice_set, sym, ap, subst, ◌∙◌, arith}
-use Rattle.lasp_history.specs.History.{grown}
-use Rattle.lasp_history.specs.Kept.{Kept}
+use Rattle.lasp_replica.specs.History.{grown}
+use Rattle.lasp_replica.specs.Kept.{Kept}
 use Rattle.lasp_replica.specs.Replica.{kept_at}
 use Rattle.lasp_replica.specs.Delivery.{AreRecordedTo}
 use Rattle.lasp_replica.proofs.RecordLaws.{kept-here, recorded-grown, recorded-still}

@@ -1,6 +1,6 @@
 use Rattle.std.proofs.Common.{◌≡◌, ◌∙◌, ℕ, [], ◌∷◌, length, map, replicate, sym, ap, arith}
 use Rattle.std.proofs.lemmas.List.{map-append}
-use Rattle.lasp_history.specs.History.{no_history}
+use Rattle.lasp_replica.specs.History.{no_history}
 use Rattle.lasp_replica.specs.Replica.{told}
 use Rattle.lasp_replica.proofs.LeastLaws.{push-replicate, map-same}
 use Rattle.lasp_replica.proofs.replica.least.fresh_histories.Goals as goal

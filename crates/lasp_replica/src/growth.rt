@@ -1,7 +1,7 @@
 //! One growth of a variable, as it is kept.
 
 ghost use Rattle.std.specs.Prelude.{◌≡◌};
-ghost use Rattle.lasp_history.specs.Prelude.{growth};
+ghost use Rattle.lasp_replica.specs.Prelude.{growth};
 
 use std::marker::Model;
 
@@ -13,8 +13,8 @@ pub(crate) struct Growth {
 }
 
 impl Model for Growth {
-    ghost use Rattle.lasp_history.specs.History as plain;
-    ghost use Rattle.lasp_history.specs.Kept.{growth, coded_growth};
+    ghost use Rattle.lasp_replica.specs.History as plain;
+    ghost use Rattle.lasp_replica.specs.Kept.{growth, coded_growth};
 
     ghost Value = { plain.Growth };
 

@@ -22,10 +22,10 @@ use Rattle.model_journal.proofs.GoodLaws.{now-tidy}
 use Rattle.model_journal.proofs.JournalLaws.{journal-push, journal-good, journal-later, vals-grow}
 use Rattle.model_journal.proofs.CleanLaws.{take-and-drop}
 use Rattle.model_journal.proofs.EntryLaws.{version-still, version-up, extend-vals}
-use Rattle.lasp_history.specs.History.{Growth, History, no_history, grown, version_before, rows_before, AreBelow, AreSound, IsHistory}
+use Rattle.lasp_replica.specs.History.{Growth, History, no_history, grown, version_before, rows_before, AreBelow, AreSound, IsHistory}
 use Rattle.model_sets.specs.Rises.{AreRises}
 use Rattle.model_sets.proofs.RiseLaws.{nothing-marked, join-parts, rest-changed, log-news, rises-news}
-use Rattle.lasp_history.proofs.GrowthLaws.{below-more, below-push, version-all, version-push-low, version-push-high, rows-push-low, rows-push-high, rows-most, rows-all, ascend-push}
+use Rattle.lasp_replica.proofs.GrowthLaws.{below-more, below-push, version-all, version-push-low, version-push-high, rows-push-low, rows-push-high, rows-most, rows-all, ascend-push}
 
 -- ---- what a history tells
 

@@ -1,8 +1,8 @@
 use Rattle.std.proofs.Common.{◌≡◌, ◌-◌, ◌↔◌, nat_lt, IsTrue, List, length, slice_get, ap, subst, ◌∙◌}
-use Rattle.lasp_history.specs.History.{Growth, version_before}
-use Rattle.lasp_history.specs.Kept.{Kept}
-use Rattle.lasp_history.proofs.KeptLaws.{last-tells}
-use Rattle.lasp_history.proofs.history.History.is_still_since.Goals as goal
+use Rattle.lasp_replica.specs.History.{Growth, version_before}
+use Rattle.lasp_replica.specs.Kept.{Kept}
+use Rattle.lasp_replica.proofs.KeptLaws.{last-tells}
+use Rattle.lasp_replica.proofs.history.History.is_still_since.Goals as goal
 
 pub returns-in-Some : goal.returns-in-Some
 returns-in-Some c =

@@ -1,7 +1,7 @@
 //! The rows of a set as a list.
 
 ghost use Rattle.std.specs.Prelude.{◌≡◌, IfOk};
-ghost use Rattle.lasp_history.specs.Prelude.{AreApart, of_rows};
+ghost use Rattle.lasp_replica.specs.Prelude.{AreApart, of_rows};
 
 use lasp_logset::{Entry, OrSet};
 use std::alloc::{AllocError, Global};

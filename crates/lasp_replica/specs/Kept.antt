@@ -2,7 +2,7 @@
 use Rattle.std.specs.Prelude.{ℕ, ◌≤◌, ◌<◌, Bool, IsTrue, List, refl}
 use Rattle.std.specs.Coded.{Coded, code_by, coded×, coded_bool, coded_ℕ, coded_list}
 use Rattle.model_values.specs.Row.{Row, coded_rows}
-use Rattle.lasp_history.specs.History.{Growth, History, AreSound}
+use Rattle.lasp_replica.specs.History.{Growth, History, AreSound}
 
 -- what is seen of a history that is kept
 pub record Kept : Type 0 where

@@ -1,5 +1,5 @@
-use Rattle.lasp_history.proofs.HistoryLaws.{history-declared, history-unmoved, history-joined, history-plain}
-use Rattle.lasp_history.proofs.laws.histories_follow_the_journal.Goals as goal
+use Rattle.lasp_replica.proofs.HistoryLaws.{history-declared, history-unmoved, history-joined, history-plain}
+use Rattle.lasp_replica.proofs.laws.histories_follow_the_journal.Goals as goal
 
 pub returns-clause-declared : goal.returns-clause-declared
 returns-clause-declared c = history-declared

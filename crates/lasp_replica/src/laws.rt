@@ -1,7 +1,7 @@
 //! What a history says of its variable. There is nothing to run here: each function's contract is a group of laws.
 
 ghost use Rattle.std.specs.Prelude.{◌≡◌, ℕ, ◌<◌, ◌≤◌, ◌↔◌, ◌++◌, ◌∷◌, [], IsTrue, List, length, take, drop};
-ghost use Rattle.lasp_history.specs.Prelude.{Row, IsAscending, of_rows, join, changed, IsContentAtMost, Decl, is_set, kind_at, Entry, Frame, Extend, graph, val, version, IsLegal, History, no_history, grown, version_before, rows_before, IsHistory};
+ghost use Rattle.lasp_replica.specs.Prelude.{Row, IsAscending, of_rows, join, changed, IsContentAtMost, Decl, is_set, kind_at, Entry, Frame, Extend, graph, val, version, IsLegal, History, no_history, grown, version_before, rows_before, IsHistory};
 
 /// The rows since any entry are exactly those by which the set changed since, and the growths are the variable's versions.
 #[tactic(auto, using(crate::proofs::HistoryLaws::histories))]

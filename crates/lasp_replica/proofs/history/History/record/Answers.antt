@@ -1,9 +1,9 @@
 use Rattle.std.proofs.Common.{◌≡◌, ◌++◌, ◌∷◌, [], IsTrue, List, length, vec_len, sym, ap, subst, ◌∙◌}
 use Rattle.model_values.specs.Row.{Row}
-use Rattle.lasp_history.specs.History.{Growth, AreSound, AreBelow}
-use Rattle.lasp_history.specs.Kept.{Kept, growth}
-use Rattle.lasp_history.proofs.KeptLaws.{sound-grown, where-ok}
-use Rattle.lasp_history.proofs.history.History.record.Goals as goal
+use Rattle.lasp_replica.specs.History.{Growth, AreSound, AreBelow}
+use Rattle.lasp_replica.specs.Kept.{Kept, growth}
+use Rattle.lasp_replica.proofs.KeptLaws.{sound-grown, where-ok}
+use Rattle.lasp_replica.proofs.history.History.record.Goals as goal
 
 pub invariant_of-self : goal.invariant_of-self
 invariant_of-self c =

@@ -1,7 +1,7 @@
 //! The history of one variable: what it answers, and how it goes on.
 
 ghost use Rattle.std.specs.Prelude.{◌≡◌, ◌≤◌, ◌↔◌, [], Bool, true, false, IfOk, OnOk, OnErr, IsTrue, length, drop};
-ghost use Rattle.lasp_history.specs.Prelude.{AreApart, of_rows, no_history, grown, version_before, rows_before, AreBelow};
+ghost use Rattle.lasp_replica.specs.Prelude.{AreApart, of_rows, no_history, grown, version_before, rows_before, AreBelow};
 
 use super::growth::Growth;
 use super::news::rows_of;
@@ -20,7 +20,7 @@ pub struct History {
 
 impl Model for History {
     ghost use Rattle.std.specs.Prelude.{◌+◌, vec_len, vec_capacity};
-    ghost use Rattle.lasp_history.specs.Kept.{Kept, kept, coded_kept, IsKept};
+    ghost use Rattle.lasp_replica.specs.Kept.{Kept, kept, coded_kept, IsKept};
 
     ghost Value = { Kept };
 

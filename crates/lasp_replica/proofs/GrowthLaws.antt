@@ -1,7 +1,7 @@
 -- The growths of a variable: how many there were before an entry, and how many rows had changed the variable by then.
 use Rattle.std.proofs.Common.{◌≡◌, ℕ, ◌+◌, ◌≤◌, ◌<◌, max, Bool, true, false, if◌then◌else◌, nat_lt, List, [], ◌∷◌, ◌++◌, length, refl, arith}
 use Rattle.std.proofs.lemmas.Bool.Decides.{nat_tests}
-use Rattle.lasp_history.specs.History.{Growth, version_before, rows_before, AreBelow, AscendFrom}
+use Rattle.lasp_replica.specs.History.{Growth, version_before, rows_before, AreBelow, AscendFrom}
 
 -- ---- growths below an entry
 

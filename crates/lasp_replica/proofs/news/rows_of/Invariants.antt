@@ -1,5 +1,5 @@
 use Rattle.std.proofs.Common.{◌≡◌, ◌++◌, length}
-use Rattle.lasp_history.proofs.news.rows_of.Given as goal
+use Rattle.lasp_replica.proofs.news.rows_of.Given as goal
 
 abbrev pub invariant-loop-row : goal.invariant-loop-row
 invariant-loop-row l = l.list.items ++ l.rows ≡ l.initial.rows

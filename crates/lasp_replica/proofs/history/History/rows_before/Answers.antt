@@ -1,9 +1,9 @@
 use Rattle.std.proofs.Common.{◌≡◌, ◌≤◌, ◌-◌, List, length, get_or, sym, ap, subst, arith, ◌∙◌}
-use Rattle.lasp_history.specs.History.{Growth, AreSound, rows_before}
-use Rattle.lasp_history.specs.Kept.{Kept}
-use Rattle.lasp_history.proofs.GrowthLaws.{rows-most}
-use Rattle.lasp_history.proofs.KeptLaws.{rows-none, rows-at}
-use Rattle.lasp_history.proofs.history.History.rows_before.Goals as goal
+use Rattle.lasp_replica.specs.History.{Growth, AreSound, rows_before}
+use Rattle.lasp_replica.specs.Kept.{Kept}
+use Rattle.lasp_replica.proofs.GrowthLaws.{rows-most}
+use Rattle.lasp_replica.proofs.KeptLaws.{rows-none, rows-at}
+use Rattle.lasp_replica.proofs.history.History.rows_before.Goals as goal
 
 pub returns-then-count-eq0-clause-exact : goal.returns-then-count-eq0-clause-exact
 returns-then-count-eq0-clause-exact c = sym (rows-none c.args.n c.args.self.now.history.growths (sym c.version_before-count.ensures.exact ∙ c.if-count-eq0.true))

@@ -1,8 +1,8 @@
 use Rattle.std.proofs.Common.{◌≡◌, ◌-◌, List, get_or, sym, ap, subst, arith}
-use Rattle.lasp_history.specs.History.{Growth, AreSound}
-use Rattle.lasp_history.specs.Kept.{Kept}
-use Rattle.lasp_history.proofs.KeptLaws.{walk-stop}
-use Rattle.lasp_history.proofs.history.History.version_before.Goals as goal
+use Rattle.lasp_replica.specs.History.{Growth, AreSound}
+use Rattle.lasp_replica.specs.Kept.{Kept}
+use Rattle.lasp_replica.proofs.KeptLaws.{walk-stop}
+use Rattle.lasp_replica.proofs.history.History.version_before.Goals as goal
 
 pub returns-else-entry-n-clause-exact : goal.returns-else-entry-n-clause-exact
 returns-else-entry-n-clause-exact c =

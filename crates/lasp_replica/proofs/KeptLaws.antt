@@ -4,9 +4,9 @@ use Rattle.std.proofs.lemmas.Bool.Decides.{nat_tests}
 use Rattle.std.proofs.lemmas.List.{drop_all}
 use Rattle.model_values.specs.Row.{Row}
 use Rattle.model_graph.proofs.PlaceLaws.{length-append}
-use Rattle.lasp_history.specs.History.{Growth, version_before, rows_before, AreBelow, AscendFrom, AreSound}
-use Rattle.lasp_history.specs.Kept.{growth}
-use Rattle.lasp_history.proofs.GrowthLaws.{version-below, ascend-push}
+use Rattle.lasp_replica.specs.History.{Growth, version_before, rows_before, AreBelow, AscendFrom, AreSound}
+use Rattle.lasp_replica.specs.Kept.{growth}
+use Rattle.lasp_replica.proofs.GrowthLaws.{version-below, ascend-push}
 
 drop-none : {A : Type 0} (xs : List A) → drop 0 xs ≡ xs
 drop-none [] = refl
