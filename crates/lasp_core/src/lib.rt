@@ -22,6 +22,7 @@
 #![tactic(auto)]
 
 mod jobs;
+mod journal;
 mod kept;
 mod laws;
 mod look;
@@ -33,6 +34,7 @@ mod upkeep;
 mod watched;
 
 pub use jobs::Jobs;
+pub use journal::push_journal;
 pub use kept::{KeptEntry, KeptFrame};
 pub use lasp_replica::{Act, DeliverRefused, Entry, NotYet, UpdateRefused, begins};
 pub use laws::{

@@ -8,13 +8,12 @@ ghost use Rattle.lasp_run.specs.Prelude.{Follows, AreUnchanged, AreLater, seen, 
 ghost use Rattle.lasp_top.specs.Closed.{traces_of};
 
 use crate::closed::run_closed;
-use lasp_core::Core;
+use lasp_core::{Core, push_journal};
 use lasp_edge::Files;
 use lasp_fns::Library;
 use lasp_graph::Graph;
 use lasp_run::{failure_of, open_run};
 use lasp_script::Script;
-use lasp_trace::push_journal;
 use lasp_workers::Gate;
 use model_program::Failure;
 use std::alloc::{AllocError, AllocGlobal, Global};

@@ -1,7 +1,6 @@
 //! The journal of a closed store as lines, beside its entries.
 
-use lasp_core::{Act, Core};
-use lasp_trace::push_journal;
+use lasp_core::{Act, Core, push_journal};
 use std::alloc::{AllocError, Global};
 
 /// The variables, in order.

@@ -7,7 +7,7 @@ ghost use Rattle.model_journal.specs.Journal as journal;
 ghost use Rattle.model_core.specs.Trace.{updates_with, act_words, entry_line, journal_lines, NamesDeclared};
 ghost use Rattle.lasp_replica.specs.Entries.{act_of, entry_of};
 
-use lasp_core::Core;
+use crate::Core;
 use lasp_graph::Graph;
 use lasp_replica::{Act, Entry};
 use model_core::journals_name_declared_variables;

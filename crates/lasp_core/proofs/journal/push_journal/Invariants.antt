@@ -2,7 +2,7 @@ use Rattle.std.proofs.Common.{◌≡◌, ◌≤◌, ◌++◌, drop}
 use Rattle.std.specs.Prelude.{string_bytes}
 use Rattle.model_journal.specs.Journal as journal
 use Rattle.model_core.specs.Trace.{entry_lines, journal_lines}
-use Rattle.lasp_trace.proofs.journal.push_journal.Given as goal
+use Rattle.lasp_core.proofs.journal.push_journal.Given as goal
 
 abbrev pub invariant-loop-i : goal.invariant-loop-i
 invariant-loop-i l = record {

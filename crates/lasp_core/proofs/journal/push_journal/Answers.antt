@@ -1,7 +1,7 @@
 use Rattle.std.proofs.Common.{rules, arith, ◌≡◌, ◌+◌, ◌<◌, ◌≤◌}
 use Rattle.lasp_replica.specs.Entries.{entry_of}
 use Rattle.model_core.proofs.TraceLaws.{pushed-next, pushed-all}
-use Rattle.lasp_trace.proofs.journal.push_journal.Goals as goal
+use Rattle.lasp_core.proofs.journal.push_journal.Goals as goal
 
 pub loop-i-preserved : goal.loop-i-preserved
 loop-i-preserved c = record {
