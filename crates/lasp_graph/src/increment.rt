@@ -1,7 +1,7 @@
 //! What one process gains after its inputs changed, on the sets themselves.
 
-ghost use Rattle.std.specs.Prelude.{◌≡◌, ◌+◌, ◌<◌, ◌≤◌, Err, Some, IfOk, IsFalse, length};
-ghost use Rattle.lasp_graph.specs.Prelude.{mapped, passes, operations_at, join, map_set, filter_set, product_set, intersect_set, of_set, size_of, row_limit, set, fold, is_source, IsFoldOp, IsKind, fold_rows, IsChange, Fits, lift_op_of, maps_of, predicates_of, lifts_of, lift_op_at, IsWithinLimits, IsSetOfWidth, content_of, number_of, library_of, kind_of, process, Becomes, seen, derived_shape, number_by, IsStateBefore, IsSetBefore, gained};
+ghost use Rattle.std.specs.Prelude.{◌≡◌, ◌+◌, ◌<◌, ◌≤◌, Err, Some, IfOk, IsFalse, IsTrue, length};
+ghost use Rattle.lasp_graph.specs.Prelude.{mapped, passes, operations_at, IsAtMost, join, map_set, filter_set, product_set, intersect_set, of_set, size_of, row_limit, set, fold, is_source, IsFoldOp, IsKind, fold_rows, IsChange, Fits, lift_op_of, maps_of, predicates_of, lifts_of, lift_op_at, IsWithinLimits, IsSetOfWidth, content_of, number_of, library_of, kind_of, process, Becomes, seen, derived_shape, number_by, IsStateBefore, IsSetBefore, gained};
 ghost use Rattle.lasp_fns.specs.Steps as counted;
 ghost use Rattle.lasp_state.specs.State.{shape_of};
 ghost use Rattle.lasp_graph.specs.Kind.{fold_op_of};
@@ -142,6 +142,14 @@ fn gained_rows(
     }
 }
 
+/// Whether all rows of the first set changed, as at first, so that the changed rows of the second meet no other ones. It costs a look-up for each changed row at most.
+fn has_all(x: &OrSet, x_change: &OrSet, y: &OrSet, y_change: &OrSet) -> bool
+    ensures first { IsTrue result → IsAtMost x.now x_change.now }
+    ensures second { IsTrue result → IsAtMost y_change.now y.now }
+{
+    x.le(x_change) && y_change.le(y)
+}
+
 /// The changed rows of the first set with the second set, and the first set with the changed rows of the second, each gone through by the changed rows.
 fn product_gain(
     alloc: Global,
@@ -155,6 +163,9 @@ fn product_gain(
 {
     let nothing = x.empty();
     let mut rows = product_sets(alloc, x_change, y)?;
+    if has_all(x, x_change, y, y_change) {
+        return Ok(rows);
+    }
     x.ascends();
     y_change.ascends();
     let more = product_increment(alloc, &nothing, x, &nothing, y_change, y_change)?;
@@ -175,6 +186,9 @@ fn intersect_gain(
 {
     let nothing = x.empty();
     let mut rows = intersect_sets(alloc, x_change, y)?;
+    if has_all(x, x_change, y, y_change) {
+        return Ok(rows);
+    }
     x.ascends();
     y_change.ascends();
     let more = intersect_increment(alloc, &nothing, x, &nothing, y_change, y_change)?;

@@ -1,7 +1,8 @@
-use Rattle.std.proofs.Common.{◌≡◌, ◌∙◌, ap, [], Err}
+use Rattle.std.proofs.Common.{◌≡◌, ◌∙◌, refl, ap, sym, [], Err}
 use Rattle.model_sets.specs.Rows.{join}
 use Rattle.model_sets.specs.Equations.{product_set}
-use Rattle.model_sets.proofs.EquationLaws.{ascending-product}
+use Rattle.model_sets.proofs.EquationLaws.{ascending-product, product-monotone}
+use Rattle.model_sets.proofs.RowLaws.{join-at_most-right}
 use Rattle.model_states.specs.Content.{row_limit}
 use Rattle.lasp_setops.specs.declared.refused.SetRefused.TheVariants.{TooManyRows}
 use Rattle.lasp_setops.proofs.JoinLaws.{passed-on-set}
@@ -23,3 +24,9 @@ pub returns-clause-ok : goal.returns-clause-ok
 returns-clause-ok c =
     let more : c.in_ok-more.more ≡ product_set c.args.x.now c.args.y_change.now = c.in_ok-more.ensures.ok c.args.x.now [] (unchanged c.empty-nothing.result c.args.x.now c.empty-nothing.ensures c.ascends.ensures) (all-new c.args.y_change.now c.ascends-2.ensures) (product-none c.empty-nothing.result c.args.x.now c.empty-nothing.ensures) in
     c.in_ok-join_in.ensures.ok ∙ (λ i. join (c.in_ok-rows.ensures.ok i) (more i))
+
+-- what the changed rows of the second set give is given already
+pub returns-then-has_all-clause-ok : goal.returns-then-has_all-clause-ok
+returns-then-has_all-clause-ok c =
+    c.in_ok-rows.ensures.ok ∙ sym (join-at_most-right (product_set c.args.x_change.now c.args.y.now) (product_set c.args.x.now c.args.y_change.now) (ascending-product c.args.x_change.now c.args.y.now)
+    (product-monotone c.args.x.now c.args.x_change.now c.args.y_change.now c.args.y.now (c.if-has_all.ensures.first refl) (c.if-has_all.ensures.second refl)))
