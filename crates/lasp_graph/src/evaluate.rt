@@ -16,7 +16,7 @@ use std::alloc::Global;
 use std::sync::Arc;
 
 /// The most rows that a variable may have.
-pub(crate) const MOST_ROWS: u64 = 65_536;
+const MOST_ROWS: u64 = 65_536;
 
 /// The state of a process on its inputs, which hold sets of at most 65,536 rows and of width at most 16. A process over one set reads the first input alone.
 pub fn eval_node(

@@ -6,7 +6,6 @@ ghost use Rattle.lasp_fns.specs.Steps as counted;
 ghost use Rattle.lasp_state.specs.State.{shape_of};
 ghost use Rattle.lasp_graph.specs.Kind.{fold_op_of};
 
-use super::evaluate::MOST_ROWS;
 use super::inputs::EvalRefused;
 use super::kind::{FoldOp, Kind, LiftRef, MapRef, PredRef};
 use lasp_fns::StepLib;
@@ -99,11 +98,7 @@ fn set_gain(
     ensures ticks { counted.ticks_of lib.new ≤ counted.ticks_of lib.old + length x_change.now }
 {
     let rows = gained_rows(alloc, kind, lib, x, x_change, y, y_change)?;
-    let mut all = old.try_clone()?;
-    all.join_in(&rows)?;
-    if all.rows() > MOST_ROWS {
-        return Err(SetRefused::TooManyRows);
-    }
+    let all = union_sets(old, &rows)?;
     Ok((all, rows))
 }
 
