@@ -10,13 +10,20 @@ use lasp_fns::Library;
 use lasp_graph::Graph;
 use lasp_run::{failure_of, open_run};
 use lasp_script::Script;
+use lasp_store::Store;
 use lasp_threads::{drive, fresh_stores};
 use lasp_workers::Gate;
 use model_program::Failure;
 use std::alloc::{AllocGlobal, Global};
 use std::random::RandomSource;
 use std::sync::{Arc, Wait};
+use std::thread;
 use std::thread::Threads;
+
+/// Frees the stores of a run on a thread of its own, where one can be had: of large sets that takes as long as a job, and the report needn't wait for it.
+fn free_aside<R: Threads>(rt: &R, stores: Vec<Store>) {
+    let _ = thread::spawn(rt, move || drop(stores));
+}
 
 /// Runs a script over stores of its own, by so many workers.
 fn drive_fresh<R: Threads + Wait + RandomSource + AllocGlobal + Sync, G: Gate + Sync>(
@@ -32,7 +39,7 @@ fn drive_fresh<R: Threads + Wait + RandomSource + AllocGlobal + Sync, G: Gate + 
     ensures { Reports (ended (arc_value graph.now) script.now) report_of result }
 {
     let (stores, mut feeds) = fresh_stores(alloc, graph, script.nodes())?;
-    drive(
+    let report = drive(
         rt,
         alloc,
         graph,
@@ -42,7 +49,9 @@ fn drive_fresh<R: Threads + Wait + RandomSource + AllocGlobal + Sync, G: Gate + 
         workers,
         lib,
         gate,
-    )
+    );
+    free_aside(rt, stores);
+    report
 }
 
 #[tactic(auto, using(lasp_run::proofs::PartLaws::runs))]
