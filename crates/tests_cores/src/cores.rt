@@ -19,8 +19,8 @@ use lasp_fns::Library;
 use lasp_graph::{
     Decl, DeclRefused, EvalAll, Graph, States, eval_by_variable, read_decl, read_graph,
 };
-use lasp_replica::Job;
 use lasp_logset::add_delta;
+use lasp_replica::Job;
 use lasp_state::{Op, State, Threshold};
 use lasp_value::{Value, Values};
 use lasp_wire::Message;

@@ -1,7 +1,7 @@
 //! The calls of a history, once each.
 
-use lasp_replica::History;
 use lasp_logset::add_delta;
+use lasp_replica::History;
 use lasp_value::Value;
 use std::alloc::{AllocError, Global};
 use std::test::Fail;
