@@ -29,14 +29,26 @@ const ADDS: Case = Case {
 /// Four calls, and those behind which four, five and six are left out.
 const CALLS: u32 = 7;
 
+/// Four stretches that leave a job each, and between them three in which no node changes.
+const SENDS: Case = Case {
+    words: "run graph script 2",
+    graph: r#"[["a","orset"],["s","fold","a","sum","itself"]]"#,
+    script: r#"[["nodes",1],["add",0,"a",1],["settle"],["add",0,"a",2],["settle"],["add",0,"a",3],["settle"],["send",0],["settle"],["send",0],["settle"],["send",0],["settle"],["add",0,"a",4],["print",0,"s"]]"#,
+    printed: "0 s 10\nknown 0 4\n",
+    is_whole: true,
+};
+
 #[test]
 fn workers_are_called_rarely_where_they_never_meet(rt: HostRuntime) -> Result<(), Fail> {
-    let gate = Counting {
-        passed: AtomicU32::new(0),
-    };
-    let (status, printed) = ended(&rt, rt.alloc(), ADDS, &gate)?;
-    assert_eq!(rt; status, 0);
-    assert!(rt; ADDS.allows(printed.as_slice()));
-    assert_eq!(rt; gate.passed.load(Ordering::SeqCst), CALLS);
+    // a stretch in which no node changes calls nobody, so the last one of the second case is the fourth that does
+    for (case, calls) in [(ADDS, CALLS), (SENDS, 4)] {
+        let gate = Counting {
+            passed: AtomicU32::new(0),
+        };
+        let (status, printed) = ended(&rt, rt.alloc(), case, &gate)?;
+        assert_eq!(rt; status, 0);
+        assert!(rt; case.allows(printed.as_slice()));
+        assert_eq!(rt; gate.passed.load(Ordering::SeqCst), calls);
+    }
     Ok(())
 }
