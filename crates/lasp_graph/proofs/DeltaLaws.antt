@@ -1,5 +1,5 @@
 -- Processes after changes of their inputs.
-use Rattle.std.proofs.Common.{◌≡◌, ◌∙◌, refl, sym, ap, subst, ◌<◌, ◌≤◌, List, [], ◌∷◌, length, map, flat_map, filter, ℕ, arith}
+use Rattle.std.proofs.Common.{◌≡◌, ◌∙◌, refl, sym, ap, subst, ◌<◌, ◌≤◌, List, [], ◌∷◌, length, map, flat_map, filter, ℕ, Result, Ok, Err, IfOk, arith}
 use Rattle.model_values.specs.Row.{Row}
 use Rattle.model_functions.specs.Map.{mapped}
 use Rattle.model_functions.specs.Predicate.{passes}
@@ -58,6 +58,12 @@ set-gained (Map i place ops) x_change x y_change y rows h =
 set-gained (Filter i place ops) x_change x y_change y rows h =
     ap of_set (filter-grown (passes ops) h.first x_change x h.first_grown.was h.first_grown.ascends h.first_grown.joined ∙ ap (λ (s : List Row). join s (filter_set (passes ops) x_change)) (sym (rows-were rows _ h.was)))
 set-gained (Fold i op place lift) x_change x y_change y rows h = ap of_set (sym h.first_grown.joined ∙ ap (λ (s : List Row). join s x_change) (sym (rows-were rows _ h.was)))
+
+-- the same of an answer
+pub ok-gained : {E : Type 0} (r : Result (List Row) E) (k : Kind) (x_change x y_change y rows : List Row) → IsSetBefore k x_change x y_change y rows → IfOk r (λ s. s ≡ gained k x_change x y_change y)
+    → IfOk r (λ s. process k (of_set x) (of_set y) ≡ of_set (join rows s))
+ok-gained (Ok s) k x_change x y_change y rows h is = set-gained k x_change x y_change y rows h ∙ ap (λ (more : List Row). of_set (join rows more)) (sym is)
+ok-gained (Err e) k x_change x y_change y rows h is = tt
 
 ascending-gained : (k : Kind) (x_change x y_change y : List Row) → IsAscending x_change → IsAscending (gained k x_change x y_change y)
 ascending-gained OrSet x_change x y_change y up = refl

@@ -6,7 +6,7 @@ use Rattle.std.specs.declared.sync.Arc.{Arc}
 use Rattle.std.specs.Arc.{arc_value}
 use Rattle.std.specs.Prelude.{◌≡◌, ℕ, ◌<◌, List, length, map, slice_set, Result, Ok, Err, OnOk, OnErr}
 use Rattle.lasp_state.specs.declared.state.State.{State}
-use Rattle.lasp_graph.specs.States.{Held, held_of, held_at, grown}
+use Rattle.lasp_graph.specs.States.{Held, held_of, held_at}
 
 -- what a shared state is
 abbrev pub shown : {Z : Type 0} → Arc State Z → Held
@@ -19,20 +19,20 @@ all_shown {Z} states = map (λ (s : Arc State Z). shown s) states
 pub held-found : {Z : Type 0} (states : List (Arc State Z)) (i : ℕ) (old : Arc State Z) → i < length states → old ≡ get_or states i old → shown old ≡ held_at (all_shown states) i
 held-found {Z = Z} states i old within found = ap (λ (s : Arc State Z). shown s) found ∙ sym (get_or-map (λ (s : Arc State Z). shown s) states i old _ within)
 
--- a list of shared states in which one was joined to
-pub join-at-ok : {E Z : Type 0} (r : Result (Unit {0}) E) (states : List (Arc State Z)) (i : ℕ) (old new : Arc State Z) (delta : Held) → i < length states → old ≡ get_or states i old
-    → OnOk r (shown new ≡ grown (shown old) delta) → OnOk r (all_shown (slice_set states i new) ≡ slice_set (all_shown states) i (grown (held_at (all_shown states) i) delta))
-join-at-ok {Z = Z} (Ok done) states i old new delta within found h =
+-- a list of shared states in which one became another one
+pub turn-at-ok : {E Z : Type 0} (r : Result (Unit {0}) E) (states : List (Arc State Z)) (i : ℕ) (old new : Arc State Z) (turned : Held → Held) → i < length states → old ≡ get_or states i old
+    → OnOk r (shown new ≡ turned (shown old)) → OnOk r (all_shown (slice_set states i new) ≡ slice_set (all_shown states) i (turned (held_at (all_shown states) i)))
+turn-at-ok {Z = Z} (Ok done) states i old new turned within found h =
     map-set (λ (s : Arc State Z). shown s) states i new
-    ∙ ap (λ (c : Held). slice_set (all_shown states) i c) (h ∙ ap (λ (c : Held). grown c delta) (held-found states i old within found))
-join-at-ok (Err e) states i old new delta within found h = tt
+    ∙ ap (λ (c : Held). slice_set (all_shown states) i c) (h ∙ ap turned (held-found states i old within found))
+turn-at-ok (Err e) states i old new turned within found h = tt
 
 -- and one in which none was, or one that stayed what it is
 pub same-at : {Z : Type 0} (states : List (Arc State Z)) (i : ℕ) (old new : Arc State Z) → old ≡ get_or states i old → arc_value new ≡ arc_value old → all_shown (slice_set states i new) ≡ all_shown states
 same-at {Z = Z} states i old new found h = map-set_same (λ (s : Arc State Z). shown s) states i new old (ap held_of h ∙ ap (λ (s : Arc State Z). shown s) found)
 
-pub join-at-err : {E Z : Type 0} (r : Result (Unit {0}) E) (states : List (Arc State Z)) (i : ℕ) (old new : Arc State Z) → old ≡ get_or states i old
+pub turn-at-err : {E Z : Type 0} (r : Result (Unit {0}) E) (states : List (Arc State Z)) (i : ℕ) (old new : Arc State Z) → old ≡ get_or states i old
     → OnErr r (shown new ≡ shown old) → OnErr r (all_shown (slice_set states i new) ≡ all_shown states)
-join-at-err (Ok done) states i old new found h = tt
-join-at-err {Z = Z} (Err e) states i old new found h =
+turn-at-err (Ok done) states i old new found h = tt
+turn-at-err {Z = Z} (Err e) states i old new found h =
     map-set_same (λ (s : Arc State Z). shown s) states i new old (h ∙ ap (λ (s : Arc State Z). shown s) found)

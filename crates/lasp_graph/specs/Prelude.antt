@@ -30,5 +30,5 @@ pub use Rattle.lasp_graph.specs.Evaluated.{AreNarrow, AreSets, AreSmall, Becomes
 pub use Rattle.lasp_graph.specs.Kind.{kind_of}
 pub use Rattle.lasp_graph.specs.Library.{library_of}
 pub use Rattle.lasp_graph.specs.Sources.{by_variable, sources_of}
-pub use Rattle.lasp_graph.specs.States.{AreJoinable, Held, contents_of, grown, held_at, held_of}
+pub use Rattle.lasp_graph.specs.States.{AreJoinable, HasRows, Held, contents_of, extended, grown, held_at, held_of}
 pub use Rattle.lasp_graph.specs.Written.{form_view, written_view}

@@ -2,8 +2,10 @@
 use Rattle.std.specs.Prelude.{◌≡◌, ℕ, ◌<◌, ℤ, pos, IsTrue, List, length, map, slice_index_or, refl}
 use Rattle.std.specs.Coded.{Coded, code_by, coded×, coded_ℤ, coded_list}
 use Rattle.model_states.specs.Coded.{coded_shape, coded_content}
-use Rattle.model_states.specs.Content.{Content, least, join_contents}
-use Rattle.model_states.specs.Threshold.{Shape, set}
+use Rattle.model_values.specs.Row.{Row}
+use Rattle.model_sets.specs.Rows.{join}
+use Rattle.model_states.specs.Content.{Content, least, of_set, join_contents}
+use Rattle.model_states.specs.Threshold.{Shape, set, grow, counter, register, fold}
 use Rattle.model_graph.specs.Graph.{Decl, is_source, kind_at}
 use Rattle.model_graph.specs.Lawful as lawful
 use Rattle.lasp_state.specs.declared.state.State.{State}
@@ -34,6 +36,18 @@ AreSourcesOfKind nodes g states = (x : ℕ) → x < length g → IsTrue (is_sour
 -- a state with another one joined in: of two folds the greater, with its number
 abbrev pub grown : Held → Held → Held
 grown h s = record { shape = h.shape; content = join_contents h.content s.content; number = number_after h.content h.number s.content s.number }
+
+-- a state of this shape has rows: it is a set, or a fold, which covers one
+abbrev pub HasRows : Shape → Type 0
+HasRows set = Unit {0}
+HasRows grow = ⊥
+HasRows (counter nodes) = ⊥
+HasRows register = ⊥
+HasRows fold = Unit {0}
+
+-- a state with rows joined in, which has this number then
+abbrev pub extended : Held → List Row → ℤ → Held
+extended h rows number = record { shape = h.shape; content = of_set (join h.content.rows rows); number = number }
 
 -- states that may be joined: of one shape, folds where one covers the other
 pub record AreJoinable (h s : Held) : Type 0 where

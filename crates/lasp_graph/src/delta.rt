@@ -1,12 +1,12 @@
 //! One process after its inputs changed: from its state before and the changed rows, its state and what it gained.
 
-ghost use Rattle.std.specs.Prelude.{◌≡◌, ◌+◌, ◌<◌, ◌≤◌, IfOk, IsFalse, length};
+ghost use Rattle.std.specs.Prelude.{◌≡◌, ◌+◌, ◌<◌, ◌≤◌, Err, IfOk, IsFalse, length};
 ghost use Rattle.lasp_graph.specs.Prelude.{arc_value, join, changed, of_set, size_of, row_limit, IsContentAtMost, set, kind_at, is_source, IsChange, HasWidth, FitsAll, content_of, number_of, library_of, process, Becomes, seen, derived_shape, number_by, second_of, IsStateOf, IsStateBefore, IsForMemory, gained};
 ghost use Rattle.lasp_fns.specs.Steps as counted;
 ghost use Rattle.lasp_state.specs.State.{shape_of};
 
 use super::graph::Graph;
-use super::increment::{Gain, eval_gain};
+use super::increment::{Gain, RowsGained, eval_gain, eval_rows_gained};
 use super::inputs::{EvalRefused, Inputs};
 use lasp_fns::StepLib;
 use lasp_logset::{OrSet, changed};
@@ -112,6 +112,38 @@ pub fn node_gain(
     let x = set_of(&inputs.first);
     let y = set_of(second_of(inputs));
     eval_gain(alloc, kind, lib, old, x, first, y, second)
+}
+
+/// The rows that a process gains, and its number if it is a fold, from its state before, its inputs and the rows that changed in each of them since, any rows that make the difference. A process over one set reads the first. No state is made: the rows are to be joined into the one that is there.
+/// It costs the changed rows and the rows that they give. It calls a stored function at most once for each changed row of the first input.
+pub fn node_rows_gained(
+    alloc: Global,
+    g: &Graph,
+    lib: &mut StepLib,
+    var: u8,
+    old: &State,
+    x: &State,
+    first: &OrSet,
+    y: &State,
+    second: &OrSet,
+) -> Result<RowsGained, EvalRefused>
+    requires declared { var < length g.now }
+    requires derived { IsFalse (is_source (kind_at g.now var)) }
+    requires fits { FitsAll (library_of (counted.library_of lib.old)) g.now }
+    requires sets { (shape_of x.now ≡ set) × (shape_of y.now ≡ set) }
+    requires old { IsStateBefore (kind_at g.now var) first.now (content_of x.now).rows second.now (content_of y.now).rows old.now }
+    requires width { HasWidth 16 (content_of x.now) }
+    requires small { size_of (content_of x.now) ≤ row_limit }
+    ensures rows { IfOk result (λ a. a.rows ≡ gained (kind_at g.now var) first.now (content_of x.now).rows second.now (content_of y.now).rows) }
+    ensures whole { IfOk result (λ a. process (kind_at g.now var) (content_of x.now) (content_of y.now) ≡ of_set (join (content_of old.now).rows a.rows)) }
+    ensures number { IfOk result (λ a. a.number ≡ number_by (kind_at g.now var) (process (kind_at g.now var) (content_of x.now) (content_of y.now))) }
+    ensures large { result ≡ Err EvalRefused.TooManyRows → row_limit < size_of (process (kind_at g.now var) (content_of x.now) (content_of y.now)) }
+    ensures library { counted.library_of lib.new ≡ counted.library_of lib.old }
+    ensures ticks { counted.ticks_of lib.new ≤ counted.ticks_of lib.old + length first.now }
+{
+    g.recall();
+    let kind = &g.at(var as u64).kind;
+    eval_rows_gained(alloc, kind, lib, old, set_of(x), first, set_of(y), second)
 }
 
 /// The second input, or the first one where there is no second.

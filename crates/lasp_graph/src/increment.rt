@@ -27,6 +27,15 @@ pub struct Gain {
     pub rows: OrSet,
 }
 
+/// What a process gained after its inputs changed.
+#[derive(Drop)]
+pub struct RowsGained {
+    /// The rows that, joined into those it had, give the rows that it has on its inputs: exactly what the changed rows of its inputs give. Some of them it may have had before.
+    pub rows: OrSet,
+    /// Its number on its inputs where it is a fold, else 0.
+    pub number: i128,
+}
+
 /// What a process of this kind on two sets gains, from its state before and the rows that changed in each since. A process over one set reads the first.
 pub(crate) fn eval_gain(
     alloc: Global,
@@ -73,7 +82,103 @@ pub(crate) fn eval_gain(
     }
 }
 
-/// The same of a process that gives a set: its rows, and those of them that it gained.
+/// The rows that a process of this kind on two sets gains, and its number if it is a fold, from its state before and the rows that changed in each since. No state is made.
+pub(crate) fn eval_rows_gained(
+    alloc: Global,
+    kind: &Kind,
+    lib: &mut StepLib,
+    old: &State,
+    x: &OrSet,
+    x_change: &OrSet,
+    y: &OrSet,
+    y_change: &OrSet,
+) -> Result<RowsGained, EvalRefused>
+    requires derived { IsFalse (is_source (kind_of kind.now)) }
+    requires fits { Fits (library_of (counted.library_of lib.old)) (kind_of kind.now) }
+    requires sound { IsKind (kind_of kind.now) }
+    requires old { IsStateBefore (kind_of kind.now) x_change.now x.now y_change.now y.now old.now }
+    requires width { IsSetOfWidth 16 x.now }
+    requires small { length x.now ≤ row_limit }
+    ensures rows { IfOk result (λ a. a.rows ≡ gained (kind_of kind.now) x_change.now x.now y_change.now y.now) }
+    ensures whole { IfOk result (λ a. process (kind_of kind.now) (of_set x.now) (of_set y.now) ≡ of_set (join (content_of old.now).rows a.rows)) }
+    ensures number { IfOk result (λ a. a.number ≡ number_by (kind_of kind.now) (process (kind_of kind.now) (of_set x.now) (of_set y.now))) }
+    ensures large { result ≡ Err EvalRefused.TooManyRows → row_limit < size_of (process (kind_of kind.now) (of_set x.now) (of_set y.now)) }
+    ensures library { counted.library_of lib.new ≡ counted.library_of lib.old }
+    ensures ticks { counted.ticks_of lib.new ≤ counted.ticks_of lib.old + length x_change.now }
+{
+    match (kind, old) {
+        (Kind::Fold(_, op, l), State::Fold(before, number)) => {
+            match fold_rows_gained(lib, op, l, *number, before, x_change, x) {
+                Ok(gained) => Ok(gained),
+                Err(_) => Err(EvalRefused::Memory),
+            }
+        }
+        (_, State::Set(before)) => {
+            match set_rows_gained(alloc, kind, lib, before, x, x_change, y, y_change) {
+                Ok(rows) => Ok(RowsGained { rows, number: 0 }),
+                Err(SetRefused::TooManyRows) => Err(EvalRefused::TooManyRows),
+                Err(SetRefused::Memory) => Err(EvalRefused::Memory),
+            }
+        }
+        (_, _) => unreachable!(),
+    }
+}
+
+/// The rows that a process gains that gives a set.
+fn set_rows_gained(
+    alloc: Global,
+    kind: &Kind,
+    lib: &mut StepLib,
+    old: &OrSet,
+    x: &OrSet,
+    x_change: &OrSet,
+    y: &OrSet,
+    y_change: &OrSet,
+) -> Result<OrSet, SetRefused>
+    requires derived { IsFalse (is_source (kind_of kind.now)) }
+    requires set { derived_shape (kind_of kind.now) ≡ set }
+    requires fits { Fits (library_of (counted.library_of lib.old)) (kind_of kind.now) }
+    requires old { IsSetBefore (kind_of kind.now) x_change.now x.now y_change.now y.now old.now }
+    requires width { IsSetOfWidth 16 x.now }
+    ensures rows { IfOk result (λ rows. rows ≡ gained (kind_of kind.now) x_change.now x.now y_change.now y.now) }
+    ensures whole { IfOk result (λ rows. process (kind_of kind.now) (of_set x.now) (of_set y.now) ≡ of_set (join old.now rows)) }
+    ensures too_many { result ≡ Err SetRefused.TooManyRows → row_limit < size_of (process (kind_of kind.now) (of_set x.now) (of_set y.now)) }
+    ensures library { counted.library_of lib.new ≡ counted.library_of lib.old }
+    ensures ticks { counted.ticks_of lib.new ≤ counted.ticks_of lib.old + length x_change.now }
+{
+    gained_rows(alloc, kind, lib, x, x_change, y, y_change)
+}
+
+/// The rows that a fold covers more, and its number with them.
+fn fold_rows_gained(
+    lib: &mut StepLib,
+    op: &FoldOp,
+    l: &LiftRef,
+    old: i128,
+    before: &OrSet,
+    change: &OrSet,
+    x: &OrSet,
+) -> Result<RowsGained, AllocError>
+    requires fits { operations_at (lifts_of (counted.library_of lib.old)) l.now.place ≡ Some (lift_op_of l.now.op) }
+    requires sound { IsFoldOp (fold_op_of op.now) }
+    requires old { old ≡ fold_rows (fold_op_of op.now) (lift_op_of l.now.op) before.now }
+    requires change { IsChange before.now change.now x.now }
+    requires width { IsSetOfWidth 16 x.now }
+    requires small { length x.now ≤ row_limit }
+    ensures rows { IfOk result (λ a. a.rows ≡ change.now) }
+    ensures whole { IfOk result (λ a. x.now ≡ join before.now a.rows) }
+    ensures number { IfOk result (λ a. a.number ≡ fold_rows (fold_op_of op.now) (lift_op_of l.now.op) x.now) }
+    ensures library { counted.library_of lib.new ≡ counted.library_of lib.old }
+    ensures ticks { counted.ticks_of lib.new ≤ counted.ticks_of lib.old + length change.now }
+{
+    let number = number_after(lib, op, l.place, old, before, change, x)?;
+    Ok(RowsGained {
+        rows: change.try_clone()?,
+        number,
+    })
+}
+
+/// What a process that gives a set has, and the rows of it that it gained.
 fn set_gain(
     alloc: Global,
     kind: &Kind,

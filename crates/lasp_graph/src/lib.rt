@@ -21,10 +21,10 @@ mod upkeep;
 mod written;
 
 pub use decl::Decl;
-pub use delta::{node_delta, node_gain, node_increment};
+pub use delta::{node_delta, node_gain, node_increment, node_rows_gained};
 pub use evaluate::{eval_all, eval_by_variable, eval_node};
 pub use graph::Graph;
-pub use increment::Gain;
+pub use increment::{Gain, RowsGained};
 pub use inputs::{EvalAll, EvalRefused, Inputs};
 pub use kind::{FoldOp, Kind, LiftRef, MapRef, PredRef};
 pub use model_readings::GraphWhy;

@@ -1,8 +1,10 @@
 //! The states of variables, shared.
 
-ghost use Rattle.std.specs.Prelude.{◌≡◌, ◌<◌, ◌++◌, ◌∷◌, [], length, slice_get, slice_set, Some, IfOk, OnOk, OnErr};
-ghost use Rattle.lasp_graph.specs.Prelude.{arc_value, held_of, held_at, grown, AreJoinable};
+ghost use Rattle.std.specs.Prelude.{◌≡◌, ◌<◌, ◌++◌, ◌∷◌, [], pos, length, slice_get, slice_set, Some, IfOk, OnOk, OnErr};
+ghost use Rattle.lasp_graph.specs.Prelude.{arc_value, held_of, held_at, grown, AreJoinable, HasRows, extended, set};
+ghost use Rattle.lasp_state.specs.State.{content_of, shape_of, number_of};
 
+use lasp_logset::OrSet;
 use lasp_state::State;
 use std::alloc::{AllocError, Global};
 use std::marker::Model;
@@ -87,6 +89,79 @@ impl States {
         ensures err { OnErr result (self.new ≡ self.old) }
     {
         join_shared(alloc, &mut self.states[i as usize], other)
+    }
+
+    /// Joins rows into the set at a place; of a fold into the set that it covers, and the fold has this number then. It happens in place where nobody shares the state, else in a copy of its list of shares. After a refusal all is as before.
+    pub fn extend_at(
+        &mut self,
+        alloc: Global,
+        i: u64,
+        rows: &OrSet,
+        number: i128,
+    ) -> Result<(), AllocError>
+        requires within { i < length self.old }
+        requires rows { HasRows (held_at self.old i).shape }
+        requires number { (held_at self.old i).shape ≡ set → number ≡ pos 0 }
+        ensures ok { OnOk result (self.new ≡ slice_set self.old i (extended (held_at self.old i) rows.now number)) }
+        ensures err { OnErr result (self.new ≡ self.old) }
+    {
+        extend_shared(alloc, &mut self.states[i as usize], rows, number)
+    }
+}
+
+fn extend_shared(
+    alloc: Global,
+    shared: &mut Arc<State>,
+    rows: &OrSet,
+    number: i128,
+) -> Result<(), AllocError>
+    requires rows { HasRows (shape_of (arc_value shared.old)) }
+    requires number { shape_of (arc_value shared.old) ≡ set → number ≡ pos 0 }
+    ensures ok { OnOk result (held_of (arc_value shared.new) ≡ extended (held_of (arc_value shared.old)) rows.now number) }
+    ensures err { OnErr result (held_of (arc_value shared.new) ≡ held_of (arc_value shared.old)) }
+{
+    if let Some(state) = Arc::get_mut(shared) {
+        return extend_state(state, rows, number);
+    }
+    let mut copy = shared.try_clone()?;
+    extend_state(&mut copy, rows, number)?;
+    *shared = Arc::new(alloc, copy)?;
+    Ok(())
+}
+
+fn extend_state(state: &mut State, rows: &OrSet, number: i128) -> Result<(), AllocError>
+    requires rows { HasRows (shape_of state.old) }
+    requires number { shape_of state.old ≡ set → number ≡ pos 0 }
+    ensures ok { OnOk result (held_of state.new ≡ extended (held_of state.old) rows.now number) }
+    ensures err { OnErr result (held_of state.new ≡ held_of state.old) }
+{
+    join_rows(state, rows)?;
+    set_number(state, number);
+    Ok(())
+}
+
+/// Joins rows into a set, or into the set that a fold covers, whose number stays.
+fn join_rows(state: &mut State, rows: &OrSet) -> Result<(), AllocError>
+    requires { HasRows (shape_of state.old) }
+    ensures ok { OnOk result (held_of state.new ≡ extended (held_of state.old) rows.now (number_of state.old)) }
+    ensures err { OnErr result (held_of state.new ≡ held_of state.old) }
+{
+    match state {
+        State::Set(set) => set.join_in(rows)?,
+        State::Fold(set, _) => set.join_in(rows)?,
+        _ => unreachable!(),
+    };
+    Ok(())
+}
+
+/// A fold has another number.
+fn set_number(state: &mut State, number: i128)
+    requires rows { HasRows (shape_of state.old) }
+    requires number { shape_of state.old ≡ set → number ≡ pos 0 }
+    ensures { held_of state.new ≡ record { shape = shape_of state.old; content = content_of state.old; number = number } }
+{
+    if let State::Fold(_, old) = state {
+        *old = number;
     }
 }
 
