@@ -26,12 +26,12 @@ use Rattle.model_core.proofs.LegalLaws.{legal-bind}
 use Rattle.model_core.proofs.HeldLaws.{held-bind}
 use Rattle.lasp_replica.specs.History.{History, AreBelow, grown}
 use Rattle.lasp_state.specs.declared.state.State.{State}
-use Rattle.lasp_state.specs.State.{content_of, shape_of, number_of}
-use Rattle.lasp_graph.specs.States.{Held, held_of, held_at}
+use Rattle.lasp_state.specs.State.{content_of, shape_of}
+use Rattle.lasp_graph.specs.States.{HasRows, Held, held_of, held_at}
 use Rattle.lasp_graph.specs.Evaluated.{process, derived_shape, number_by, second_of}
 use Rattle.lasp_replica.specs.declared.job.Job.{Job}
 use Rattle.lasp_replica.specs.Asked.{IsAsked, IsGained, has_two}
-use Rattle.lasp_replica.specs.Parts.{Parts, IsBase, IsBaseAt, IsKept, history_at, news_of, first_input, second_input}
+use Rattle.lasp_replica.specs.Parts.{Base, Parts, AreRowsOf, IsBase, IsBaseAt, IsKept, history_at, news_of, first_input, second_input}
 use Rattle.lasp_replica.proofs.KindLaws.{equation-process, shape-derived}
 use Rattle.lasp_replica.proofs.PartLaws.{states-long, held-val}
 use Rattle.lasp_replica.proofs.OneLaws.{kept-bound-late, kept-bound-still, kept-bound-grown}
@@ -40,7 +40,7 @@ use Rattle.lasp_replica.specs.declared.process.Process.{Process}
 use Rattle.lasp_replica.specs.declared.replica.Replica.{Replica}
 use Rattle.lasp_replica.specs.Replica.{frame_of, entries_of, parts_of, told, seen_process, IsReplica, IsSuited, no_kept, kept_at}
 use Rattle.lasp_replica.specs.Jobs.{IsJobOf, IsOwn, IsResultOf}
-use Rattle.lasp_replica.specs.Finish.{HasRows, AreNewsOf, HasRoom, grown_at, base_on}
+use Rattle.lasp_replica.specs.Finish.{AreNewsOf, HasRoom, grown_at, base_on}
 use Rattle.lasp_replica.proofs.ReplicaLaws.{frame-same, replica-kept}
 use Rattle.lasp_replica.proofs.SuitLaws.{suited-more}
 use Rattle.lasp_replica.specs.declared.entry.Entry.{Entry}
@@ -163,10 +163,10 @@ gained-news r job s is of res gain own gained ascends =
       low : IsAtMost old present
       low v w = below (at_row v w)
 
-news-of-set : (shape : Shape) (s t : Content) → shape ≡ set → changed s.rows t.rows ≡ news_of shape s t
+pub news-of-set : (shape : Shape) (s t : Content) → shape ≡ set → changed s.rows t.rows ≡ news_of shape s t
 news-of-set shape s t e = subst (λ (f : Shape). changed s.rows t.rows ≡ news_of f s t) (sym e) refl
 
-news-of-other : (shape : Shape) (s t : Content) → (shape ≡ set → ⊥) → [] ≡ news_of shape s t
+pub news-of-other : (shape : Shape) (s t : Content) → (shape ≡ set → ⊥) → [] ≡ news_of shape s t
 news-of-other set s t apart = absurd (apart refl)
 news-of-other grow s t apart = refl
 news-of-other (counter nodes) s t apart = refl
@@ -234,19 +234,32 @@ process-some r is y d = some-of r is y d (slice_index_or r.processes.items y Non
 abbrev pub bind_entry : ℕ → ℕ → ℕ → model.Entry
 bind_entry by y n = record { by = by; act = model.Bind y n }
 
-abbrev pub bound_entries : ℕ → Job → Replica → List model.Entry
-bound_entries by job r = entries_of r ++ bind_entry by job.var job.n ∷ []
+abbrev pub bound_entries : ℕ → ℕ → ℕ → Replica → List model.Entry
+bound_entries by y n r = entries_of r ++ bind_entry by y n ∷ []
 
-bound-legal : (r : Replica) (by : ℕ) (job : Job) → IsReplica r → IsJobOf (frame_of r) (entries_of r) job
-    → size_of (equation (kind_at (graph (frame_of r) (entries_of r)) job.var) (vals (frame_of r) (take job.n (entries_of r)))) ≤ row_limit → IsLegal (frame_of r) (bound_entries by job r)
-bound-legal r by job is of small = legal-bind (frame_of r) (entries_of r) is.legal (bind_entry by job.var job.n) job.var job.n refl of.within of.derived small
+-- variable y may be bound to its inputs as they were after the first n entries
+pub record MayBind (r : Replica) (y n : ℕ) : Type 0 where
+  pub within : n ≤ length (entries_of r)
+  pub derived : IsDerived (graph (frame_of r) (take n (entries_of r))) y
+  pub small : size_of (equation (kind_at (graph (frame_of r) (entries_of r)) y) (vals (frame_of r) (take n (entries_of r)))) ≤ row_limit
 
-bound-held : (r : Replica) (by : ℕ) (job : Job) → IsReplica r → IsJobOf (frame_of r) (entries_of r) job → IsHeld (length r.counts) (arc_value r.graph) (peer_of (frame_of r) (bound_entries by job r))
-bound-held r by job is of =
-    subst (λ (g : List Decl). IsHeld (length r.counts) g (peer_of (frame_of r) (bound_entries by job r)))
-    (graph-bound (frame_of r) (entries_of r) (bind_entry by job.var job.n) job.var job.n refl ∙ sym is.kept.graph)
+-- a job's may, where its result isn't too large
+pub may-job : (r : Replica) (job : Job) → IsJobOf (frame_of r) (entries_of r) job → size_of (equation (kind_at (graph (frame_of r) (entries_of r)) job.var) (vals (frame_of r) (take job.n (entries_of r)))) ≤ row_limit
+    → MayBind r job.var job.n
+may-job r job of small = record { within = of.within; derived = of.derived; small = small }
+
+bind-derived : (r : Replica) (y n : ℕ) → IsReplica r → MayBind r y n → IsDerived (arc_value r.graph) y
+bind-derived r y n is may = subst (λ (g : List Decl). IsDerived g y) (sym is.kept.graph) (derived-take (frame_of r) (entries_of r) n y may.derived)
+
+bound-legal : (r : Replica) (by y n : ℕ) → IsReplica r → MayBind r y n → IsLegal (frame_of r) (bound_entries by y n r)
+bound-legal r by y n is may = legal-bind (frame_of r) (entries_of r) is.legal (bind_entry by y n) y n refl may.within may.derived may.small
+
+bound-held : (r : Replica) (by y n : ℕ) → IsReplica r → MayBind r y n → IsHeld (length r.counts) (arc_value r.graph) (peer_of (frame_of r) (bound_entries by y n r))
+bound-held r by y n is may =
+    subst (λ (g : List Decl). IsHeld (length r.counts) g (peer_of (frame_of r) (bound_entries by y n r)))
+    (graph-bound (frame_of r) (entries_of r) (bind_entry by y n) y n refl ∙ sym is.kept.graph)
     (held-bind (frame_of r) (entries_of r) is.legal (subst (λ (g : List Decl). IsHeld (length r.counts) g (peer_of (frame_of r) (entries_of r))) is.kept.graph is.held)
-    (bind_entry by job.var job.n) job.var job.n refl (derived-take (frame_of r) (entries_of r) job.n job.var of.derived))
+    (bind_entry by y n) y n refl (derived-take (frame_of r) (entries_of r) n y may.derived))
 
 -- what stays the same in a replica that takes in a result
 pub record IsSameFrame (old new : Replica) : Type 0 where
@@ -255,14 +268,12 @@ pub record IsSameFrame (old new : Replica) : Type 0 where
   pub me : new.me ≡ old.me
   pub counts : new.counts ≡ old.counts
 
-bound-replica : (old new : Replica) (by : ℕ) (job : Job) → IsReplica old → IsJobOf (frame_of old) (entries_of old) job
-    → size_of (equation (kind_at (graph (frame_of old) (entries_of old)) job.var) (vals (frame_of old) (take job.n (entries_of old)))) ≤ row_limit
-    → IsSameFrame old new → entries_of new ≡ bound_entries by job old → IsKept (frame_of old) (bound_entries by job old) (parts_of new)
+bound-replica : (old new : Replica) (by y n : ℕ) → IsReplica old → MayBind old y n → IsSameFrame old new → entries_of new ≡ bound_entries by y n old → IsKept (frame_of old) (bound_entries by y n old) (parts_of new)
     → (v : Entry) → new.journal.items ≡ old.journal.items ++ v ∷ [] → IsSuited (length old.counts) (arc_value old.graph) v → IsReplica new
-bound-replica old new by job is of small same entries kept v items fits =
-    replica-kept (frame_of old) (bound_entries by job old) new (frame-same old new same.opening same.me (ap length same.counts) same.graph) entries kept
-    (bound-legal old by job is of small)
-    (subst (λ (g : List Decl). IsHeld (length old.counts) g (peer_of (frame_of old) (bound_entries by job old))) (sym same.graph) (bound-held old by job is of))
+bound-replica old new by y n is may same entries kept v items fits =
+    replica-kept (frame_of old) (bound_entries by y n old) new (frame-same old new same.opening same.me (ap length same.counts) same.graph) entries kept
+    (bound-legal old by y n is may)
+    (subst (λ (g : List Decl). IsHeld (length old.counts) g (peer_of (frame_of old) (bound_entries by y n old))) (sym same.graph) (bound-held old by y n is may))
     (subst (λ (g : List Decl). new.opening ≤ length g) (sym same.graph) (subst (λ (n : ℕ). n ≤ length (arc_value old.graph)) (sym same.opening) is.opened))
     (subst (λ (cs : List ℕ). length cs ≤ 8) (sym same.counts) is.few)
     (suited-more old new v (ap length same.counts) same.graph items is.suited fits)
@@ -271,23 +282,75 @@ bound-replica old new by job is of small same entries kept v items fits =
 
 pub late-replica : (old new : Replica) (by : ℕ) (job : Job) → IsReplica old → IsJobOf (frame_of old) (entries_of old) job
     → size_of (equation (kind_at (graph (frame_of old) (entries_of old)) job.var) (vals (frame_of old) (take job.n (entries_of old)))) ≤ row_limit
-    → job.n ≤ base (frame_of old) (entries_of old) job.var → IsSameFrame old new → entries_of new ≡ bound_entries by job old → parts_of new ≡ parts_of old
+    → job.n ≤ base (frame_of old) (entries_of old) job.var → IsSameFrame old new → entries_of new ≡ bound_entries by job.var job.n old → parts_of new ≡ parts_of old
     → (v : Entry) → new.journal.items ≡ old.journal.items ++ v ∷ [] → IsSuited (length old.counts) (arc_value old.graph) v → IsReplica new
 late-replica old new by job is of small late same entries parts v items fits =
-    bound-replica old new by job is of small same entries
-    (subst (IsKept (frame_of old) (bound_entries by job old)) (sym parts)
+    bound-replica old new by job.var job.n is (may-job old job of small) same entries
+    (subst (IsKept (frame_of old) (bound_entries by job.var job.n old)) (sym parts)
     (kept-bound-late (frame_of old) (entries_of old) is.legal (bind_entry by job.var job.n) job.var job.n refl (parts_of old) is.kept (job-derived old job is of) late))
     v items fits
 
 -- ---- a result that is taken in
 
-pub record IsBound (by : ℕ) (job : Job) (s : State) (grows : Bool) (old new : Replica) : Type 0 where
+-- the replica in which variable y has this state and has read this, by a bind that is written down
+pub record IsBound (by y n : ℕ) (s : Held) (b : Base) (grows : Bool) (old new : Replica) : Type 0 where
   pub same : IsSameFrame old new
-  pub states : new.states ≡ slice_set old.states job.var (held_of s)
-  pub grew : IsTrue grows → map told new.histories.items ≡ slice_set (map told old.histories.items) job.var (grown_at old.histories.items job.var (length old.journal.items))
+  pub states : new.states ≡ slice_set old.states y s
+  pub grew : IsTrue grows → map told new.histories.items ≡ slice_set (map told old.histories.items) y (grown_at old.histories.items y (length old.journal.items))
   pub stood : IsFalse grows → map told new.histories.items ≡ map told old.histories.items
-  pub bases : map seen_process new.processes.items ≡ slice_set (map seen_process old.processes.items) job.var (Some (base_on job.n job.inputs))
-  pub entries : entries_of new ≡ bound_entries by job old
+  pub bases : map seen_process new.processes.items ≡ slice_set (map seen_process old.processes.items) y (Some b)
+  pub entries : entries_of new ≡ bound_entries by y n old
+
+-- the state is that of variable y on its inputs as they were after the first n entries, and this is what it read
+pub record IsReadTo (r : Replica) (y n : ℕ) (s : Held) (b : Base) : Type 0 where
+  pub content : s.content ≡ equation (kind_at (arc_value r.graph) y) (vals (frame_of r) (take n (entries_of r)))
+  pub shape : s.shape ≡ (held_at r.states y).shape
+  pub number : s.number ≡ number_by (kind_at (arc_value r.graph) y) s.content
+  pub entries : b.entries ≡ n
+  pub base : IsBase (kind_at (arc_value r.graph) y) (vals (frame_of r) (take n (entries_of r))) b
+
+-- whether variable y grows by this content, and that the rows of the growth are made ready
+pub record IsReadyFor (y : ℕ) (c : Content) (grows : Bool) (r : Replica) : Type 0 where
+  pub still : IsFalse grows ↔ IsContentAtMost c (held_at r.states y).content
+  pub pending : AreRowsOf (news_of (held_at r.states y).shape (held_at r.states y).content c) (kept_at r.histories.items y).pending
+
+pub bound-to : (old new : Replica) (by y n : ℕ) (s : Held) (b : Base) (grows : Bool) → IsReplica old → MayBind old y n → IsReadTo old y n s b
+    → base (frame_of old) (entries_of old) y ≤ n → IsReadyFor y s.content grows old → IsBound by y n s b grows old new
+    → (v : Entry) → new.journal.items ≡ old.journal.items ++ v ∷ [] → IsSuited (length old.counts) (arc_value old.graph) v → IsReplica new
+bound-to old new by y n s b grows is may read early ready bound v items fits =
+    bound-replica old new by y n is may bound.same bound.entries (decide grows larger still) v items fits where
+      X : Frame
+      X = frame_of old
+
+      h : List model.Entry
+      h = entries_of old
+
+      e : model.Entry
+      e = bind_entry by y n
+
+      p : Parts
+      p = parts_of old
+
+      derived : IsDerived p.graph y
+      derived = bind-derived old y n is may
+
+      long : length h ≡ length old.journal.items
+      long = map-length _ old.journal.items
+
+      grown_is : grown_at old.histories.items y (length old.journal.items) ≡ grown (history_at p.histories y) (kept_at old.histories.items y).pending (length h)
+      grown_is i = grown (sym (at-map told old.histories.items y no_kept) i) (kept_at old.histories.items y).pending (sym long i)
+
+      larger : IsTrue grows → IsKept X (h ++ e ∷ []) (parts_of new)
+      larger more = subst (IsKept X (h ++ e ∷ []))
+          (λ i. record { graph = sym bound.same.graph i; counts = sym bound.same.counts i; states = sym bound.states i; histories = sym (bound.grew more ∙ ap (slice_set p.histories y) grown_is) i; bases = sym bound.bases i })
+          (kept-bound-grown X h is.legal e y n refl p is.kept derived early may.within s read.content read.shape read.number
+          b read.entries read.base (λ low. let stands : IsFalse grows = ready.still.1 low in cc) (kept_at old.histories.items y).pending ready.pending)
+
+      still : IsFalse grows → IsKept X (h ++ e ∷ []) (parts_of new)
+      still none = subst (IsKept X (h ++ e ∷ []))
+          (λ i. record { graph = sym bound.same.graph i; counts = sym bound.same.counts i; states = sym bound.states i; histories = sym (bound.stood none) i; bases = sym bound.bases i })
+          (kept-bound-still X h is.legal e y n refl p is.kept derived early may.within s read.content read.shape read.number
+          b read.entries read.base (ready.still.0 none))
 
 job-base : (r : Replica) (job : Job) → IsReplica r → IsJobOf (frame_of r) (entries_of r) job → IsAsked (arc_value job.graph) job.var job.inputs job.base (arc_value job.before) job.first job.second
     → IsBase (kind_at (arc_value r.graph) job.var) (vals (frame_of r) (take job.n (entries_of r))) (base_on job.n job.inputs)
@@ -303,51 +366,16 @@ job-base r job is of asked = record {
 
 pub bind-replica : (old new : Replica) (by : ℕ) (job : Job) (s : State) (grows : Bool) → IsReplica old → IsJobOf (frame_of old) (entries_of old) job → IsResultOf (frame_of old) (entries_of old) job s
     → IsAsked (arc_value job.graph) job.var job.inputs job.base (arc_value job.before) job.first job.second
-    → base (frame_of old) (entries_of old) job.var < job.n → HasRoom job.var s grows old → IsBound by job s grows old new
+    → base (frame_of old) (entries_of old) job.var < job.n → HasRoom job.var s grows old → IsBound by job.var job.n (held_of s) (base_on job.n job.inputs) grows old new
     → (v : Entry) → new.journal.items ≡ old.journal.items ++ v ∷ [] → IsSuited (length old.counts) (arc_value old.graph) v → IsReplica new
 bind-replica old new by job s grows is of res asked later room bound v items fits =
-    bound-replica old new by job is of (result-small old job s is of res) bound.same bound.entries (decide grows larger still) v items fits where
-      X : Frame
-      X = frame_of old
-
-      h : List model.Entry
-      h = entries_of old
-
-      e : model.Entry
-      e = bind_entry by job.var job.n
-
-      y : ℕ
-      y = job.var
-
-      p : Parts
-      p = parts_of old
-
-      derived : IsDerived p.graph y
-      derived = job-derived old job is of
-
-      early : base X h y ≤ job.n
-      early = omega (arith, later)
-
-      number : number_of s ≡ number_by (kind_at p.graph y) (content_of s)
-      number = res.state_is.number ∙ ap (λ (k : Kind). number_by k (content_of s)) (kind-here old job is)
-
-      long : length h ≡ length old.journal.items
-      long = map-length _ old.journal.items
-
-      grown_is : grown_at old.histories.items y (length old.journal.items) ≡ grown (history_at p.histories y) (kept_at old.histories.items y).pending (length h)
-      grown_is i = grown (sym (at-map told old.histories.items y no_kept) i) (kept_at old.histories.items y).pending (sym long i)
-
-      larger : IsTrue grows → IsKept X (h ++ e ∷ []) (parts_of new)
-      larger more = subst (IsKept X (h ++ e ∷ []))
-          (λ i. record { graph = sym bound.same.graph i; counts = sym bound.same.counts i; states = sym bound.states i; histories = sym (bound.grew more ∙ ap (slice_set p.histories y) grown_is) i; bases = sym bound.bases i })
-          (kept-bound-grown X h is.legal e y job.n refl p is.kept derived early of.within (held_of s) (result-is old job s is of res) (result-shape old job s is of res) number
-          (base_on job.n job.inputs) refl (job-base old job is of asked) (λ low. let stands : IsFalse grows = room.still.1 low in cc) (kept_at old.histories.items y).pending room.pending)
-
-      still : IsFalse grows → IsKept X (h ++ e ∷ []) (parts_of new)
-      still none = subst (IsKept X (h ++ e ∷ []))
-          (λ i. record { graph = sym bound.same.graph i; counts = sym bound.same.counts i; states = sym bound.states i; histories = sym (bound.stood none) i; bases = sym bound.bases i })
-          (kept-bound-still X h is.legal e y job.n refl p is.kept derived early of.within (held_of s) (result-is old job s is of res) (result-shape old job s is of res) number
-          (base_on job.n job.inputs) refl (job-base old job is of asked) (room.still.0 none))
+    bound-to old new by job.var job.n (held_of s) (base_on job.n job.inputs) grows is (may-job old job of (result-small old job s is of res)) (record {
+      content = result-is old job s is of res;
+      shape = result-shape old job s is of res;
+      number = res.state_is.number ∙ ap (λ (k : Kind). number_by k (content_of s)) (kind-here old job is);
+      entries = refl;
+      base = job-base old job is of asked;
+    }) (omega (arith, later)) (record { still = room.still; pending = room.pending }) bound v items fits
 
 -- the growths of a variable's history happened before the entry that comes next
 pub growths-below : (r : Replica) → IsReplica r → (y : ℕ) → IsDerived (arc_value r.graph) y → AreBelow (length r.journal.items) (kept_at r.histories.items y).history.growths

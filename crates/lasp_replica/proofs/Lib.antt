@@ -15,6 +15,7 @@ pub mod StillLaws
 pub mod SettledLaws
 pub mod TakeLaws
 pub mod FinishLaws
+pub mod InPlaceLaws
 pub mod BeginLaws
 pub mod RaiseLaws
 pub mod TakenLaws

@@ -3,7 +3,6 @@ use Rattle.std.specs.Prelude.{◌≡◌, ℕ, ◌<◌, ◌↔◌, Bool, IsTrue, 
 use Rattle.std.specs.Arc.{arc_value}
 use Rattle.model_values.specs.Row.{Row}
 use Rattle.model_states.specs.Content.{IsContentAtMost}
-use Rattle.model_states.specs.Threshold.{Shape, set, grow, counter, register, fold}
 use Rattle.lasp_state.specs.declared.state.State.{State}
 use Rattle.lasp_state.specs.State as state
 use Rattle.lasp_graph.specs.States.{Held, held_of, held_at}
@@ -14,14 +13,6 @@ use Rattle.lasp_replica.specs.Kept.{Kept}
 use Rattle.lasp_replica.specs.Parts.{Base, news_of, AreRowsOf}
 use Rattle.lasp_replica.specs.Replica.{told, kept_at}
 use Rattle.lasp_replica.specs.declared.replica.Replica.{Replica}
-
--- a state of this shape has rows: it is a set, or a fold, which covers one
-abbrev pub HasRows : Shape → Type 0
-HasRows set = Unit {0}
-HasRows grow = ⊥
-HasRows (counter nodes) = ⊥
-HasRows register = ⊥
-HasRows fold = Unit {0}
 
 -- whether a variable grows where this state takes the place of its own, and the rows that it gains if it is a set
 pub record AreNewsOf (old : Held) (s : State) (grows : Bool) (rows : List Row) : Type 0 where

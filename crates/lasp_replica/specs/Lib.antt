@@ -4,6 +4,7 @@ pub mod Reading
 pub mod Since
 pub mod Replica
 pub mod Jobs
+pub mod Unread
 pub mod Update
 pub mod Finish
 pub mod Delivery

@@ -24,9 +24,9 @@ pub use Rattle.lasp_state.specs.State.{content_of, op_of}
 pub use Rattle.lasp_graph.specs.Decl.{decl_of}
 pub use Rattle.lasp_graph.specs.Evaluated.{number_by, second_of}
 pub use Rattle.lasp_graph.specs.Kind.{kind_of}
-pub use Rattle.lasp_graph.specs.States.{AreJoinable, AreSourcesOfKind, Held, contents_of, held_at, held_of}
+pub use Rattle.lasp_graph.specs.States.{AreJoinable, AreSourcesOfKind, HasRows, Held, contents_of, extended, held_at, held_of}
 pub use Rattle.lasp_replica.specs.Delivery.{AreJoined, AreRecordable, AreRecordedTo, AreSmall, IsLike, IsRefused, IsRefusedAt}
-pub use Rattle.lasp_replica.specs.Finish.{AreNewsOf, HasRoom, HasRows, IsAlike, base_on}
+pub use Rattle.lasp_replica.specs.Finish.{AreNewsOf, HasRoom, IsAlike, base_on}
 pub use Rattle.lasp_replica.specs.Jobs.{AreShared, HasBound, HasStarted, HasStopped, IsFirstFree, IsFirstUnclean, IsFreeAt, IsJobOf, IsLacking, IsNextVar, IsResultOf, IsUncleanAt}
 pub use Rattle.lasp_replica.specs.Parts.{AreRowsOf, Base, IsBase, IsKept, Parts, base_at, first_input, fresh_base, fresh_state, history_at, news_of, no_set, second_input}
 pub use Rattle.lasp_replica.specs.Reading.{HasChanged, IsOfItsKind, IsSmallSet, IsStill, rows_since}
@@ -37,3 +37,4 @@ pub use Rattle.lasp_replica.specs.Update.{IsGain, IsInFormat, IsPrepared, record
 pub use Rattle.lasp_replica.specs.Asked.{has_two}
 pub use Rattle.model_sets.specs.Rises.{AreApart}
 pub use Rattle.lasp_replica.specs.Kept.{growth}
+pub use Rattle.lasp_replica.specs.Unread.{AreInputsNow, AreNew, IsTakenOn, IsUnread, IsUpToDate}

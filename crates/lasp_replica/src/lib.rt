@@ -16,6 +16,7 @@ mod reading;
 mod refused;
 mod replica;
 mod sources;
+mod unread;
 
 pub use entry::{Act, Entry};
 pub use history::History;
@@ -28,3 +29,4 @@ pub use reading::{bases_tell_what_is_clean, histories_tell_what_changed, news_ar
 pub use refused::{DeliverRefused, NotYet, UpdateRefused};
 pub use replica::Replica;
 pub use sources::begins;
+pub use unread::Unread;

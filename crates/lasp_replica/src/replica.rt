@@ -8,6 +8,7 @@ mod extend;
 mod finish;
 mod known;
 mod least;
+mod settle;
 mod settled;
 mod since;
 mod sizes;

@@ -17,7 +17,7 @@ use std::alloc::{AllocError, Global};
 use std::sync::Arc;
 
 /// The rows of a set, or of the set that a fold covers.
-fn rows_of(state: &State) -> &OrSet
+pub(super) fn rows_of(state: &State) -> &OrSet
     requires { HasRows (shape_of state.now) }
     ensures { result.now ≡ (content_of state.now).rows }
 {
@@ -29,7 +29,7 @@ fn rows_of(state: &State) -> &OrSet
 }
 
 /// Writes an entry down, for which the memory is there.
-fn write_down(journal: &mut Vec<Entry>, entry: Entry)
+pub(super) fn write_down(journal: &mut Vec<Entry>, entry: Entry)
     requires { vec_len journal.old < vec_capacity journal.old }
     ensures { journal.new.items ≡ journal.old.items ++ entry ∷ [] }
 {
@@ -45,7 +45,7 @@ fn past_of(alloc: Global, state: &State) -> Result<Arc<State>, AllocError>
 }
 
 /// The same inputs without tables, to be kept while their variables go on growing.
-fn past_inputs(alloc: Global, inputs: &Inputs) -> Result<Inputs, AllocError>
+pub(super) fn past_inputs(alloc: Global, inputs: &Inputs) -> Result<Inputs, AllocError>
     ensures { IfOk result (AreShared inputs.now) }
 {
     let second = match &inputs.second {
@@ -70,7 +70,7 @@ struct Ready {
 }
 
 /// The process of a derived variable has read these inputs.
-fn rebase(processes: &mut Vec<Option<Process>>, var: u8, n: u64, inputs: Inputs)
+pub(super) fn rebase(processes: &mut Vec<Option<Process>>, var: u8, n: u64, inputs: Inputs)
     requires within { var < length processes.old.items }
     requires derived { IsSome (slice_index_or processes.old.items var None) }
     ensures bases { map seen_process processes.new.items ≡ slice_set (map seen_process processes.old.items) var (Some (base_on n inputs)) }
@@ -116,7 +116,7 @@ impl Replica {
     }
 
     /// How many entries the process of a derived variable last read.
-    fn base_of(&self, var: u8) -> u64
+    pub(super) fn base_of(&self, var: u8) -> u64
         requires replica { IsReplica self.now }
         requires derived { IsDerived (arc_value self.now.graph) var }
         ensures { result ≡ base (frame_of self.now) (entries_of self.now) var }

@@ -47,7 +47,7 @@ impl Replica {
     }
 
     /// The inputs of a process of this kind as they are.
-    fn inputs(&self, kind: &Kind, x: u8, y: u8) -> Result<Inputs, AllocError>
+    pub(super) fn inputs(&self, kind: &Kind, x: u8, y: u8) -> Result<Inputs, AllocError>
         requires first { x < length self.now.states }
         requires second { y < length self.now.states }
         ensures first { IfOk result (λ i. held_of (arc_value i.first) ≡ held_at self.now.states x) }

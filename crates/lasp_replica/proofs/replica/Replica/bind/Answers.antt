@@ -55,7 +55,7 @@ stop-requires-clause-replica c =
       journal = c.write_down.new.journal;
     } in
     let base : base_on c.into_parts-parts.result.n c.args.ready.base ≡ base_on c.args.job.n c.args.job.inputs = λ i. record { entries = n i; first = shared.first i; second = shared.second i; two = shared.two i } in
-    let bound : IsBound c.args.by c.args.job (arc_value c.args.ready.state) c.args.ready.grows r new = record {
+    let bound : IsBound c.args.by c.args.job.var c.args.job.n (held_of (arc_value c.args.ready.state)) (base_on c.args.job.n c.args.job.inputs) c.args.ready.grows r new = record {
       same = record { graph = refl; opening = refl; me = refl; counts = refl };
       states = c.gather_at.ensures ∙ c.replace.ensures ∙ ap (λ (i : ℕ). slice_set r.states i (held_of (arc_value c.args.ready.state))) (c.from.ensures ∙ v);
       grew = λ more. c.record_growth.ensures ∙ (λ i. recorded (more i) (v i) ((c.len-entry.ensures ∙ r.journal.ok.0) i) r.histories.items);

@@ -6,7 +6,7 @@ use Rattle.model_graph.specs.Graph.{kind_at}
 use Rattle.lasp_state.specs.declared.state.State.{State}
 use Rattle.lasp_graph.specs.States.{Held, held_of, held_at}
 use Rattle.lasp_replica.specs.Asked.{IsGained}
-use Rattle.lasp_replica.specs.Finish.{HasRows}
+use Rattle.lasp_graph.specs.States.{HasRows}
 use Rattle.lasp_replica.proofs.FinishLaws.{job-derived, state-there, held-found, held-rows, result-rows, gained-news}
 use Rattle.lasp_replica.proofs.replica.Replica.gained.Goals as goal
 

@@ -1,0 +1,217 @@
+//! Derived variables that are brought up to their inputs in place, without a job.
+
+ghost use Rattle.std.specs.Prelude.{◌≡◌, ◌+◌, ◌<◌, ◌≤◌, [], Err, IfOk, IfSome, OnOk, OnErr, IsTrue, length, drop, is_some};
+ghost use Rattle.lasp_replica.specs.Prelude.{arc_value, of_rows, of_set, join, size_of, row_limit, is_set, kind_at, kind_of, has_two, rows_before, growths_at, log_at, equation, IsDerived, entry, contents_of, held_of, held_at, extended, number_by, content_of, news_of, AreInputsNow, IsUnread, IsUpToDate, AreNew, IsTakenOn, IsReplica, Goes, Stays, frame_of, entries_of};
+ghost use Rattle.lasp_state.specs.State.{shape_of};
+ghost use Rattle.model_journal.specs.Entry as model;
+ghost use Rattle.model_readings.specs.Lawful.{FitsAll};
+ghost use Rattle.lasp_fns.specs.Steps as counted;
+ghost use Rattle.lasp_graph.specs.Library.{library_of};
+
+use super::Replica;
+use super::finish::{past_inputs, rebase, rows_of, write_down};
+use super::least::has_two;
+use super::sizes::{is_set, new_rows, rows_fit};
+use super::update::record_growth;
+use crate::Unread;
+use crate::entry::{Act, Entry};
+use lasp_fns::StepLib;
+use lasp_graph::{EvalRefused, Inputs, Kind, RowsGained, node_rows_gained};
+use lasp_logset::OrSet;
+use lasp_state::State;
+use std::alloc::AllocError;
+
+/// The rows that the history of a variable tells where these, which are new in it, are joined in: all of them where it is a set, else none.
+fn told_rows<'a>(state: &State, rows: &'a OrSet, none: &'a OrSet) -> &'a OrSet
+    requires new { AreNew (held_of state.now) rows.now }
+    requires none { none.now ≡ [] }
+    ensures { result.now ≡ news_of (shape_of state.now) (content_of state.now) (of_set (join (content_of state.now).rows rows.now)) }
+{
+    if is_set(state) {
+        return rows;
+    }
+    none
+}
+
+impl Replica {
+    /// The rows that changed in the inputs of a derived variable since it last read them. Both are first made ready to be looked up in.
+    pub fn unread(&mut self, var: u8) -> Result<Unread, AllocError>
+        requires replica { IsReplica self.old }
+        requires derived { IsDerived (arc_value self.old.graph) var }
+        ensures ok { IfOk result (IsUnread (frame_of self.old) (entries_of self.old) var) }
+        ensures same { self.new ≡ self.old }
+    {
+        self.ready_in_place(var);
+        let unread = self.unread_ready(var)?;
+        self.close_inputs(var, unread.rows());
+        Ok(unread)
+    }
+
+    /// The same, where the inputs are ready.
+    fn unread_ready(&self, var: u8) -> Result<Unread, AllocError>
+        requires replica { IsReplica self.now }
+        requires derived { IsDerived (arc_value self.now.graph) var }
+        ensures { IfOk result (IsUnread (frame_of self.now) (entries_of self.now) var) }
+    {
+        let kind = &self.graph.at(u64::from(var)).kind;
+        let n = self.base_of(var);
+        match kind.inputs() {
+            None => unreachable!(),
+            Some((x, y)) => {
+                let first = self.changes(x, n)?;
+                let second = self.second_changes(kind, y, n)?;
+                Ok(Unread { first, second })
+            }
+        }
+    }
+
+    /// The rows of the second input of a process of this kind that changed since the first n entries, where it has two.
+    fn second_changes(&self, kind: &Kind, y: u8, n: u64) -> Result<Option<OrSet>, AllocError>
+        requires replica { IsReplica self.now }
+        requires var { y < length (arc_value self.now.graph) }
+        requires set { IsTrue (is_set (kind_at (arc_value self.now.graph) y)) }
+        ensures two { IfOk result (λ second. is_some second ≡ has_two (kind_of kind.now)) }
+        ensures rows { IfOk result (λ second. IfSome second (λ rows. rows ≡ of_rows (drop (rows_before (growths_at self.now y) n) (log_at self.now y)))) }
+    {
+        if has_two(kind) {
+            return Ok(Some(self.changes(y, n)?));
+        }
+        Ok(None)
+    }
+
+    /// Brings a derived variable up to its inputs, of which these rows changed: it is bound to them as they are. All memory is taken before anything changes.
+    /// It costs the changed rows and the rows that they give, and shares of the inputs' logs. It calls a stored function at most once for each changed row of the first input.
+    pub fn settle_var(
+        &mut self,
+        by: u64,
+        var: u8,
+        unread: &Unread,
+        lib: &mut StepLib,
+    ) -> Result<(), EvalRefused>
+        requires replica { IsReplica self.old }
+        requires derived { IsDerived (arc_value self.old.graph) var }
+        requires unread { IsUnread (frame_of self.old) (entries_of self.old) var unread.now }
+        requires fits { FitsAll (library_of (counted.library_of lib.old)) (arc_value self.old.graph) }
+        ensures ok { OnOk result (Goes (entry by (model.Bind var (length (entries_of self.old)))) self.old self.new) }
+        ensures err { OnErr result (Stays self.old self.new) }
+        ensures large { result ≡ Err EvalRefused.TooManyRows → row_limit < size_of (equation (kind_at (arc_value self.old.graph) var) (contents_of self.old.states)) }
+        ensures library { counted.library_of lib.new ≡ counted.library_of lib.old }
+        ensures ticks { counted.ticks_of lib.new ≤ counted.ticks_of lib.old + length unread.now.first }
+    {
+        let gained = self.rows_gained(var, unread, lib)?;
+        let base = self.inputs_read(var)?;
+        let grows = self.take_on(var, &gained)?;
+        let n = self.journal.len() as u64;
+        record_growth(&mut self.histories, var, grows, n);
+        write_down(
+            &mut self.journal,
+            Entry {
+                by,
+                what: Act::Bind(var, n),
+            },
+        );
+        rebase(&mut self.processes, var, n, base);
+        Ok(())
+    }
+
+    /// The rows that a derived variable gains by these changes of its inputs, none of which it has, and its number.
+    fn rows_gained(
+        &self,
+        var: u8,
+        unread: &Unread,
+        lib: &mut StepLib,
+    ) -> Result<RowsGained, EvalRefused>
+        requires replica { IsReplica self.now }
+        requires derived { IsDerived (arc_value self.now.graph) var }
+        requires unread { IsUnread (frame_of self.now) (entries_of self.now) var unread.now }
+        requires fits { FitsAll (library_of (counted.library_of lib.old)) (arc_value self.now.graph) }
+        ensures new { IfOk result (λ a. AreNew (held_at self.now.states var) a.rows) }
+        ensures state { IfOk result (λ a. IsUpToDate self.now var (extended (held_at self.now.states var) a.rows a.number)) }
+        ensures large { result ≡ Err EvalRefused.TooManyRows → row_limit < size_of (equation (kind_at (arc_value self.now.graph) var) (contents_of self.now.states)) }
+        ensures library { counted.library_of lib.new ≡ counted.library_of lib.old }
+        ensures ticks { counted.ticks_of lib.new ≤ counted.ticks_of lib.old + length unread.now.first }
+    {
+        let gained = self.rows_given(var, unread, lib)?;
+        let present = rows_of(self.states.at(u64::from(var)));
+        gained.rows.ascends();
+        let rows = new_rows(self.allocator(), present, &gained.rows)?;
+        if !rows_fit(present, &rows) {
+            return Err(EvalRefused::TooManyRows);
+        }
+        Ok(RowsGained {
+            rows,
+            number: gained.number,
+        })
+    }
+
+    /// The rows that these changes give to a derived variable, some of which it may have, and its number.
+    fn rows_given(
+        &self,
+        var: u8,
+        unread: &Unread,
+        lib: &mut StepLib,
+    ) -> Result<RowsGained, EvalRefused>
+        requires replica { IsReplica self.now }
+        requires derived { IsDerived (arc_value self.now.graph) var }
+        requires unread { IsUnread (frame_of self.now) (entries_of self.now) var unread.now }
+        requires fits { FitsAll (library_of (counted.library_of lib.old)) (arc_value self.now.graph) }
+        ensures whole { IfOk result (λ a. equation (kind_at (arc_value self.now.graph) var) (contents_of self.now.states) ≡ of_set (join (held_at self.now.states var).content.rows a.rows)) }
+        ensures number { IfOk result (λ a. a.number ≡ number_by (kind_at (arc_value self.now.graph) var) (equation (kind_at (arc_value self.now.graph) var) (contents_of self.now.states))) }
+        ensures large { result ≡ Err EvalRefused.TooManyRows → row_limit < size_of (equation (kind_at (arc_value self.now.graph) var) (contents_of self.now.states)) }
+        ensures library { counted.library_of lib.new ≡ counted.library_of lib.old }
+        ensures ticks { counted.ticks_of lib.new ≤ counted.ticks_of lib.old + length unread.now.first }
+    {
+        let kind = &self.graph.at(u64::from(var)).kind;
+        match kind.inputs() {
+            None => unreachable!(),
+            Some((x, y)) => node_rows_gained(
+                self.allocator(),
+                &self.graph,
+                lib,
+                var,
+                self.states.at(u64::from(var)),
+                self.states.at(u64::from(x)),
+                &unread.first,
+                self.states.at(u64::from(y)),
+                unread.second(),
+            ),
+        }
+    }
+
+    /// The inputs of a derived variable as they are, to be kept while they go on growing.
+    fn inputs_read(&self, var: u8) -> Result<Inputs, AllocError>
+        requires replica { IsReplica self.now }
+        requires derived { IsDerived (arc_value self.now.graph) var }
+        ensures { IfOk result (AreInputsNow self.now var) }
+    {
+        let kind = &self.graph.at(u64::from(var)).kind;
+        match kind.inputs() {
+            None => unreachable!(),
+            Some((x, y)) => {
+                let inputs = self.inputs(kind, x, y)?;
+                past_inputs(self.allocator(), &inputs)
+            }
+        }
+    }
+
+    /// Joins new rows into a variable, and takes all memory that writing them down needs. Whether it grows.
+    fn take_on(&mut self, var: u8, gained: &RowsGained) -> Result<bool, AllocError>
+        requires replica { IsReplica self.old }
+        requires derived { IsDerived (arc_value self.old.graph) var }
+        requires new { AreNew (held_at self.old.states var) gained.now.rows }
+        requires number { gained.now.number ≡ number_by (kind_at (arc_value self.old.graph) var) (of_set (join (held_at self.old.states var).content.rows gained.now.rows)) }
+        ensures ok { IfOk result (λ grows. IsTakenOn var (extended (held_at self.old.states var) gained.now.rows gained.now.number) grows self.old self.new) }
+        ensures err { OnErr result (Stays self.old self.new) }
+    {
+        let alloc = self.allocator();
+        let x = u64::from(var);
+        let grows = gained.rows.rows() > 0;
+        let none = gained.rows.empty();
+        let told = told_rows(self.states.at(x), &gained.rows, &none);
+        self.histories[var as usize].prepare(told)?;
+        self.journal.reserve(1)?;
+        self.states
+            .extend_at(alloc, x, &gained.rows, gained.number)?;
+        Ok(grows)
+    }
+}
