@@ -1,6 +1,8 @@
 -- What each call leaves of a core: its replica goes on, and its parked reads go on waiting or are released.
 use Rattle.std.proofs.Common.{◌≡◌, ℕ, ◌<◌, ◌≤◌, Bool, true, false, not, IsTrue, IsFalse, List, [], ◌∷◌, ◌++◌, length, map, filter, take, refl, sym, ap, subst, ◌∙◌, append-nil, arith}
 use Rattle.std.specs.Prelude.{slice_get, Some, Result, Ok, Err, OnOk, OnErr, IfOk, vec_len, ◌==◌}
+use Rattle.std.specs.Arc.{arc_value}
+use Rattle.std.specs.Result.{IsErrAnd}
 use Rattle.std.specs.List.{AllByRecursion}
 use Rattle.std.proofs.lemmas.List.Elements.{filter-append}
 use Rattle.std.proofs.lemmas.List.{take_at}
@@ -8,7 +10,7 @@ use Rattle.model_values.proofs.ListLaws.{each-weaker}
 use Rattle.model_states.specs.Content.{Content, least}
 use Rattle.model_states.specs.Threshold.{Threshold, suits, meets}
 use Rattle.model_graph.specs.Graph.{Decl, kind_at}
-use Rattle.model_graph.specs.Evaluation.{content_at, least_of}
+use Rattle.model_graph.specs.Evaluation.{content_at, equation, least_of}
 use Rattle.model_graph.specs.Lawful as lawful
 use Rattle.model_graph.specs.Lawful.{IsDerived}
 use Rattle.model_graph.proofs.PlaceLaws.{at-append, at-map, map-length}
@@ -37,6 +39,7 @@ use Rattle.lasp_state.specs.declared.state.State.{State}
 use Rattle.lasp_graph.specs.States.{Held, held_of, held_at, contents_of}
 use Rattle.lasp_replica.proofs.PartLaws.{held-val}
 use Rattle.lasp_graph.specs.Evaluated.{number_by}
+use Rattle.lasp_graph.specs.declared.inputs.EvalRefused.{EvalRefused}
 use Rattle.lasp_core.specs.Reads.{read_of}
 use Rattle.lasp_replica.specs.Entries.{entry_of}
 use Rattle.lasp_replica.specs.Replica.{frame_of, entries_of, parts_of, IsReplica, Grows, Stays}
@@ -247,6 +250,17 @@ closed-sound r number reads rest opened sound closes = record {
 -- one was opened and closed again
 pub looked-sound : (old ready : Replica) (reads rest : List ReadNo) (opened next : ℕ) → ready ≡ old → IsSound old reads opened → Closed opened reads rest → next ≡ counted_up opened 1 → IsSound ready rest next
 looked-sound old ready reads rest opened next is sound closes counted = ready-sound old ready rest next is (counted-sound old rest opened next (closed-sound old opened reads rest opened sound closes) counted)
+
+-- ---- what a process gives
+
+-- on the states that are kept it gives what the entries say
+pub equation-here : (r : Replica) → IsReplica r → (y : ℕ) → equation (kind_at (arc_value r.graph) y) (contents_of r.states) ≡ equation (kind_at (graph (frame_of r) (entries_of r)) y) (vals (frame_of r) (entries_of r))
+equation-here r is y i = equation (kind_at (is.kept.graph i) y) (is.kept.contents i)
+
+-- a refusal that is handed on
+pub passed-refusal : {A : Type 0} (r : Result A EvalRefused) (e t : EvalRefused) → IsErrAnd r (λ x. x ≡ e) → r ≡ Err t → e ≡ t
+passed-refusal (Ok x) e t h k = cc
+passed-refusal (Err y) e t h k = cc
 
 -- ---- numbers of states
 

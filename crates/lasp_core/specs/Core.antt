@@ -115,6 +115,10 @@ taken y rows c = record {
 abbrev pub returned : ℕ → Core → Core
 returned y c = record { frame = c.frame; entries = c.entries; parked = c.parked; busy = slice_set c.busy y (slice_index_or c.busy y 0 - 1); opened = c.opened; owed = c.owed }
 
+-- the core that owes so many changed rows more
+abbrev pub owing : ℕ → Core → Core
+owing rows c = record { frame = c.frame; entries = c.entries; parked = c.parked; busy = c.busy; opened = c.opened; owed = counted_up c.owed rows }
+
 -- every derived variable has taken in its inputs as they are
 abbrev pub IsSettled : Core → Type 0
 IsSettled c = AreClean c.frame c.entries

@@ -25,7 +25,9 @@ pub use Rattle.lasp_replica.specs.Entries.{entry_of}
 pub use Rattle.lasp_replica.specs.Jobs.{IsFirst, IsJobNow, IsJobOf, IsNext, IsResultOf, IsUnclean, Lacks, unread_rows}
 pub use Rattle.lasp_replica.specs.Replica.{IsAnswered, IsDelivered, IsReplica, IsSmall, IsSuited, entries_of, frame_of, update_refusal}
 pub use Rattle.lasp_replica.specs.declared.job.Job.{Job}
-pub use Rattle.lasp_core.specs.Core.{AreAscending, AreInOrder, AreOfKind, IsOpen, IsSettled, IsStateOf, IsWatched, closed, declared, fresh_core, looked, opened, opened_read, returned, rows_of, state_after, taken}
+pub use Rattle.lasp_core.specs.Core.{AreAscending, AreInOrder, AreOfKind, IsOpen, IsSettled, IsStateOf, IsWatched, closed, declared, fresh_core, looked, opened, opened_read, owing, returned, rows_of, state_after, taken}
+pub use Rattle.lasp_replica.specs.Unread.{IsUnread, rows_in}
+pub use Rattle.lasp_graph.specs.Library.{library_of}
 pub use Rattle.lasp_core.specs.Evaluated.{IsEvaluated, IsSameJob, evaluated}
 pub use Rattle.lasp_core.specs.Reads.{read_of}
 pub use Rattle.lasp_core.specs.Since.{AreStatesSince, IsTailSince}

@@ -1,20 +1,22 @@
 //! The core of a replica, as callers see it.
 
-ghost use Rattle.std.specs.Prelude.{◌≡◌, ◌<◌, ◌≤◌, ◌^◌, ◌↔◌, [], IfOk, IfErr, OnOk, OnErr, IfSome, IfNone, IsTrue, is_some, length, take, slice_get, Some, vec_capacity, ℕ};
-ghost use Rattle.lasp_core.specs.Prelude.{arc_value, count_at, IsContentAtMost, suits, meets, kind_at, equation, eval, ContentsAtMost, IsDerived, variable_limit, IsClean, base, entry, entered, op_of, threshold_of, decl_of, contents_of, held_at, number_by, read_of, entry_of, IsSmall, IsSuited, BringsNothing, update_refusal, IsAnswered, IsDelivered, BringsAsMuch, IsUnclean, IsFirst, IsNext, Lacks, IsJobOf, IsJobNow, IsResultOf, fresh_core, IsOpen, opened_read, opened, looked, HasLeast, closed, rows_of, taken, returned, IsSettled, declared, IsStateOf, AreOfKind, AreAscending, AreInOrder, AreStatesSince};
+ghost use Rattle.std.specs.Prelude.{◌≡◌, ◌+◌, ◌<◌, ◌≤◌, ◌^◌, ◌↔◌, [], Err, IfOk, IfErr, OnOk, OnErr, IfSome, IfNone, IsTrue, is_some, length, take, slice_get, Some, vec_capacity, ℕ};
+ghost use Rattle.lasp_core.specs.Prelude.{arc_value, count_at, IsContentAtMost, suits, meets, kind_at, equation, eval, ContentsAtMost, IsDerived, variable_limit, IsClean, base, entry, entered, op_of, threshold_of, decl_of, contents_of, held_at, number_by, read_of, entry_of, IsSmall, IsSuited, BringsNothing, update_refusal, IsAnswered, IsDelivered, BringsAsMuch, IsUnclean, IsFirst, IsNext, Lacks, IsJobOf, IsJobNow, IsResultOf, fresh_core, IsOpen, opened_read, opened, looked, HasLeast, closed, rows_of, taken, returned, owing, rows_in, row_limit, size_of, library_of, FitsAll, IsUnread, IsSettled, declared, IsStateOf, AreOfKind, AreAscending, AreInOrder, AreStatesSince};
 ghost use Rattle.model_graph.specs.Lawful.{shape_of};
 ghost use Rattle.model_readings.specs.Lawful.{IsNext as MayFollow};
 ghost use Rattle.model_journal.specs.Entry as model;
 ghost use Rattle.model_journal.specs.Journal as journal;
 ghost use Rattle.model_core.specs.Core as plain;
+ghost use Rattle.lasp_fns.specs.Steps as counted;
 ghost use Rattle.lasp_state.specs.State as state;
 
 use crate::look::is_met_by;
 use crate::parked::{remove_read, split_met};
 use crate::read::{ReadNo, Released};
 use crate::upkeep::{ready_read, ready_reads};
-use lasp_graph::{Decl, Graph, States};
-use lasp_replica::{DeliverRefused, Entry, Job, NotYet, Replica, UpdateRefused};
+use lasp_fns::StepLib;
+use lasp_graph::{Decl, EvalRefused, Graph, States};
+use lasp_replica::{DeliverRefused, Entry, Job, NotYet, Replica, Unread, UpdateRefused};
 use lasp_state::{Op, State, Threshold};
 use lasp_wire::{Counts, Message};
 use model_core::first_entries_stand_below;
@@ -181,6 +183,45 @@ impl Core {
         let job = self.replica.take_var(var)?;
         self.owed = self.owed.saturating_add(job.changed_rows());
         Ok(job)
+    }
+
+    /// The rows that changed in the inputs of a derived variable since it last read them. They are counted as those of a job.
+    pub fn unread(&mut self, var: u8) -> Result<Unread, AllocError>
+        requires { IsDerived (journal.graph self.old.frame self.old.entries) var }
+        ensures unread { IfOk result (IsUnread self.old.frame self.old.entries var) }
+        ensures counted { IfOk result (λ unread. self.new ≡ owing (rows_in unread) self.old) }
+        ensures err { OnErr result (self.new ≡ self.old) }
+    {
+        let unread = self.replica.unread(var)?;
+        self.owed = self.owed.saturating_add(unread.rows());
+        Ok(unread)
+    }
+
+    /// Brings a derived variable up to its inputs in place: it does what a job does that is taken, evaluated and finished at once, and makes no state and no shares of any.
+    pub fn settle_var(
+        &mut self,
+        by: u64,
+        var: u8,
+        unread: &Unread,
+        lib: &mut StepLib,
+    ) -> Result<Released, EvalRefused>
+        requires derived { IsDerived (journal.graph self.old.frame self.old.entries) var }
+        requires unread { IsUnread self.old.frame self.old.entries var unread.now }
+        requires fits { FitsAll (library_of (counted.library_of lib.old)) (journal.graph self.old.frame self.old.entries) }
+        ensures ok { OnOk result (self.new ≡ entered (entry by (model.Bind var (length self.old.entries))) self.old) }
+        ensures released { IfOk result (λ reads. reads ≡ plain.released (entry by (model.Bind var (length self.old.entries))) self.old) }
+        ensures ascending { IfOk result AreAscending }
+        ensures err { OnErr result (self.new ≡ self.old) }
+        ensures large { result ≡ Err EvalRefused.TooManyRows → row_limit < size_of (equation (kind_at (journal.graph self.old.frame self.old.entries) var) (journal.vals self.old.frame self.old.entries)) }
+        ensures library { counted.library_of lib.new ≡ counted.library_of lib.old }
+        ensures ticks { counted.ticks_of lib.new ≤ counted.ticks_of lib.old + length unread.now.first }
+    {
+        ready_reads(&mut self.replica, self.parked.as_slice());
+        let mut released = self.room()?;
+        let n = self.replica.journal.len() as u64;
+        self.replica.settle_var(by, var, unread, lib)?;
+        split_met(&self.replica, n, &mut self.parked, &mut released);
+        Ok(Released::of(released))
     }
 
     /// Takes in the result of a job.
