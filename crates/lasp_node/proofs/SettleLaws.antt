@@ -1,10 +1,9 @@
--- Which job is next in an idle core, what it stands for, and what its result leaves clean.
-use Rattle.std.proofs.Common.{zero, suc, ℕ, ◌≡◌, ◌+◌, ◌-◌, ◌≤◌, ◌<◌, ◌⊎◌, inl, inr, Bool, true, false, not, cond, IsTrue, nat_lt, filter, refl, sym, ap, subst, ◌∙◌, append-nil, append_assoc, arith}
-use Rattle.std.specs.Prelude.{List, [], ◌∷◌, ◌++◌, length, drop, slice_set, slice_index_or, Some, None}
+-- Which variable is next in an idle core, and what its bind leaves clean.
+use Rattle.std.proofs.Common.{ℕ, ◌≡◌, ◌+◌, ◌≤◌, ◌<◌, ◌⊎◌, inl, inr, Bool, true, false, not, cond, if◌then◌else◌, IsTrue, nat_lt, filter, refl, sym, ap, subst, ◌∙◌, append-nil, append_assoc, arith}
+use Rattle.std.specs.Prelude.{List, [], ◌∷◌, ◌++◌, length, drop, None}
 use Rattle.std.proofs.lemmas.List.{length-append, drop_at}
 use Rattle.std.specs.List.{AllByRecursion}
 use Rattle.std.proofs.lemmas.Bool.Decides.{nat_tests}
-use Rattle.model_states.specs.Content.{Content, size_of, row_limit}
 use Rattle.model_graph.specs.Graph.{Decl}
 use Rattle.model_graph.specs.Evaluation.{eval, first_large}
 use Rattle.model_graph.specs.Lawful.{IsDerived}
@@ -14,18 +13,16 @@ use Rattle.model_journal.specs.Clean.{IsClean, applied, version}
 use Rattle.model_journal.specs.Legal.{IsLegal}
 use Rattle.model_world.specs.World.{Peer}
 use Rattle.model_core.specs.Core.{Core, IsCore, IsParked, Read, is_met, entered}
-use Rattle.model_core.proofs.CleanLaws.{clean-before, clean-after-bind, large-first, settled-small}
-use Rattle.model_core.proofs.LegalLaws.{legal-bind-now}
+use Rattle.model_core.proofs.CleanLaws.{clean-before, clean-after-bind, settled-small}
 use Rattle.model_core.proofs.PeerLaws.{graph-bound, peer-bound}
 use Rattle.model_core.proofs.ReadLaws.{all-kept, met-stays}
 use Rattle.model_journal.proofs.CleanLaws.{all-clean}
 use Rattle.lasp_replica.proofs.OneLaws.{same-or-apart}
-use Rattle.lasp_replica.specs.declared.job.Job.{Job}
-use Rattle.lasp_replica.specs.Jobs.{IsUnclean, IsJobNow, greatest_count, counted_up, unread_rows}
-use Rattle.lasp_core.specs.Core.{taken, returned, IsSettled}
-use Rattle.lasp_core.specs.Evaluated.{evaluated}
-use Rattle.lasp_core.proofs.JobLaws.{job-derived, job-equation}
-use Rattle.lasp_node.specs.Settling.{IsIdle, IsIdleBut, AreCleanBelow, AreBinds, HasBoundIn, HasBound, rows_behind, rows_bound, rows_since}
+use Rattle.lasp_replica.specs.Jobs.{IsUnclean, greatest_count, counted_up, unread_rows}
+use Rattle.lasp_replica.specs.Unread.{IsUnread, rows_in}
+use Rattle.lasp_replica.specs.declared.unread.Unread.{Unread}
+use Rattle.lasp_core.specs.Core.{owing, IsSettled}
+use Rattle.lasp_node.specs.Settling.{IsIdle, AreCleanBelow, AreBinds, HasBoundIn, HasBound, rows_behind, rows_bound, rows_since}
 
 -- ---- which variable is next
 
@@ -47,46 +44,20 @@ first-late c n y clean lacks = choose (nat_lt y n) refl where
   choose true t = absurd (lacks.lacks (clean y (grind (arith, nat_tests, t)) lacks.derived))
   choose false t = grind (arith, nat_tests, t)
 
--- a job that is handed out and comes back leaves the core idle
-idle-out : (busy : List ℕ) (y : ℕ) → IsIdle busy → IsIdleBut y (slice_set busy y (counted_up (slice_index_or busy y 0) 1))
-idle-out [] y idle zero = refl
-idle-out [] y idle (suc z) = refl
-idle-out (b ∷ busy) zero idle zero = ap (λ (n : ℕ). counted_up n 1 - 1) (idle 0)
-idle-out (b ∷ busy) zero idle (suc z) = idle (suc z)
-idle-out (b ∷ busy) (suc y) idle zero = idle 0
-idle-out (b ∷ busy) (suc y) idle (suc z) = idle-out busy y (λ w. idle (suc w)) z
-
--- a turn's job stands for a variable before which all are clean, of a core with that one job out
-pub record IsTurn (old out : Core) (n y : ℕ) : Type 0 where
+-- a variable is next, before which all are clean
+pub record IsTurn (c : Core) (n y : ℕ) : Type 0 where
   pub late : n ≤ y
-  pub declared : y < length (graph old.frame old.entries)
-  pub below : AreCleanBelow y out
-  pub idle : IsIdleBut y out.busy
+  pub declared : y < length (graph c.frame c.entries)
+  pub below : AreCleanBelow y c
 
-pub turn-taken : (old out : Core) (n y rows : ℕ) → IsIdle old.busy → y ≤ n → AreCleanBelow n old → IsUnclean old.frame old.entries y → out ≡ taken y rows old → IsTurn old out n y
-turn-taken old out n y rows idle reached clean lacks is =
-    subst (λ (c : Core). IsTurn old c n y) (sym is) (record {
-      late = first-late old n y clean lacks;
-      declared = lacks.derived.declared;
-      below = λ z low derived. clean z (omega (arith, low, reached)) derived;
-      idle = idle-out old.busy y idle;
-    })
+pub turn-taken : (c : Core) (n y : ℕ) → y ≤ n → AreCleanBelow n c → IsUnclean c.frame c.entries y → IsTurn c n y
+turn-taken c n y reached clean lacks = record {
+  late = first-late c n y clean lacks;
+  declared = lacks.derived.declared;
+  below = λ z low derived. clean z (omega (arith, low, reached)) derived;
+}
 
--- ---- what a job stands for
-
-module _ (X : Frame) (h : List Entry) (y : ℕ) (job : Job) (now : IsJobNow X h y job) where
-  -- a result that is too large is the first
-  pub job-large : IsLegal X h → ((z : ℕ) → z < job.var → IsDerived (graph X h) z → IsClean X h z) → row_limit < size_of (evaluated job) → first_large 0 (eval (graph X h) (sources X h)) ≡ Some job.var
-  job-large legal below large = large-first X h legal job.var below (job-derived X h y job now) (subst (λ (s : Content). row_limit < size_of s) (sym (job-equation X h y job now)) large)
-
-  -- a result that isn't may be taken in
-  pub job-legal : IsLegal X h → (by : ℕ) (s : Content) → evaluated job ≡ s → size_of s ≤ row_limit
-      → IsLegal X (h ++ entry by (Bind job.var job.n) ∷ [])
-  job-legal legal by s is small =
-      legal-bind-now X h legal (entry by (Bind job.var job.n)) job.var (ap (λ (n : ℕ). Bind job.var n) now.now) (job-derived X h y job now)
-      (subst (λ (t : Content). size_of t ≤ row_limit) (sym (job-equation X h y job now ∙ is)) small)
-
--- ---- what a core is after a job
+-- ---- what a core is after a turn
 
 -- of a list of those that pass, the same pass a narrower test as of the whole list
 narrower : {A : Type 0} (p q : A → Bool) → ((x : A) → q x ≡ true → p x ≡ true) → (xs : List A) → filter q (filter p xs) ≡ filter q xs
@@ -133,8 +104,8 @@ binds-both low mid from high place (e ∷ es) fs before after within own more =
       longer : place + length (e ∷ es) ≡ place + 1 + length es
       longer = omega arith
 
--- a core in which nothing was taken in, with a job that comes back
-pub bound-back : (c new : Core) (y : ℕ) → IsCore c → new ≡ returned y c → IsIdleBut y c.busy → HasBoundIn y (y + 1) c new
+-- a core in which nothing was taken in
+pub bound-back : (c new : Core) (y : ℕ) → IsCore c → new ≡ c → IsIdle c.busy → HasBoundIn y (y + 1) c new
 bound-back c new y core is idle = subst (λ (d : Core). HasBoundIn y (y + 1) c d) (sym is) (record {
   frame = refl;
   graph_is = refl;
@@ -168,34 +139,38 @@ bound-wider high higher a b within bound = record {
   idle = bound.idle;
 }
 
--- binds before a job of a later variable was taken, and the bind of that variable
-pub bound-more : (a b out c : Core) (mid y rows : ℕ) → mid ≤ y → IsLegal c.frame c.entries → out ≡ taken y rows b → HasBoundIn 0 mid a b → HasBoundIn y (y + 1) out c → HasBoundIn 0 (y + 1) a c
-bound-more a b out c mid y rows late legal is one two = there (subst (λ (d : Core). HasBoundIn y (y + 1) d c) is two) where
-  there : HasBoundIn y (y + 1) (taken y rows b) c → HasBoundIn 0 (y + 1) a c
-  there next = record {
-    frame = next.frame ∙ one.frame;
-    graph_is = next.graph_is ∙ one.graph_is;
-    peer = next.peer ∙ one.peer;
-    binds = (
-      one.binds.0 ++ next.binds.0,
-      next.binds.1 ∙ ap (λ (h : List Entry). h ++ next.binds.0) one.binds.1 ∙ append_assoc a.entries one.binds.0 next.binds.0,
-      binds-both 0 mid y (y + 1) (length a.entries) one.binds.0 next.binds.0 (omega arith) late (omega arith) one.binds.2
-          (subst (λ (n : ℕ). AreBinds y (y + 1) n next.binds.0) (ap (λ (h : List Entry). length h) one.binds.1 ∙ length-append a.entries one.binds.0) next.binds.2),
-    );
-    parked = next.parked ∙ ap (filter unmet) one.parked ∙ narrower (λ r. not (is_met b.frame b.entries r)) unmet before a.parked;
-    opened = next.opened ∙ one.opened;
-    idle = next.idle;
-  } where
-    unmet : Read → Bool
-    unmet r = not (is_met c.frame c.entries r)
+-- what is owed changes nothing else
+pub bound-owing : (b out c : Core) (y rows : ℕ) → out ≡ owing rows b → HasBoundIn y (y + 1) out c → HasBoundIn y (y + 1) b c
+bound-owing b out c y rows is bound = there (subst (λ (d : Core). HasBoundIn y (y + 1) d c) is bound) where
+  there : HasBoundIn y (y + 1) (owing rows b) c → HasBoundIn y (y + 1) b c
+  there next = record { frame = next.frame; graph_is = next.graph_is; peer = next.peer; binds = next.binds; parked = next.parked; opened = next.opened; idle = next.idle }
 
-    before : (r : Read) → unmet r ≡ true → not (is_met b.frame b.entries r) ≡ true
-    before r off = unmet-before b.frame b.entries next.binds.0 (subst (λ (h : List Entry). IsLegal b.frame h) next.binds.1 (subst (λ (X : Frame). IsLegal X c.entries) next.frame legal)) r
-        ((λ i. not (is_met (sym next.frame i) (sym next.binds.1 i) r)) ∙ off)
+-- binds before a later variable's turn, and the bind of that variable
+pub bound-more : (a b c : Core) (mid y : ℕ) → mid ≤ y → IsLegal c.frame c.entries → HasBoundIn 0 mid a b → HasBoundIn y (y + 1) b c → HasBoundIn 0 (y + 1) a c
+bound-more a b c mid y late legal one next = record {
+  frame = next.frame ∙ one.frame;
+  graph_is = next.graph_is ∙ one.graph_is;
+  peer = next.peer ∙ one.peer;
+  binds = (
+    one.binds.0 ++ next.binds.0,
+    next.binds.1 ∙ ap (λ (h : List Entry). h ++ next.binds.0) one.binds.1 ∙ append_assoc a.entries one.binds.0 next.binds.0,
+    binds-both 0 mid y (y + 1) (length a.entries) one.binds.0 next.binds.0 (omega arith) late (omega arith) one.binds.2
+        (subst (λ (n : ℕ). AreBinds y (y + 1) n next.binds.0) (ap (λ (h : List Entry). length h) one.binds.1 ∙ length-append a.entries one.binds.0) next.binds.2),
+  );
+  parked = next.parked ∙ ap (filter unmet) one.parked ∙ narrower (λ r. not (is_met b.frame b.entries r)) unmet before a.parked;
+  opened = next.opened ∙ one.opened;
+  idle = next.idle;
+} where
+  unmet : Read → Bool
+  unmet r = not (is_met c.frame c.entries r)
 
-module _ (c new : Core) (by y n : ℕ) (mine : by ≡ 0) (is : new ≡ returned y (entered (entry by (Bind y n)) c)) where
+  before : (r : Read) → unmet r ≡ true → not (is_met b.frame b.entries r) ≡ true
+  before r off = unmet-before b.frame b.entries next.binds.0 (subst (λ (h : List Entry). IsLegal b.frame h) next.binds.1 (subst (λ (X : Frame). IsLegal X c.entries) next.frame legal)) r
+      ((λ i. not (is_met (sym next.frame i) (sym next.binds.1 i) r)) ∙ off)
+
+module _ (c new : Core) (by y n : ℕ) (mine : by ≡ 0) (is : new ≡ entered (entry by (Bind y n)) c) where
   -- the result was taken in
-  pub bound-done : n ≡ length c.entries → IsLegal c.frame c.entries → IsDerived (graph c.frame c.entries) y → IsIdleBut y c.busy → HasBoundIn y (y + 1) c new
+  pub bound-done : n ≡ length c.entries → IsLegal c.frame c.entries → IsDerived (graph c.frame c.entries) y → IsIdle c.busy → HasBoundIn y (y + 1) c new
   bound-done now legal derived idle = subst (λ (d : Core). HasBoundIn y (y + 1) c d) (sym is) (record {
     frame = refl;
     graph_is = graph-bound c.frame c.entries (entry by (Bind y n)) y n refl;
@@ -209,7 +184,7 @@ module _ (c new : Core) (by y n : ℕ) (mine : by ≡ 0) (is : new ≡ returned 
   -- and made the variable clean, with those before it
   pub clean-done : IsLegal c.frame (c.entries ++ entry by (Bind y n) ∷ []) → n ≡ length c.entries → AreCleanBelow y c → AreCleanBelow (y + 1) new
   clean-done legal now below = subst (AreCleanBelow (y + 1)) (sym is) each where
-    each : AreCleanBelow (y + 1) (returned y (entered (entry by (Bind y n)) c))
+    each : AreCleanBelow (y + 1) (entered (entry by (Bind y n)) c)
     each z low derived = choose (same-or-apart z y) where
       choose : (z ≡ y) ⊎ (z ≡ y → ⊥) → IsClean c.frame (c.entries ++ entry by (Bind y n) ∷ []) z
       choose (inl same) =
@@ -272,16 +247,16 @@ turn-passed many a b within not_so below = choose (nat_lt many below.reached) re
       either z derived low (inl same) = clean-else b.frame b.entries z derived (λ lacks. not_so (subst (IsUnclean b.frame b.entries) same lacks))
       either z derived low (inr apart) = below.clean z (omega (arith, low, apart, below.late)) derived
 
--- a turn at which a job of the variable was taken, and it or none was bound
-module _ (a b out c : Core) (y rows : ℕ) (core : IsLegal c.frame c.entries) (lacks : IsUnclean b.frame b.entries y) (is : out ≡ taken y rows b) (below : IsBoundBelow y a b) (bound : HasBoundIn y (y + 1) out c) where
-  turn : IsTurn b out below.reached y
-  turn = turn-taken b out below.reached y rows below.bound.idle below.late below.clean lacks is
+-- a turn at which the variable was bound, or not
+module _ (a b c : Core) (y : ℕ) (legal : IsLegal c.frame c.entries) (lacks : IsUnclean b.frame b.entries y) (below : IsBoundBelow y a b) (bound : HasBoundIn y (y + 1) b c) where
+  turn : IsTurn b below.reached y
+  turn = turn-taken b below.reached y below.late below.clean lacks
 
   place : y < length (graph a.frame a.entries)
   place = omega (arith, turn.declared, ap (λ (ds : List Decl). length ds) below.bound.graph_is)
 
   both : HasBoundIn 0 (y + 1) a c
-  both = bound-more a b out c below.reached y rows turn.late core is below.bound bound
+  both = bound-more a b c below.reached y turn.late legal below.bound bound
 
   pub turn-bound : HasBound a c
   turn-bound = bound-wider (y + 1) (length (graph a.frame a.entries)) a c (omega (arith, place)) both
@@ -321,26 +296,46 @@ cost-none c n low = record { owed = omega (arith, low, none); ticks = omega arit
 pub cost-within : (a b : Core) (m n : ℕ) → HasCost a b m n → b.owed < greatest_count → n + a.owed ≤ m + b.owed
 cost-within a b m n cost low = omega (arith, cost.owed, cost.ticks, low)
 
-module _ (a b out c : Core) (y n rows before now after : ℕ) (is : out ≡ taken y rows b) (cost : HasCost a b before now) (owed : c.owed ≡ out.owed) (ticks : after ≤ now + rows) where
-  owed-is : c.owed ≡ counted_up b.owed rows
-  owed-is = owed ∙ ap (λ (d : Core). d.owed) is
+-- a turn at which the variable wasn't bound: what it owes is at least its ticks
+pub cost-refused : (a b c : Core) (before now after : ℕ) → HasCost a b before now → b.owed ≤ c.owed → (c.owed < greatest_count → after + b.owed ≤ now + c.owed) → c.owed < greatest_count → after + a.owed ≤ before + c.owed
+cost-refused a b c before now after cost rises spent low = omega (arith, cost.owed, cost.ticks, rises, spent low, low)
 
-  pub cost-refused : c.owed < greatest_count → after + a.owed ≤ before + c.owed
-  cost-refused low = omega (arith, cost.owed, cost.ticks, ticks, owed-is, low)
+-- a turn at which it was
+pub cost-more : (a b c : Core) (mid y before now after : ℕ) → HasCost a b before now → HasBoundIn 0 mid a b → c.owed ≡ counted_up b.owed (unread_rows b.frame b.entries y) → after ≤ now + unread_rows b.frame b.entries y
+    → c.entries ≡ b.entries ++ entry 0 (Bind y (length b.entries)) ∷ [] → HasCost a c before after
+cost-more a b c mid y before now after cost bound owed ticks entered = record { owed = omega (arith, cost.owed, owed, more); ticks = omega (arith, cost.ticks, ticks, more) } where
+  es : List Entry
+  es = bound.binds.0
 
-  pub cost-more : (mid : ℕ) → HasBoundIn 0 mid a b → rows ≡ unread_rows b.frame b.entries y → c.entries ≡ out.entries ++ entry 0 (Bind y n) ∷ [] → HasCost a c before after
-  cost-more mid bound unread entered = record { owed = omega (arith, cost.owed, owed-is, more); ticks = omega (arith, cost.ticks, ticks, more) } where
-    es : List Entry
-    es = bound.binds.0
+  e : Entry
+  e = entry 0 (Bind y (length b.entries))
 
-    e : Entry
-    e = entry 0 (Bind y n)
+  all : c.entries ≡ a.entries ++ (es ++ e ∷ [])
+  all = entered ∙ ap (λ (h : List Entry). h ++ e ∷ []) bound.binds.1 ∙ append_assoc a.entries es (e ∷ [])
 
-    all : c.entries ≡ a.entries ++ (es ++ e ∷ [])
-    all = entered ∙ ap (λ (d : Core). d.entries ++ e ∷ []) is ∙ ap (λ (h : List Entry). h ++ e ∷ []) bound.binds.1 ∙ append_assoc a.entries es (e ∷ [])
+  there : rows_behind a.frame (a.entries ++ es) e.act ≡ unread_rows b.frame b.entries y
+  there = λ i. unread_rows (sym bound.frame i) (sym bound.binds.1 i) y
 
-    there : rows_behind a.frame (a.entries ++ es) e.act ≡ rows
-    there = (λ i. unread_rows (sym bound.frame i) (sym bound.binds.1 i) y) ∙ sym unread
+  more : rows_since a c ≡ rows_since a b + unread_rows b.frame b.entries y
+  more = rows-are a c (es ++ e ∷ []) all ∙ rows-more a.frame a.entries es e ∙ (λ i. sym (rows-are a b es bound.binds.1) i + there i)
 
-    more : rows_since a c ≡ rows_since a b + rows
-    more = rows-are a c (es ++ e ∷ []) all ∙ rows-more a.frame a.entries es e ∙ (λ i. sym (rows-are a b es bound.binds.1) i + there i)
+-- the rows that changed are those that the variable has not read
+pub unread-counted : (X : Frame) (h : List Entry) (y : ℕ) (u : Unread) → IsUnread X h y u → rows_in u ≡ unread_rows X h y
+unread-counted X h y u is i = length (is.first i) + (if is.two i then length (is.second i) else 0)
+
+-- what a turn owes, and what it costs
+module _ (b out c : Core) (y rows now after : ℕ) (unread : rows ≡ unread_rows b.frame b.entries y) (is : out ≡ owing rows b) (owed : c.owed ≡ out.owed) (ticks : after ≤ now + rows) where
+  owed-rows : c.owed ≡ counted_up b.owed rows
+  owed-rows = owed ∙ ap (λ (d : Core). d.owed) is
+
+  pub owed-more : c.owed ≡ counted_up b.owed (unread_rows b.frame b.entries y)
+  owed-more = owed-rows ∙ ap (counted_up b.owed) unread
+
+  pub owed-rises : b.owed ≤ greatest_count → b.owed ≤ c.owed
+  owed-rises low = omega (arith, owed-rows, low)
+
+  pub owed-ticks : after ≤ now + unread_rows b.frame b.entries y
+  owed-ticks = omega (arith, ticks, unread)
+
+  pub owed-within : c.owed < greatest_count → after + b.owed ≤ now + c.owed
+  owed-within low = omega (arith, owed-rows, ticks, low)

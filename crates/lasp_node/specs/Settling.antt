@@ -1,5 +1,5 @@
 -- What settling a core does, turn by turn.
-use Rattle.std.specs.Prelude.{◌≡◌, ℕ, ◌+◌, ◌<◌, ◌≤◌, ◌-◌, not, List, [], ◌∷◌, ◌++◌, length, drop, filter, slice_index_or, slice_set, Option, Some, Result, Ok, Err}
+use Rattle.std.specs.Prelude.{◌≡◌, ℕ, ◌+◌, ◌<◌, ◌≤◌, not, List, [], ◌∷◌, ◌++◌, length, drop, filter, slice_index_or, Option, Some, Result, Ok, Err}
 use Rattle.model_graph.specs.Lawful.{IsDerived}
 use Rattle.model_journal.specs.Entry.{Act, Update, Deliver, Bind, Extend, Entry, Frame, entry}
 use Rattle.model_journal.specs.Journal.{graph}
@@ -13,10 +13,6 @@ use Rattle.lasp_drive.specs.declared.node.NodeStop.TheVariants as node
 -- no job is out
 abbrev pub IsIdle : List ℕ → Type 0
 IsIdle busy = (y : ℕ) → slice_index_or busy y 0 ≡ 0
-
--- one job of variable y is out at most, and no other job
-abbrev pub IsIdleBut : ℕ → List ℕ → Type 0
-IsIdleBut y busy = IsIdle (slice_set busy y (slice_index_or busy y 0 - 1))
 
 -- every derived variable below a number has taken in its inputs as they are
 abbrev pub AreCleanBelow : ℕ → Core → Type 0

@@ -1,7 +1,7 @@
-//! Settling a core: its jobs are done until none is left.
+//! Settling a core: each derived variable is brought up to its inputs, the least first.
 
 ghost use Rattle.std.specs.Prelude.{◌≡◌, ◌<◌, ◌≤◌, ◌+◌, ◌++◌, ◌∷◌, ◌↔◌, [], IsTrue, length, OnOk};
-ghost use Rattle.lasp_node.specs.Prelude.{eval, first_large, FitsAll, Bind, entry, library_of, Settles, IsSettled, IsJobNow, greatest_count, counted_up, IsIdle, IsIdleBut, AreCleanBelow, HasBoundIn, HasBound, rows_since, TellsFirst, IsUnclean};
+ghost use Rattle.lasp_node.specs.Prelude.{eval, first_large, FitsAll, Bind, entry, IsDerived, library_of, Settles, IsSettled, IsUnread, greatest_count, counted_up, IsIdle, AreCleanBelow, HasBoundIn, HasBound, rows_since, TellsFirst, IsUnclean, unread_rows};
 ghost use Rattle.model_journal.specs.Journal as journal;
 ghost use Rattle.lasp_fns.specs.Steps as counted;
 
@@ -9,42 +9,55 @@ use lasp_core::Core;
 use lasp_drive::NodeStop;
 use lasp_fns::StepLib;
 use lasp_graph::EvalRefused;
-use lasp_replica::Job;
+use lasp_replica::Unread;
 use std::alloc::Global;
 
-/// Does the job of the least variable that lacks something: evaluates it, and hands the result to its core; or gives it back.
-fn do_job(alloc: Global, core: &mut Core, mut job: Job, lib: &mut StepLib) -> Result<(), NodeStop>
-    requires job { IsJobNow core.old.frame core.old.entries job.var job }
-    requires out { IsIdleBut job.var core.old.busy }
-    requires below { AreCleanBelow job.var core.old }
+/// Takes the rows that changed in the inputs of a variable in.
+fn take_in(core: &mut Core, var: u8, unread: &Unread, lib: &mut StepLib) -> Result<(), NodeStop>
+    requires derived { IsDerived (journal.graph core.old.frame core.old.entries) var }
+    requires unread { IsUnread core.old.frame core.old.entries var unread.now }
+    requires idle { IsIdle core.old.busy }
+    requires below { AreCleanBelow var core.old }
     requires fits { FitsAll (library_of (counted.library_of lib.old)) (journal.graph core.old.frame core.old.entries) }
-    ensures bound { HasBoundIn job.var (job.var + 1) core.old core.new }
-    ensures entry { OnOk result (core.new.entries ≡ core.old.entries ++ entry 0 (Bind job.var job.n) ∷ []) }
-    ensures clean { OnOk result (AreCleanBelow (job.var + 1) core.new) }
+    ensures bound { HasBoundIn var (var + 1) core.old core.new }
+    ensures entry { OnOk result (core.new.entries ≡ core.old.entries ++ entry 0 (Bind var (length core.old.entries)) ∷ []) }
+    ensures clean { OnOk result (AreCleanBelow (var + 1) core.new) }
     ensures large { TellsFirst (first_large 0 (eval (journal.graph core.old.frame core.old.entries) (journal.sources core.old.frame core.old.entries))) result }
     ensures owed { core.new.owed ≡ core.old.owed }
     ensures library { counted.library_of lib.new ≡ counted.library_of lib.old }
-    ensures ticks { counted.ticks_of lib.new ≤ counted.ticks_of lib.old + length job.first }
+    ensures ticks { counted.ticks_of lib.new ≤ counted.ticks_of lib.old + length unread.now.first }
 {
     core.recall();
-    match job.evaluate(alloc, lib) {
-        Ok(state) => match core.finish(0, job, state) {
-            Ok(_) => Ok(()),
-            Err((job, _)) => {
-                core.give_back(job);
-                Err(NodeStop::Memory)
-            }
-        },
-        Err(EvalRefused::TooManyRows) => {
-            let var = job.var;
-            core.give_back(job);
-            Err(NodeStop::TooLarge(var))
+    match core.settle_var(0, var, unread, lib) {
+        Ok(_) => {
+            core.recall();
+            Ok(())
         }
-        Err(EvalRefused::Memory) => {
-            core.give_back(job);
-            Err(NodeStop::Memory)
-        }
+        Err(EvalRefused::TooManyRows) => Err(NodeStop::TooLarge(var)),
+        Err(EvalRefused::Memory) => Err(NodeStop::Memory),
     }
+}
+
+/// Brings the least variable that lacks something up to its inputs.
+fn bring_up(core: &mut Core, var: u8, lib: &mut StepLib) -> Result<(), NodeStop>
+    requires unclean { IsUnclean core.old.frame core.old.entries var }
+    requires idle { IsIdle core.old.busy }
+    requires below { AreCleanBelow var core.old }
+    requires fits { FitsAll (library_of (counted.library_of lib.old)) (journal.graph core.old.frame core.old.entries) }
+    ensures bound { HasBoundIn var (var + 1) core.old core.new }
+    ensures entry { OnOk result (core.new.entries ≡ core.old.entries ++ entry 0 (Bind var (length core.old.entries)) ∷ []) }
+    ensures clean { OnOk result (AreCleanBelow (var + 1) core.new) }
+    ensures large { TellsFirst (first_large 0 (eval (journal.graph core.old.frame core.old.entries) (journal.sources core.old.frame core.old.entries))) result }
+    ensures owed { OnOk result (core.new.owed ≡ counted_up core.old.owed (unread_rows core.old.frame core.old.entries var)) }
+    ensures rises { core.old.owed ≤ core.new.owed }
+    ensures library { counted.library_of lib.new ≡ counted.library_of lib.old }
+    ensures ticks { OnOk result (counted.ticks_of lib.new ≤ counted.ticks_of lib.old + unread_rows core.old.frame core.old.entries var) }
+    ensures within { core.new.owed < greatest_count → counted.ticks_of lib.new + core.old.owed ≤ counted.ticks_of lib.old + core.new.owed }
+{
+    core.recall();
+    core.owed();
+    let unread = core.unread(var)?;
+    take_in(core, var, &unread, lib)
 }
 
 /// Whether a variable is derived and hasn't taken in its inputs as they are.
@@ -59,7 +72,7 @@ fn is_unclean(core: &Core, var: u8) -> bool
 }
 
 /// Brings every derived variable to what its process gives on the present sources, the least first and each once at most; one that is clean at its turn is passed over, and a core in which all are clean is left as it is. It calls the library's functions at most as often as rows changed in the inputs of the variables that it evaluates, since each was last bound.
-pub fn settle(alloc: Global, core: &mut Core, lib: &mut StepLib) -> Result<(), NodeStop>
+pub fn settle(_alloc: Global, core: &mut Core, lib: &mut StepLib) -> Result<(), NodeStop>
     requires idle { IsIdle core.old.busy }
     requires fits { FitsAll (library_of (counted.library_of lib.old)) (journal.graph core.old.frame core.old.entries) }
     ensures bound { HasBound core.old core.new }
@@ -78,8 +91,7 @@ pub fn settle(alloc: Global, core: &mut Core, lib: &mut StepLib) -> Result<(), N
     for x in 0..core.graph().len() {
         let var = x as u8;
         if is_unclean(core, var) {
-            let job = core.take_var(var)?;
-            let done = do_job(alloc, core, job, lib);
+            let done = bring_up(core, var, lib);
             core.recall();
             done?;
         }
