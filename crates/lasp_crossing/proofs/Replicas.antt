@@ -3,7 +3,7 @@ use denote.Param.Send.{IsSend, IsSync}
 use Rattle.lasp_graph.proofs.decl.Decl.TheSendSync as decl
 use Rattle.lasp_graph.proofs.graph.Graph.TheSendSync as graph
 use Rattle.lasp_crossing.proofs.Values.{owned}
-use Rattle.lasp_crossing.proofs.Sets.{Row-send, Row-sync}
+use Rattle.lasp_crossing.proofs.Sets.{Row-send, Row-sync, OrSet-send, OrSet-sync}
 use Rattle.lasp_crossing.proofs.States.{Op-send, Op-sync}
 use Rattle.lasp_crossing.proofs.Graphs.{States-send, States-sync, Inputs-send, Inputs-sync}
 use Rattle.lasp_crossing.proofs.Messages.{Message-send, Message-sync}
@@ -18,10 +18,10 @@ pub Entry-sync : IsSync (Entry.the_field).row
 Entry-sync = search (Op-sync, Message-send, Message-sync, decl.the_field_sync, owned) depth 40 fits 4000
 
 pub History-send : IsSend History.the_row
-History-send = search (Row-send, owned) depth 40 fits 4000
+History-send = search (Row-send, OrSet-send, owned) depth 40 fits 4000
 
 pub History-sync : IsSync History.the_row
-History-sync = search (Row-sync, owned) depth 40 fits 4000
+History-sync = search (Row-sync, OrSet-sync, owned) depth 40 fits 4000
 
 pub Replica-send : IsSend (Replica.the_field).row
 Replica-send = search (graph.the_send, graph.the_sync, States-send, History-send, Inputs-send, Entry-send, owned) depth 40 fits 4000

@@ -1,11 +1,16 @@
 -- What the looks at single growths tell of all, since they ascend.
-use Rattle.std.proofs.Common.{◌≡◌, ℕ, zero, suc, ◌+◌, ◌-◌, ◌≤◌, ◌<◌, max, Bool, true, false, if◌then◌else◌, nat_lt, IsTrue, List, [], ◌∷◌, ◌++◌, length, drop, append-nil, slice_index_or, slice_get, Option, Some, None, Result, Ok, Err, IsOk, is_ok, ◌↔◌, refl, sym, ap, subst, ◌∙◌, arith}
+use Rattle.std.proofs.Common.{◌≡◌, ℕ, zero, suc, ◌+◌, ◌-◌, ◌≤◌, ◌<◌, max, Bool, true, false, if◌then◌else◌, nat_lt, IsTrue, List, [], ◌∷◌, ◌++◌, length, take, drop, append-nil, append_assoc, ◌==◌, slice_index_or, slice_get, Option, Some, None, Result, Ok, Err, IsOk, is_ok, ◌↔◌, refl, sym, ap, subst, ◌∙◌, arith}
 use Rattle.std.proofs.lemmas.Bool.Decides.{nat_tests}
-use Rattle.std.proofs.lemmas.List.{drop_all}
+use Rattle.std.proofs.lemmas.List.{drop_all, length-drop, take_all}
+use Rattle.std.proofs.Math.Seq.{take-append_seam, drop-append_seam, drop-append-add}
 use Rattle.model_values.specs.Row.{Row}
+use Rattle.model_sets.specs.Rows.{IsAscending, of_rows, join}
+use Rattle.model_sets.specs.Rises.{AreApart}
+use Rattle.model_sets.proofs.RowLaws.{of_rows-ascending}
+use Rattle.model_sets.proofs.RiseLaws.{ascending-apart, join-parts}
 use Rattle.model_graph.proofs.PlaceLaws.{length-append}
-use Rattle.lasp_replica.specs.History.{Growth, version_before, rows_before, AreBelow, AscendFrom, AreSound}
-use Rattle.lasp_replica.specs.Kept.{growth}
+use Rattle.lasp_replica.specs.History.{Growth, History, grown, version_before, rows_before, AreBelow, AscendFrom, AreSound}
+use Rattle.lasp_replica.specs.Kept.{growth, CoversFirst}
 use Rattle.lasp_replica.proofs.GrowthLaws.{version-below, ascend-push}
 
 drop-none : {A : Type 0} (xs : List A) → drop 0 xs ≡ xs
@@ -132,6 +137,116 @@ rows-at n (suc i) log gs g up some e small is =
 pub sound-grown : (n : ℕ) (log pending : List Row) (gs : List Growth) → AreSound log gs → AreBelow n gs → AreSound (log ++ pending) (gs ++ growth n (length (log ++ pending)) ∷ [])
 sound-grown n log pending gs up below = ascend-push 0 0 n (length (log ++ pending)) gs (length log) up below (omega arith) (omega (arith, length-append log pending))
 
+-- ---- the rows of the first growth
+
+-- what is behind entries at which the variable grew is behind the first growth
+first-left : (n held : ℕ) (log : List Row) (gs : List Growth) → AreSound log gs → CoversFirst held gs → 0 < rows_before gs n → held ≤ rows_before gs n
+first-left n held log [] up covered some = absurd (omega (arith, some))
+first-left n held log (g ∷ gs) up covered some = choose (nat_lt g.entry n) refl some where
+  choose : (b : Bool) → nat_lt g.entry n ≡ b → 0 < (if b then max g.rows (rows_before gs n) else rows_before gs n) → held ≤ (if b then max g.rows (rows_before gs n) else rows_before gs n)
+  choose true e some = omega (arith, covered)
+  choose false e some =
+      let late : n ≤ g.entry = grind (arith, nat_tests, e) in
+      absurd (omega (arith, some, rows-none n gs (version-late n (g.entry + 1) g.rows gs (length log) up.2 (omega (arith, late)))))
+
+-- so is what is left out, as it was counted
+pub left-out : (n held left : ℕ) (log : List Row) (gs hs : List Growth) → AreSound log gs → CoversFirst held gs → gs ≡ hs → left ≡ rows_before hs n → (left ≡ 0 → ⊥) → held ≤ left
+left-out n held left log gs hs up covered same exact some =
+    let counted : left ≡ rows_before gs n = exact ∙ ap (λ ks. rows_before ks n) (sym same) in
+    omega (arith, counted, first-left n held log gs up covered (omega (arith, counted, some)))
+
+-- a growth behind others
+pub covered-push : (held : ℕ) (gs : List Growth) (g : Growth) → 0 < length gs → CoversFirst held gs → CoversFirst held (gs ++ g ∷ [])
+covered-push held [] g some covered = absurd (omega (arith, some))
+covered-push held (f ∷ gs) g some covered = covered
+
+-- before the first growth there are no rows
+none-first : (first log : List Row) (gs : List Growth) → AreSound (first ++ log) gs → length gs ≡ 0 → (first ≡ []) × (log ≡ [])
+none-first [] [] gs up none = (refl, refl)
+none-first [] (r ∷ log) [] up none = absurd (omega (arith, up))
+none-first (r ∷ first) log [] up none = absurd (omega (arith, up))
+none-first first log (g ∷ gs) up none = absurd (omega (arith, none))
+
+-- the rows that are put first, and those behind, once a growth is recorded
+module _ (first log later pending : List Row) (gs : List Growth) (sound : AreSound (first ++ log) gs) (covered : CoversFirst (length first) gs) (alone : 0 < length gs → later ≡ []) where
+  abbrev put : Bool → List Row
+  put is_first = if is_first then later else first
+
+  pub put-rows : (is_first : Bool) → is_first ≡ (length gs == 0) → put is_first ++ (log ++ pending) ≡ (first ++ log) ++ (later ++ pending)
+  put-rows true is =
+      let none = none-first first log gs sound (grind (arith, nat_tests, sym is)) in
+      (λ i. later ++ (none.1 i ++ pending)) ∙ sym (λ i. (none.0 i ++ none.1 i) ++ (later ++ pending))
+  put-rows false is =
+      let some : 0 < length gs = grind (arith, nat_tests, sym is) in
+      sym (append_assoc first log pending) ∙ ap (λ (rows : List Row). (first ++ log) ++ (rows ++ pending)) (sym (alone some))
+
+  pub put-covers : (is_first : Bool) → is_first ≡ (length gs == 0) → (n rows : ℕ) → rows ≡ length (put is_first ++ (log ++ pending)) → CoversFirst (length (put is_first)) (gs ++ growth n rows ∷ [])
+  put-covers true is n rows all =
+      let none : length gs ≡ 0 = grind (arith, nat_tests, sym is) in
+      first-covers gs none (omega (arith, all, length-append later (log ++ pending))) where
+        first-covers : (hs : List Growth) → length hs ≡ 0 → length later ≤ rows → CoversFirst (length later) (hs ++ growth n rows ∷ [])
+        first-covers [] none low = low
+        first-covers (h ∷ hs) none low = absurd (omega (arith, none))
+  put-covers false is n rows all =
+      let some : 0 < length gs = grind (arith, nat_tests, sym is) in
+      covered-push (length first) gs (growth n rows) some covered
+
+  -- the history goes on, and is sound as it is kept
+  pub record IsRecorded (n : ℕ) (first' log' : List Row) (gs' : List Growth) : Type 0 where
+    pub is : record { log = first' ++ log'; growths = gs' } ≡ grown (record { log = first ++ log; growths = gs }) (later ++ pending) n
+    pub sound' : AreSound (first' ++ log') gs'
+    pub covered' : CoversFirst (length first') gs'
+
+  pub recorded : (is_first : Bool) → is_first ≡ (length gs == 0) → (n : ℕ) (first' log' : List Row) (gs' : List Growth) (rows : ℕ) → first' ≡ put is_first → log' ≡ log ++ pending → rows ≡ length first' + length log' → gs' ≡ gs ++ growth n rows ∷ [] → AreBelow n gs
+      → IsRecorded n first' log' gs'
+  recorded is_first is n first' log' gs' rows first-is log-is rows-are growths-are below = record {
+    is = same;
+    sound' = subst (λ (h : History). AreSound h.log h.growths) (sym same) (sound-grown n (first ++ log) (later ++ pending) gs sound below);
+    covered' = subst (λ (hs : List Growth). CoversFirst (length first') hs) (sym growths-are)
+        (subst (λ (f : List Row). CoversFirst (length f) (gs ++ growth n rows ∷ [])) (sym first-is) (put-covers is_first is n rows (counted ∙ ap (λ (all : List Row). length all) split)));
+  } where
+    split : first' ++ log' ≡ put is_first ++ (log ++ pending)
+    split = λ i. first-is i ++ log-is i
+
+    whole : first' ++ log' ≡ (first ++ log) ++ (later ++ pending)
+    whole = split ∙ put-rows is_first is
+
+    counted : rows ≡ length (first' ++ log')
+    counted = omega (arith, rows-are, length-append first' log')
+
+    growths : gs' ≡ gs ++ growth n (length ((first ++ log) ++ (later ++ pending))) ∷ []
+    growths = growths-are ∙ ap (λ (m : ℕ). gs ++ growth n m ∷ []) (counted ∙ ap (λ (all : List Row). length all) whole)
+
+    same : record { log = first' ++ log'; growths = gs' } ≡ grown (record { log = first ++ log; growths = gs }) (later ++ pending) n
+    same = λ i. record { log = whole i; growths = growths i }
+
+-- a growth that is prepared as a set
+pub taken-first : (rows more news : List Row) → rows ≡ news → more ≡ [] → IsAscending news → (of_rows (rows ++ more) ≡ news) × AreApart (rows ++ more)
+taken-first rows more news is none up = subst (λ (all : List Row). (of_rows all ≡ news) × AreApart all) (sym whole) (of_rows-ascending news up, ascending-apart news up) where
+  whole : rows ++ more ≡ news
+  whole = (λ i. is i ++ none i) ∙ append-nil news
+
+-- all rows, where there was one growth at most
+pub first-all : (first log : List Row) → length log ≡ 0 → IsAscending first → first ≡ of_rows (first ++ log)
+first-all first [] none up = sym (ap of_rows (append-nil first) ∙ of_rows-ascending first up)
+first-all first (r ∷ log) none up = absurd (omega (arith, none))
+
+-- all rows: the first growth's, and those behind
+pub all-joined : (first log : List Row) → IsAscending first → join first (of_rows log) ≡ of_rows (first ++ log)
+all-joined first log up =
+    (λ i. join (begins i) (rests i)) ∙ join-parts (first ++ log) (length first) where
+      begins : first ≡ of_rows (take (length first) (first ++ log))
+      begins = sym (of_rows-ascending first up) ∙ ap of_rows (sym (take-append_seam first log))
+
+      rests : of_rows log ≡ of_rows (drop (length first) (first ++ log))
+      rests = ap of_rows (sym (drop-append_seam first log))
+
+-- the rows behind entries at which the variable grew are those of a part of the list
+pub behind-first : (first log all : List Row) (n m : ℕ) → all ≡ log → length first ≤ n → m ≡ n - length first → take (length all - m) (drop m all) ≡ drop n (first ++ log)
+behind-first first log all n m same low is =
+    let whole : length first + m ≡ n = omega (arith, low, is) in
+    take_all (length all - m) (drop m all) (omega (arith, length-drop m all)) ∙ ap (drop m) same ∙ sym (drop-append-add first log m) ∙ ap (λ (k : ℕ). drop k (first ++ log)) whole
+
 -- what a call gives where it succeeds
 pub where-ok : {A E X : Type 0} (r : Result A E) (new more old : X) → IsOk r → new ≡ (if is_ok r then more else old) → new ≡ more
 where-ok (Ok a) new more old ok e = e
@@ -140,3 +255,12 @@ where-ok (Err b) new more old ok e = cc
 -- a list is all of a pass, once nothing is left of it
 pub listed : (list left all : List Row) → list ++ left ≡ all → left ≡ [] → list ≡ all
 listed list left all is none = sym (append-nil list) ∙ ap (λ (rest : List Row). list ++ rest) (sym none) ∙ is
+
+-- the history that a prepared growth is recorded in, by what the calls that write it answer
+pub goes-on : {A E B F : Type 0} (appended : Result A E) (pushed : Result B F) (old : History) (first log later pending : List Row) (gs : List Growth) (sound : AreSound (first ++ log) gs) (covered : CoversFirst (length first) gs) (alone : 0 < length gs → later ≡ [])
+    → record { log = first ++ log; growths = gs } ≡ old → (is_first : Bool) → is_first ≡ (length gs == 0) → (n : ℕ) (first' log' : List Row) (gs' : List Growth) (g : Growth) (rows : ℕ) → first' ≡ (if is_first then later else first)
+    → IsOk appended → log' ≡ (if is_ok appended then log ++ pending else log) → rows ≡ length first' + length log' → g ≡ growth n rows → IsOk pushed → gs' ≡ (if is_ok pushed then gs ++ g ∷ [] else gs) → AreBelow n old.growths
+    → IsRecorded first log later pending gs sound covered alone n first' log' gs'
+goes-on appended pushed old first log later pending gs sound covered alone seen is_first is n first' log' gs' g rows first-is ok log-is rows-are g-is ok' gs-are below =
+    recorded first log later pending gs sound covered alone is_first is n first' log' gs' rows first-is (where-ok appended log' (log ++ pending) log ok log-is) rows-are
+    (where-ok pushed gs' (gs ++ g ∷ []) gs ok' gs-are ∙ ap (λ (h : Growth). gs ++ h ∷ []) g-is) (subst (λ (h : History). AreBelow n h.growths) (sym seen) below)

@@ -1,5 +1,5 @@
 -- A history as it is kept, with the rows of a growth that is prepared.
-use Rattle.std.specs.Prelude.{ℕ, ◌≤◌, ◌<◌, Bool, IsTrue, List, refl}
+use Rattle.std.specs.Prelude.{◌≡◌, ℕ, ◌≤◌, ◌<◌, Bool, IsTrue, List, [], ◌∷◌, ◌++◌, length, refl}
 use Rattle.std.specs.Coded.{Coded, code_by, coded×, coded_bool, coded_ℕ, coded_list}
 use Rattle.model_values.specs.Row.{Row, coded_rows}
 use Rattle.lasp_replica.specs.History.{Growth, History, AreSound}
@@ -30,8 +30,15 @@ coded_kept =
     code_by (List Row × (List Growth × (List Row × Bool))) (coded× coded_rows (coded× (coded_list coded_growth) (coded× coded_rows coded_bool)))
     (λ k. (k.history.log, (k.history.growths, (k.pending, k.prepared)))) (λ p. kept p.0 p.1.0 p.1.1.0 p.1.1.1) (λ _. refl)
 
--- the history is sound; where a growth is prepared the log has room for this many rows, and the growths for one more
-pub record IsKept (log : List Row) (growths : List Growth) (prepared : Bool) (rows rows_room entries entries_room : ℕ) : Type 0 where
-  pub sound : AreSound log growths
+-- the first growth brought at least so many rows; before it there are none
+abbrev pub CoversFirst : ℕ → List Growth → Type 0
+CoversFirst rows [] = rows ≡ 0
+CoversFirst rows (g ∷ growths) = rows ≤ g.rows
+
+-- the history is sound, and begins with the rows that are kept as a set; only a first growth is prepared as a set; where a growth is prepared the log has room for this many rows, and the growths for one more
+pub record IsKept (first log : List Row) (growths : List Growth) (pending_first : List Row) (prepared : Bool) (rows rows_room entries entries_room : ℕ) : Type 0 where
+  pub sound : AreSound (first ++ log) growths
+  pub covered : CoversFirst (length first) growths
+  pub first_alone : 0 < length growths → pending_first ≡ []
   pub rows_fit : IsTrue prepared → rows ≤ rows_room
   pub entry_fits : IsTrue prepared → entries < entries_room

@@ -1,6 +1,6 @@
 //! The history of one variable: what it answers, and how it goes on.
 
-ghost use Rattle.std.specs.Prelude.{◌≡◌, ◌≤◌, ◌↔◌, [], Bool, true, false, IfOk, OnOk, OnErr, IsTrue, length, drop};
+ghost use Rattle.std.specs.Prelude.{◌≡◌, ◌≤◌, ◌↔◌, [], if◌then◌else◌, Bool, true, false, IfOk, OnOk, OnErr, IsTrue, length, drop};
 ghost use Rattle.lasp_replica.specs.Prelude.{AreApart, of_rows, no_history, grown, version_before, rows_before, AreBelow};
 
 use super::growth::Growth;
@@ -8,27 +8,30 @@ use super::news::rows_of;
 use lasp_logset::{Entry, OrSet};
 use std::alloc::{AllocError, Global};
 use std::marker::Model;
+use std::mem;
 
-/// The rows that changed a variable and the entries at which it grew, each oldest first, and a growth that is prepared.
+/// The rows that changed a variable and the entries at which it grew, each oldest first, and a growth that is prepared. What the first growth brought is a share of a set's log, since it may be many rows at once.
 #[derive(Drop)]
 pub struct History {
+    first: OrSet,
     log: Vec<Entry>,
     growths: Vec<Growth>,
+    pending_first: OrSet,
     pending: Vec<Entry>,
     prepared: bool,
 }
 
 impl Model for History {
-    ghost use Rattle.std.specs.Prelude.{◌+◌, vec_len, vec_capacity};
+    ghost use Rattle.std.specs.Prelude.{◌+◌, ◌++◌, vec_len, vec_capacity};
     ghost use Rattle.lasp_replica.specs.Kept.{Kept, kept, coded_kept, IsKept};
 
     ghost Value = { Kept };
 
     ghost coded = { coded_kept };
 
-    ghost view = { λ a. kept a.log.items a.growths.items a.pending.items a.prepared };
+    ghost view = { λ a. kept (a.first ++ a.log.items) a.growths.items (a.pending_first ++ a.pending.items) a.prepared };
 
-    ghost invariant = { λ a. IsKept a.log.items a.growths.items a.prepared (vec_len a.log + vec_len a.pending) (vec_capacity a.log) (vec_len a.growths) (vec_capacity a.growths) };
+    ghost invariant = { λ a. IsKept a.first a.log.items a.growths.items a.pending_first a.prepared (vec_len a.log + vec_len a.pending) (vec_capacity a.log) (vec_len a.growths) (vec_capacity a.growths) };
 }
 
 impl History {
@@ -39,8 +42,10 @@ impl History {
         ensures prepared { result.prepared ≡ false }
     {
         History {
+            first: OrSet::new(alloc),
             log: Vec::new(alloc),
             growths: Vec::new(alloc),
+            pending_first: OrSet::new(alloc),
             pending: Vec::new(alloc),
             prepared: false,
         }
@@ -87,15 +92,33 @@ impl History {
         }
     }
 
-    /// The rows by which the variable changed since the first `n` entries, as a set. It costs an insertion for each of these rows, which are shared, and a look at each growth since.
+    /// All rows that changed the variable, as a set. It costs an insertion for each row behind the first growth's.
+    fn all_rows(&self, alloc: Global) -> Result<OrSet, AllocError>
+        ensures { IfOk result (λ s. s ≡ of_rows self.now.history.log) }
+    {
+        self.first.ascends();
+        let mut rows = self.first.past()?;
+        if self.log.is_empty() {
+            return Ok(rows);
+        }
+        let later = OrSet::of_rows(alloc, &self.log)?;
+        rows.join_in(&later)?;
+        Ok(rows)
+    }
+
+    /// The rows by which the variable changed since the first `n` entries, as a set. It costs an insertion for each of these rows but the first growth's, which are shared, and a look at each growth since.
     pub fn since(&self, alloc: Global, n: u64) -> Result<OrSet, AllocError>
         ensures { IfOk result (λ s. s ≡ of_rows (drop (rows_before self.now.history.growths n) self.now.history.log)) }
     {
-        let first = self.rows_before(n) as usize;
-        OrSet::of_rows(alloc, &self.log[first..])
+        let left_out = self.rows_before(n);
+        if left_out == 0 {
+            return self.all_rows(alloc);
+        }
+        let behind_first = (left_out - self.first.rows()) as usize;
+        OrSet::of_rows(alloc, &self.log[behind_first..])
     }
 
-    /// Takes all memory that a growth by these rows needs, which are shared, in any order; for a variable that is no set, or that grew without rows, they are none. A growth that was prepared before is forgotten, except on an error.
+    /// Takes all memory that a growth by these rows needs, which are shared, in any order; for a variable that is no set, or that grew without rows, they are none. A growth that was prepared before is forgotten, except on an error. Of the first growth it costs what a share of the set's log does, of others what a list of the rows does.
     pub fn prepare(&mut self, news: &OrSet) -> Result<(), AllocError>
         ensures history { self.new.history ≡ self.old.history }
         ensures pending { OnOk result (of_rows self.new.pending ≡ news.now) }
@@ -103,10 +126,33 @@ impl History {
         ensures prepared { OnOk result (IsTrue self.new.prepared) }
         ensures err { OnErr result (self.new ≡ self.old) }
     {
-        let pending = rows_of(*self.log.allocator(), news)?;
+        if self.growths.is_empty() {
+            return self.prepare_first(news);
+        }
+        let alloc = *self.log.allocator();
+        let pending = rows_of(alloc, news)?;
         self.log.reserve(pending.len())?;
         self.growths.reserve(1)?;
+        self.pending_first = OrSet::new(alloc);
         self.pending = pending;
+        self.prepared = true;
+        Ok(())
+    }
+
+    /// Takes all memory that a first growth by these rows needs.
+    fn prepare_first(&mut self, news: &OrSet) -> Result<(), AllocError>
+        requires { self.old.history.growths ≡ [] }
+        ensures history { self.new.history ≡ self.old.history }
+        ensures pending { OnOk result (of_rows self.new.pending ≡ news.now) }
+        ensures apart { OnOk result (AreApart self.new.pending) }
+        ensures prepared { OnOk result (IsTrue self.new.prepared) }
+        ensures err { OnErr result (self.new ≡ self.old) }
+    {
+        news.ascends();
+        let rows = news.past()?;
+        self.growths.reserve(1)?;
+        self.pending_first = rows;
+        self.pending = Vec::new(*self.log.allocator());
         self.prepared = true;
         Ok(())
     }
@@ -119,9 +165,22 @@ impl History {
         ensures pending { self.new.pending ≡ [] }
         ensures prepared { self.new.prepared ≡ false }
     {
+        let is_first = self.growths.is_empty();
+        let alloc = *self.log.allocator();
+        let rows = mem::replace(&mut self.pending_first, OrSet::new(alloc));
+        put_first(&mut self.first, is_first, rows);
         let _ = self.log.append(&mut self.pending);
-        let rows = self.log.len() as u64;
+        let rows = self.first.rows() + self.log.len() as u64;
         let _ = self.growths.push(Growth::new(entry, rows));
         self.prepared = false;
+    }
+}
+
+/// Puts the rows in place if they are the first growth's.
+fn put_first(first: &mut OrSet, is_first: bool, rows: OrSet)
+    ensures { first.new ≡ (if is_first then rows else first.old) }
+{
+    if is_first {
+        *first = rows;
     }
 }

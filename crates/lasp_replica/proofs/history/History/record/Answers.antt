@@ -1,23 +1,32 @@
-use Rattle.std.proofs.Common.{◌≡◌, ◌++◌, ◌∷◌, [], IsTrue, List, length, vec_len, sym, ap, subst, ◌∙◌}
-use Rattle.model_values.specs.Row.{Row}
-use Rattle.lasp_replica.specs.History.{Growth, AreSound, AreBelow}
-use Rattle.lasp_replica.specs.Kept.{Kept, growth}
-use Rattle.lasp_replica.proofs.KeptLaws.{sound-grown, where-ok}
+use Rattle.std.proofs.Common.{◌≡◌, ◌+◌, ◌++◌, ◌==◌, [], if◌then◌else◌, IsTrue, sym, ap, subst, ◌∙◌, arith}
+use Rattle.lasp_replica.specs.History.{grown}
+use Rattle.lasp_replica.specs.Kept.{Kept}
+use Rattle.lasp_replica.proofs.KeptLaws.{goes-on, where-ok}
 use Rattle.lasp_replica.proofs.history.History.record.Goals as goal
 
 pub invariant_of-self : goal.invariant_of-self
 invariant_of-self c =
-    let old = c.self.inside in
-    let ready : IsTrue old.prepared = subst (λ (k : Kept). IsTrue k.prepared) (sym c.self.view_is) c.requires.prepared in
-    let below : AreBelow c.args.entry old.growths.items = subst (λ (k : Kept). AreBelow c.args.entry k.history.growths) (sym c.self.view_is) c.requires.after in
-    let log : c.append.new.self.items ≡ old.log.items ++ old.pending.items = where-ok c.append.result c.append.new.self.items (old.log.items ++ old.pending.items) old.log.items (c.append.ensures.succeeds (c.self.invariant.rows_fit ready)) c.append.ensures.items in
-    let counted : vec_len c.append.new.self ≡ length c.append.new.self.items = c.append.new.self.ok.0 in
-    let new : c.new.result ≡ growth c.args.entry (length (old.log.items ++ old.pending.items)) = c.new.ensures ∙ ap (growth c.args.entry) (c.len-rows.ensures ∙ counted ∙ ap length log) in
-    let growths : c.push.new.self.items ≡ old.growths.items ++ c.new.result ∷ [] = where-ok c.push.result c.push.new.self.items (old.growths.items ++ c.new.result ∷ []) old.growths.items (c.push.ensures.succeeds (c.self.invariant.entry_fits ready)) c.push.ensures.items in
-    record {
-      sound = subst (λ (rows : List Row). AreSound rows c.push.new.self.items) (sym log)
-          (subst (λ (gs : List Growth). AreSound (old.log.items ++ old.pending.items) gs) (sym (growths ∙ ap (λ (g : Growth). old.growths.items ++ g ∷ []) new))
-          (sound-grown c.args.entry old.log.items old.pending.items old.growths.items c.self.invariant.sound below));
-      rows_fit = λ e. cc;
-      entry_fits = λ e. cc;
-    }
+    let kept = c.self.inside in
+    let ready : IsTrue kept.prepared = subst (λ (k : Kept). IsTrue k.prepared) (sym c.self.view_is) c.requires.prepared in
+    let on = goes-on c.append.result c.push.result c.args.self.now.history kept.first kept.log.items kept.pending_first kept.pending.items kept.growths.items c.self.invariant.sound c.self.invariant.covered c.self.invariant.first_alone
+    (ap (λ (k : Kept). k.history) c.self.view_is) c.is_empty-is_first.result (c.is_empty-is_first.ensures ∙ ap (λ n. n == 0) kept.growths.ok.0) c.args.entry c.put_first.new.first c.append.new.self.items c.push.new.self.items c.new-2.result (c.rows.result + c.len.result)
+    (c.put_first.ensures ∙ ap (λ rows. if c.is_empty-is_first.result then rows else kept.first) c.replace-rows.ensures.value) (c.append.ensures.succeeds (c.self.invariant.rows_fit ready)) c.append.ensures.items
+    (omega (arith, c.rows.ensures.exact, c.len.ensures, c.append.new.self.ok.0)) c.new-2.ensures (c.push.ensures.succeeds (c.self.invariant.entry_fits ready)) c.push.ensures.items c.requires.after in
+    record { sound = on.sound'; covered = on.covered'; first_alone = λ some. c.replace-rows.ensures.after ∙ c.new.ensures; rows_fit = λ e. cc; entry_fits = λ e. cc }
+
+pub returns-clause-history : goal.returns-clause-history
+returns-clause-history c =
+    let kept = c.self.inside in
+    let ready : IsTrue kept.prepared = subst (λ (k : Kept). IsTrue k.prepared) (sym c.self.view_is) c.requires.prepared in
+    let on = goes-on c.append.result c.push.result c.args.self.now.history kept.first kept.log.items kept.pending_first kept.pending.items kept.growths.items c.self.invariant.sound c.self.invariant.covered c.self.invariant.first_alone
+    (ap (λ (k : Kept). k.history) c.self.view_is) c.is_empty-is_first.result (c.is_empty-is_first.ensures ∙ ap (λ n. n == 0) kept.growths.ok.0) c.args.entry c.put_first.new.first c.append.new.self.items c.push.new.self.items c.new-2.result (c.rows.result + c.len.result)
+    (c.put_first.ensures ∙ ap (λ rows. if c.is_empty-is_first.result then rows else kept.first) c.replace-rows.ensures.value) (c.append.ensures.succeeds (c.self.invariant.rows_fit ready)) c.append.ensures.items
+    (omega (arith, c.rows.ensures.exact, c.len.ensures, c.append.new.self.ok.0)) c.new-2.ensures (c.push.ensures.succeeds (c.self.invariant.entry_fits ready)) c.push.ensures.items c.requires.after in
+    on.is ∙ ap (λ (k : Kept). grown k.history k.pending c.args.entry) c.self.view_is
+
+pub returns-clause-pending : goal.returns-clause-pending
+returns-clause-pending c =
+    let kept = c.self.inside in
+    let ready : IsTrue kept.prepared = subst (λ (k : Kept). IsTrue k.prepared) (sym c.self.view_is) c.requires.prepared in
+    let none : c.append.new.other.items ≡ [] = where-ok c.append.result c.append.new.other.items [] kept.pending.items (c.append.ensures.succeeds (c.self.invariant.rows_fit ready)) c.append.ensures.other_items in
+    λ i. (c.replace-rows.ensures.after ∙ c.new.ensures) i ++ none i

@@ -35,11 +35,11 @@ returns-clause-ok c =
       states = c.in_ok-push.ensures.ok ∙ ap (λ (h : Held). old.states ++ h ∷ []) fresh;
       histories = pushed told c.push-2.result c.push-2.new.self.items c.reserve.new.self.items old.histories.items _ no_history
           (c.push-2.ensures.succeeds histories_fit) c.push-2.ensures.items c.in_ok-reserve.ensures.items c.new-2.ensures.history;
-      bases = pushed seen_process c.push-3.result c.push-3.new.self.items c.reserve-2.new.self.items old.processes.items _ (fresh_base d.kind)
-          (c.push-3.ensures.succeeds processes_fit) c.push-3.ensures.items c.in_ok-reserve-2.ensures.items c.in_ok-process.ensures.base;
-      busy = pushed jobs_of c.push-3.result c.push-3.new.self.items c.reserve-2.new.self.items old.processes.items _ 0
-          (c.push-3.ensures.succeeds processes_fit) c.push-3.ensures.items c.in_ok-reserve-2.ensures.items c.in_ok-process.ensures.busy;
-      entries = pushed entry_of c.push-4.result c.push-4.new.self.items c.reserve-3.new.self.items old.journal.items _ (entry c.args.by (model.Extend d))
-          (c.push-4.ensures.succeeds journal_fits) c.push-4.ensures.items c.in_ok-reserve-3.ensures.items (ap (λ (a : Decl). entry c.args.by (model.Extend a)) c.in_ok-own.ensures);
+      bases = pushed seen_process c.push-6.result c.push-6.new.self.items c.reserve-2.new.self.items old.processes.items _ (fresh_base d.kind)
+          (c.push-6.ensures.succeeds processes_fit) c.push-6.ensures.items c.in_ok-reserve-2.ensures.items c.in_ok-process.ensures.base;
+      busy = pushed jobs_of c.push-6.result c.push-6.new.self.items c.reserve-2.new.self.items old.processes.items _ 0
+          (c.push-6.ensures.succeeds processes_fit) c.push-6.ensures.items c.in_ok-reserve-2.ensures.items c.in_ok-process.ensures.busy;
+      entries = pushed entry_of c.push-7.result c.push-7.new.self.items c.reserve-3.new.self.items old.journal.items _ (entry c.args.by (model.Extend d))
+          (c.push-7.ensures.succeeds journal_fits) c.push-7.ensures.items c.in_ok-reserve-3.ensures.items (ap (λ (a : Decl). entry c.args.by (model.Extend a)) c.in_ok-own.ensures);
     })
-    _ (written c.push-4.result c.push-4.new.self.items c.reserve-3.new.self.items old.journal.items _ (c.push-4.ensures.succeeds journal_fits) c.push-4.ensures.items c.in_ok-reserve-3.ensures.items) tt
+    _ (written c.push-7.result c.push-7.new.self.items c.reserve-3.new.self.items old.journal.items _ (c.push-7.ensures.succeeds journal_fits) c.push-7.ensures.items c.in_ok-reserve-3.ensures.items) tt
