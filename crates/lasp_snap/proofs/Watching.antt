@@ -54,7 +54,7 @@ module _ (kept : Version) (place : ℕ) (heard : FrontView) (v w : Known) (s : I
     learned told = record { shelf = s.shelf ∙ ap (λ b. Some (named b)) (sym book); few = s.few; kept = s.kept; rises = s.rises; small = s.small; told = told }
 
     pub learned-view : (looks : ℕ) → spy_view v f place looks ≡ record (spy_view v heard place looks) { heard = shown_in f.log }
-    learned-view looks = ap (λ b. record { shelf = b; seen = take place v.seen; heard = shown_in f.log; looks = looks; readings = v.readings }) book
+    learned-view looks = ap (λ b. record { shelf = b; seen = take place v.seen; heard = shown_in f.log; looks = looks; readings = v.readings; last = v.seen }) book
 
   -- the length of what it saw
   pub place-length : length (take place v.seen) ≡ place
@@ -107,7 +107,7 @@ module _ (kept : Version) (place : ℕ) (heard : FrontView) (v w : Known) (s : I
       before = subst (λ a. IsPrefix (take place v.seen) a) (sym all) (prefix_trans (take place v.seen) v.seen (published_at y) (take_prefix place v.seen) l.before);
       rises = subst AreRising (sym all) l.shown.rises;
       given = inr l.given;
-      look = inl (refl, l.given, subst (λ a. IsPrefix (shown_in heard.log) a) (sym all) told);
+      look = inl (refl, l.given, subst (λ a. IsPrefix (shown_in heard.log) a) (sym all) told, all ∙ sym l.seen);
     }
 
 -- a spy that learned what the writer of x knows, and was told nothing
@@ -122,6 +122,7 @@ module _ (x : Shown) (v : Known) (heard : FrontView) (knows : v ≡ knowing x) (
     heard = ap shown_in empty;
     looks = refl;
     readings = ap (λ (k : Known). k.readings) knows;
+    last = seen_is;
   }
 
   pub new_is : IsShown x → IsSpy x.version x.published heard v

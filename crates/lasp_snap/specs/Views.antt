@@ -15,21 +15,22 @@ pub record ShelfView : Type 0 where
   pub shelf : Book
   pub published : List Version
 
--- a spy: whose it is, the versions that it saw, the longest list of those that it was told of, how many readings it took, and how many it was given
+-- a spy: whose it is, the versions that it saw, the longest list of those that it was told of, how many readings it took, how many it was given, and all that was published at the last of these
 pub record SpyView : Type 0 where
   pub shelf : Book
   pub seen : List Version
   pub heard : List Version
   pub looks : ℕ
   pub readings : ℕ
+  pub last : List Version
 
 abbrev pub coded_shelf : Coded ShelfView
 coded_shelf = code_by (Book × List Version) (coded× book_coded (coded_list coded_version)) (λ s. (s.shelf, s.published)) (λ p. record { shelf = p.0; published = p.1 }) (λ _. refl)
 
 abbrev pub coded_spy : Coded SpyView
 coded_spy =
-    code_by (Book × (List Version × (List Version × (ℕ × ℕ)))) (coded× book_coded (coded× (coded_list coded_version) (coded× (coded_list coded_version) (coded× coded_ℕ coded_ℕ))))
-    (λ s. (s.shelf, (s.seen, (s.heard, (s.looks, s.readings))))) (λ p. record { shelf = p.0; seen = p.1.0; heard = p.1.1.0; looks = p.1.1.1.0; readings = p.1.1.1.1 }) (λ _. refl)
+    code_by (Book × (List Version × (List Version × (ℕ × (ℕ × List Version))))) (coded× book_coded (coded× (coded_list coded_version) (coded× (coded_list coded_version) (coded× coded_ℕ (coded× coded_ℕ (coded_list coded_version))))))
+    (λ s. (s.shelf, (s.seen, (s.heard, (s.looks, (s.readings, s.last)))))) (λ p. record { shelf = p.0; seen = p.1.0; heard = p.1.1.0; looks = p.1.1.1.0; readings = p.1.1.1.1.0; last = p.1.1.1.1.1 }) (λ _. refl)
 
 -- ---- the shelf
 
@@ -71,7 +72,7 @@ pub record IsWriting (x : Shown) (v : Known) : Type 0 where
 -- ---- spies
 
 abbrev pub spy_view : Known → FrontView → ℕ → ℕ → SpyView
-spy_view v heard place looks = record { shelf = heard.book; seen = take place v.seen; heard = shown_in heard.log; looks = looks; readings = v.readings }
+spy_view v heard place looks = record { shelf = heard.book; seen = take place v.seen; heard = shown_in heard.log; looks = looks; readings = v.readings; last = v.seen }
 
 -- a spy keeps the last version that it saw
 pub record IsSpy (last : Version) (place : ℕ) (heard : FrontView) (v : Known) : Type 0 where
@@ -89,15 +90,16 @@ pub record IsNewSpy (of : ShelfView) (s : SpyView) : Type 0 where
   pub heard : s.heard ≡ []
   pub looks : s.looks ≡ 0
   pub readings : s.readings ≡ 0
+  pub last : s.last ≡ of.published
 
--- at most one reading was given. One was taken, and then all that was seen and heard is seen; or none was, and what was seen stays
+-- at most one reading was given. One was taken, and then all that it has is seen, in it what was seen and heard before; or none was, and what was seen stays
 pub record Looked (old new : SpyView) : Type 0 where
   pub shelf : new.shelf ≡ old.shelf
   pub heard : new.heard ≡ old.heard
   pub before : IsPrefix old.seen new.seen
   pub rises : AreRising new.seen
   pub given : (new.readings ≡ old.readings) ⊎ (new.readings ≡ old.readings + 1)
-  pub look : ((new.looks ≡ old.looks + 1) × (new.readings ≡ old.readings + 1) × IsPrefix old.heard new.seen) ⊎ ((new.looks ≡ old.looks) × (new.seen ≡ old.seen))
+  pub look : ((new.looks ≡ old.looks + 1) × (new.readings ≡ old.readings + 1) × IsPrefix old.heard new.seen × (new.seen ≡ new.last)) ⊎ ((new.looks ≡ old.looks) × (new.seen ≡ old.seen))
 
 -- of the readings that were given in between each was counted
 abbrev pub CountsEach : SpyView → SpyView → Type 0
