@@ -1,17 +1,31 @@
 -- States of what came to a core since its first entries are those that its replica tells.
-use Rattle.std.proofs.Common.{◌≡◌, ℕ, ◌<◌, List, length, take, sym, ap, subst, ◌∙◌}
+use Rattle.std.proofs.Common.{◌≡◌, ℕ, ◌<◌, IsFalse, List, length, take, refl, sym, ap, subst, ◌∙◌}
 use Rattle.std.specs.Arc.{arc_value}
 use Rattle.std.specs.Prelude.{Result, Ok, Err, IfOk}
 use Rattle.model_states.specs.Content.{Content}
-use Rattle.model_graph.specs.Graph.{Decl, Kind, kind_at}
-use Rattle.model_graph.specs.Lawful.{shape_of}
+use Rattle.model_graph.specs.Graph.{Decl, Kind, OrSet, GSet, Counter, MaxReg, Union, Product, Intersection, Map, Filter, Fold, is_source, kind_at}
+use Rattle.model_graph.specs.Lawful.{IsDerived, shape_of}
 use Rattle.model_journal.specs.Journal.{graph, val, vals}
+use Rattle.lasp_graph.specs.Evaluated.{number_by}
 use Rattle.lasp_graph.specs.States.{Held, held_at}
 use Rattle.lasp_replica.specs.Replica.{frame_of, entries_of, parts_of, IsReplica}
 use Rattle.lasp_replica.specs.Since.{tail_of, AreSince}
 use Rattle.lasp_replica.specs.declared.replica.Replica.{Replica}
 use Rattle.lasp_replica.proofs.PartLaws.{held-val}
 use Rattle.lasp_core.specs.Since.{AreStatesSince}
+
+-- of a variable that is derived all is told
+all-derived : (k : Kind) → IsFalse (is_source k) → (s t : Content) → tail_of k s t ≡ t
+all-derived OrSet derived s t = absurd (cc (derived))
+all-derived GSet derived s t = refl
+all-derived Counter derived s t = refl
+all-derived MaxReg derived s t = refl
+all-derived (Union x y) derived s t = refl
+all-derived (Product x y) derived s t = refl
+all-derived (Intersection x y) derived s t = refl
+all-derived (Map x place ops) derived s t = refl
+all-derived (Filter x place ops) derived s t = refl
+all-derived (Fold x op place lift) derived s t = refl
 
 -- what a replica tells is what is told of its core
 pub core-since : (r : Replica) → IsReplica r → (n : ℕ) (states : List Held)
@@ -22,6 +36,11 @@ core-since r is n states since = record {
       ∙ ap (λ (k : Kind). tail_of k (before x) (held_at r.states x).content) (kind x)
       ∙ ap (tail_of (kind_at g x) (before x)) (held-val (frame_of r) (entries_of r) (parts_of r) is.kept x);
   shapes = λ x low. (since.each x (here x low)).shape ∙ is.kept.shapes x (here x low) ∙ ap (shape_of (frame_of r).nodes) (kind x);
+  numbers = λ x derived.
+      let there : IsDerived (arc_value r.graph) x = subst (λ (ds : List Decl). IsDerived ds x) (sym is.kept.graph) derived in
+      let told = since.each x there.declared in
+      let all : (held_at states x).content ≡ (held_at r.states x).content = told.content ∙ all-derived (kind_at (arc_value r.graph) x) there.process (before x) (held_at r.states x).content in
+      told.number there.process ∙ is.kept.numbers x there ∙ (λ i. number_by (kind x i) (sym all i));
 } where
   g : List Decl
   g = graph (frame_of r) (entries_of r)

@@ -1,5 +1,5 @@
 -- What states tell of what came since an earlier time.
-use Rattle.std.proofs.Common.{◌≡◌, ℕ, pos, ◌+◌, ◌<◌, ◌≤◌, ◌⊎◌, inl, inr, IsTrue, List, [], ◌∷◌, ◌++◌, length, take, refl, sym, ap, subst, ◌∙◌, arith}
+use Rattle.std.proofs.Common.{◌≡◌, ℕ, pos, ◌+◌, ◌<◌, ◌≤◌, ◌⊎◌, inl, inr, true, false, IsTrue, List, [], ◌∷◌, ◌++◌, length, take, refl, sym, ap, subst, ◌∙◌, arith}
 use Rattle.std.specs.Arc.{arc_value}
 use Rattle.std.specs.Prelude.{Result, Ok, Err, IfOk}
 use Rattle.std.specs.declared.alloc.Global.{Global}
@@ -8,7 +8,7 @@ use Rattle.model_values.specs.Row.{Row}
 use Rattle.model_states.specs.Content.{Content, of_set, least}
 use Rattle.model_states.specs.Threshold.{set}
 use Rattle.model_graph.specs.Graph as plain
-use Rattle.model_graph.specs.Graph.{Decl, is_set, kind_at}
+use Rattle.model_graph.specs.Graph.{Decl, is_set, is_source, kind_at}
 use Rattle.model_graph.specs.Evaluation.{content_at}
 use Rattle.model_graph.proofs.PlaceLaws.{below-or-not, at-append, at-last, length-push}
 use Rattle.model_journal.specs.Journal.{vals}
@@ -38,6 +38,7 @@ since-rows r ok x n low early kind rows are =
     record {
       content = ap of_set (are ∙ (kept-changed (frame_of r) (entries_of r) (parts_of r) ok.kept x low flat n early).rows_are) ∙ ap (λ (k : plain.Kind). tail_of k before (held_at r.states x).content) (sym kind);
       shape = sym (kept-width (frame_of r) (entries_of r) ok.legal (parts_of r) ok.kept x low flat).shape;
+      number = λ derived. let both : true ≡ false = ap is_source (sym kind) ∙ derived in cc;
     }
 
 -- of another variable all is told
@@ -56,7 +57,7 @@ all-told (Fold x op l) other s t = refl
 pub since-all : (k : Kind) (j : plain.Kind) → j ≡ kind_of k → (k ≡ OrSet → ⊥) → (before : Content) (s : State) (h : Held) → held_of s ≡ h → IsSince j before h (held_of s)
 since-all k j kind other before s h same =
     subst (λ (i : plain.Kind). IsSince i before h (held_of s)) (sym kind)
-    (subst (λ (z : Held). IsSince (kind_of k) before z (held_of s)) same (record { content = sym (all-told k other before (held_of s).content); shape = refl }))
+    (subst (λ (z : Held). IsSince (kind_of k) before z (held_of s)) same (record { content = sym (all-told k other before (held_of s).content); shape = refl; number = λ derived. refl }))
 
 -- what holds of a state holds of a share of it
 pub shared-state : {E : Type 0} (s : State) (P : State → Type 0) (copy : Result (Arc State Global) E) → IfOk copy (λ t. arc_value t ≡ s) → P s → IfOk copy (λ t. P (arc_value t))

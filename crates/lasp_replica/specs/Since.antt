@@ -1,8 +1,8 @@
 -- What states tell of what came behind earlier contents.
-use Rattle.std.specs.Prelude.{◌≡◌, ℕ, ◌<◌, List, length}
+use Rattle.std.specs.Prelude.{◌≡◌, ℕ, ◌<◌, IsFalse, List, length}
 use Rattle.model_sets.specs.Equations.{changed}
 use Rattle.model_states.specs.Content.{Content, of_set}
-use Rattle.model_graph.specs.Graph.{Decl, Kind, OrSet, GSet, Counter, MaxReg, Union, Product, Intersection, Map, Filter, Fold, kind_at}
+use Rattle.model_graph.specs.Graph.{Decl, Kind, OrSet, GSet, Counter, MaxReg, Union, Product, Intersection, Map, Filter, Fold, is_source, kind_at}
 use Rattle.model_graph.specs.Evaluation.{content_at}
 use Rattle.lasp_graph.specs.States.{Held, held_at}
 
@@ -19,10 +19,11 @@ tail_of (Map x place ops) s t = t
 tail_of (Filter x place ops) s t = t
 tail_of (Fold x op place lift) s t = t
 
--- a state of what came behind a variable's earlier content
+-- a state of what came behind a variable's earlier content, with the number of a variable that is derived
 pub record IsSince (k : Kind) (before : Content) (state new : Held) : Type 0 where
   pub content : new.content ≡ tail_of k before state.content
   pub shape : new.shape ≡ state.shape
+  pub number : IsFalse (is_source k) → new.number ≡ state.number
 
 -- the same of the first so many variables of a graph
 pub record AreSince (g : List Decl) (before : List Content) (states : List Held) (many : ℕ) (new : List Held) : Type 0 where
