@@ -13,3 +13,4 @@ pub mod ByteLaws
 pub mod BoundLaws
 pub mod ScriptLaws
 pub mod FileLaws
+pub mod LifeLaws

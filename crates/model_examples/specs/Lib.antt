@@ -9,6 +9,7 @@ pub mod Growth
 pub mod Advertisements
 pub mod Binds
 pub mod Journals
+pub mod Lives
 pub mod Losses
 pub mod Scripts
 pub mod Files

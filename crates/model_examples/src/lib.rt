@@ -8,6 +8,7 @@ mod files;
 mod folds;
 mod growth;
 mod journals;
+mod lives;
 mod losses;
 mod processes;
 mod reads;
@@ -24,6 +25,7 @@ pub use files::{
 pub use folds::folds_count_each_visible_value_once;
 pub use growth::a_graph_may_grow_while_messages_are_on_their_way;
 pub use journals::a_late_bind_changes_nothing;
+pub use lives::nodes_beside_each_other_tell_what_they_did;
 pub use losses::a_lost_message_is_made_up_for_and_a_repeated_one_does_nothing;
 pub use processes::processes_follow_their_sets;
 pub use reads::reads_are_told_at_the_end_and_an_await_is_told_at_once;

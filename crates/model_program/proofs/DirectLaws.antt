@@ -48,6 +48,7 @@ failure-told (Refused (refusal.TooLong f)) e = cc
 failure-told (Refused (refusal.Graph number why)) e = cc
 failure-told (Refused (refusal.Script number why)) e = cc
 failure-told (Refused (refusal.NotDots number)) e = cc
+failure-told (Refused (refusal.NotLive number)) e = cc
 failure-told (Refused (refusal.TooLarge command node name)) e = cc
 failure-told (Refused (refusal.NetworkFull command)) e = cc
 failure-told (Refused (refusal.NotReached command)) e = cc

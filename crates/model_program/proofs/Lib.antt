@@ -22,3 +22,4 @@ mod DeltaTextLaws
 mod DotTextLaws
 pub mod TopLaws
 pub mod ScriptLaws
+pub mod LiveLaws

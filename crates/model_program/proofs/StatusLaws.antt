@@ -106,6 +106,7 @@ module _ {N : Type 0} (p : Plan) (words : List (List ℕ)) (files : Reading N) (
   as-usage a (refusal.Graph number why, is, e) = absurd cc
   as-usage a (refusal.Script number why, is, e) = absurd cc
   as-usage a (refusal.NotDots number, is, e) = absurd cc
+  as-usage a (refusal.NotLive number, is, e) = absurd cc
   as-usage a (refusal.TooLong f, is, e) = absurd cc
   as-usage a (refusal.TooLarge command node name, is, e) = absurd cc
   as-usage a (refusal.NetworkFull command, is, e) = absurd cc
@@ -117,17 +118,19 @@ module _ {N : Type 0} (p : Plan) (words : List (List ℕ)) (files : Reading N) (
   as-graph a (refusal.Graph number why, is, e) = (number, why, is)
   as-graph a (refusal.Script number why, is, e) = absurd cc
   as-graph a (refusal.NotDots number, is, e) = absurd cc
+  as-graph a (refusal.NotLive number, is, e) = absurd cc
   as-graph a (refusal.TooLong f, is, e) = absurd cc
   as-graph a (refusal.TooLarge command node name, is, e) = absurd cc
   as-graph a (refusal.NetworkFull command, is, e) = absurd cc
   as-graph a (refusal.NotReached command, is, e) = absurd cc
   as-graph a (refusal.State f place why, is, e) = absurd cc
 
-  as-script : (a : Answer) → Told 3 a → ((number : ℕ) × (why : ScriptWhy) × (a ≡ Err (refusal.Script number why))) ⊎ ((number : ℕ) × (a ≡ Err (refusal.NotDots number)))
+  as-script : (a : Answer) → Told 3 a → ((number : ℕ) × (why : ScriptWhy) × (a ≡ Err (refusal.Script number why))) ⊎ (((number : ℕ) × (a ≡ Err (refusal.NotDots number))) ⊎ ((number : ℕ) × (a ≡ Err (refusal.NotLive number))))
   as-script a (refusal.Usage, is, e) = absurd cc
   as-script a (refusal.Graph number why, is, e) = absurd cc
   as-script a (refusal.Script number why, is, e) = inl (number, why, is)
-  as-script a (refusal.NotDots number, is, e) = inr (number, is)
+  as-script a (refusal.NotDots number, is, e) = inr (inl (number, is))
+  as-script a (refusal.NotLive number, is, e) = inr (inr (number, is))
   as-script a (refusal.TooLong f, is, e) = absurd cc
   as-script a (refusal.TooLarge command node name, is, e) = absurd cc
   as-script a (refusal.NetworkFull command, is, e) = absurd cc
@@ -139,6 +142,7 @@ module _ {N : Type 0} (p : Plan) (words : List (List ℕ)) (files : Reading N) (
   as-limit a (refusal.Graph number why, is, e) = absurd cc
   as-limit a (refusal.Script number why, is, e) = absurd cc
   as-limit a (refusal.NotDots number, is, e) = absurd cc
+  as-limit a (refusal.NotLive number, is, e) = absurd cc
   as-limit a (refusal.TooLong f, is, e) = absurd cc
   as-limit a (refusal.TooLarge command node name, is, e) = inl (command, node, name, is)
   as-limit a (refusal.NetworkFull command, is, e) = inr (command, is)
@@ -150,6 +154,7 @@ module _ {N : Type 0} (p : Plan) (words : List (List ℕ)) (files : Reading N) (
   as-unreached a (refusal.Graph number why, is, e) = absurd cc
   as-unreached a (refusal.Script number why, is, e) = absurd cc
   as-unreached a (refusal.NotDots number, is, e) = absurd cc
+  as-unreached a (refusal.NotLive number, is, e) = absurd cc
   as-unreached a (refusal.TooLong f, is, e) = absurd cc
   as-unreached a (refusal.TooLarge command node name, is, e) = absurd cc
   as-unreached a (refusal.NetworkFull command, is, e) = absurd cc
@@ -161,6 +166,7 @@ module _ {N : Type 0} (p : Plan) (words : List (List ℕ)) (files : Reading N) (
   as-state a (refusal.Graph number why, is, e) = absurd cc
   as-state a (refusal.Script number why, is, e) = absurd cc
   as-state a (refusal.NotDots number, is, e) = absurd cc
+  as-state a (refusal.NotLive number, is, e) = absurd cc
   as-state a (refusal.TooLong f, is, e) = absurd cc
   as-state a (refusal.TooLarge command node name, is, e) = absurd cc
   as-state a (refusal.NetworkFull command, is, e) = absurd cc
@@ -172,6 +178,7 @@ module _ {N : Type 0} (p : Plan) (words : List (List ℕ)) (files : Reading N) (
   as-long a (refusal.Graph number why) is e = absurd cc
   as-long a (refusal.Script number why) is e = absurd cc
   as-long a (refusal.NotDots number) is e = absurd cc
+  as-long a (refusal.NotLive number) is e = absurd cc
   as-long a (refusal.TooLong f) is e = (f, is)
   as-long a (refusal.TooLarge command node name) is e = absurd cc
   as-long a (refusal.NetworkFull command) is e = absurd cc
@@ -194,6 +201,7 @@ module _ {N : Type 0} (p : Plan) (words : List (List ℕ)) (files : Reading N) (
     none (refusal.Graph number why) (inl e) = cc
     none (refusal.Script number why) (inl e) = cc
     none (refusal.NotDots number) (inl e) = cc
+    none (refusal.NotLive number) (inl e) = cc
     none (refusal.TooLong f) (inl e) = cc
     none (refusal.TooLarge command node name) (inl e) = cc
     none (refusal.NetworkFull command) (inl e) = cc
@@ -215,6 +223,7 @@ module _ {N : Type 0} (p : Plan) (words : List (List ℕ)) (files : Reading N) (
     none (refusal.Graph number why) (inl e) = cc
     none (refusal.Script number why) (inl e) = cc
     none (refusal.NotDots number) (inl e) = cc
+    none (refusal.NotLive number) (inl e) = cc
     none (refusal.TooLong f) (inl e) = cc
     none (refusal.TooLarge command node name) (inl e) = cc
     none (refusal.NetworkFull command) (inl e) = cc
@@ -242,7 +251,7 @@ module _ {N : Type 0} (p : Plan) (words : List (List ℕ)) (files : Reading N) (
   pub graph-told : (a : Answer) → All 2 → DecidesBy p words (view_of files) a → (number : ℕ) × (why : GraphWhy) × (a ≡ Err (refusal.Graph number why))
   graph-told a all decides = as-graph a (refusal-of 2 a (λ e. cc, λ e. cc, λ e. cc, λ e. cc) all decides)
 
-  pub script-told : (a : Answer) → All 3 → DecidesBy p words (view_of files) a → ((number : ℕ) × (why : ScriptWhy) × (a ≡ Err (refusal.Script number why))) ⊎ ((number : ℕ) × (a ≡ Err (refusal.NotDots number)))
+  pub script-told : (a : Answer) → All 3 → DecidesBy p words (view_of files) a → ((number : ℕ) × (why : ScriptWhy) × (a ≡ Err (refusal.Script number why))) ⊎ (((number : ℕ) × (a ≡ Err (refusal.NotDots number))) ⊎ ((number : ℕ) × (a ≡ Err (refusal.NotLive number))))
   script-told a all decides = as-script a (refusal-of 3 a (λ e. cc, λ e. cc, λ e. cc, λ e. cc) all decides)
 
   pub limit-told : (a : Answer) → All 6 → DecidesBy p words (view_of files) a

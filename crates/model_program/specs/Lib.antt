@@ -15,6 +15,7 @@ pub mod Cause
 pub mod Places
 pub mod Dots
 pub mod Threads
+pub mod Live
 pub mod Top
 pub mod Generator
 pub mod Summary

@@ -4,7 +4,7 @@ use Rattle.std.specs.Fmt.{decimal}
 use Rattle.model_world.specs.Line.{line}
 use Rattle.model_program.specs.Plan.{word_at}
 use Rattle.model_program.specs.declared.refusal.Refusal.{Refusal}
-use Rattle.model_program.specs.declared.refusal.Refusal.TheVariants.{Usage, TooLong, Graph, Script, NotDots, TooLarge, NetworkFull, NotReached, State}
+use Rattle.model_program.specs.declared.refusal.Refusal.TheVariants.{Usage, TooLong, Graph, Script, NotDots, NotLive, TooLarge, NetworkFull, NotReached, State}
 use Rattle.model_program.specs.declared.failure.Failure.{Failure}
 use Rattle.model_program.specs.declared.failure.Failure.TheVariants.{Refused, ReadFault, Memory}
 use Rattle.model_readings.specs.declared.graph_why.GraphWhy.{GraphWhy}
@@ -22,6 +22,7 @@ refusal_status (TooLong f) = 4
 refusal_status (Graph number why) = 2
 refusal_status (Script number why) = 3
 refusal_status (NotDots number) = 3
+refusal_status (NotLive number) = 3
 refusal_status (TooLarge command node name) = 6
 refusal_status (NetworkFull command) = 6
 refusal_status (NotReached command) = 8
@@ -80,6 +81,7 @@ refusal_words words (TooLong f) = codes "too long" ∷ word_at words f ∷ codes
 refusal_words words (Graph number why) = codes "graph" ∷ decimal number ∷ graph_why_text why ∷ []
 refusal_words words (Script number why) = codes "script" ∷ decimal number ∷ script_why_text why ∷ []
 refusal_words words (NotDots number) = codes "script" ∷ decimal number ∷ codes "NotDots" ∷ []
+refusal_words words (NotLive number) = codes "script" ∷ decimal number ∷ codes "NotLive" ∷ []
 refusal_words words (TooLarge command node name) = codes "too large" ∷ decimal command ∷ decimal node ∷ name ∷ []
 refusal_words words (NetworkFull command) = codes "network full" ∷ decimal command ∷ []
 refusal_words words (NotReached command) = codes "not reached" ∷ decimal command ∷ []

@@ -4,6 +4,7 @@ use Rattle.model_graph.specs.Graph.{Decl}
 use Rattle.model_world.specs.Command.{Script}
 use Rattle.model_world.specs.World.{Run}
 use Rattle.model_core.specs.Traced.{IsTrace}
+use Rattle.model_live.specs.Lived.{IsLived}
 use Rattle.model_program.specs.declared.refusal.Refusal.{Refusal}
 use Rattle.model_program.specs.declared.refusal.Refusal.TheVariants.{TooLong}
 
@@ -12,11 +13,14 @@ pub data Text : Type 0 where
   Exactly : List ℕ → Text
   -- a trace of this script's run over this graph, which came to this end
   Traced : List Decl → Script → Run → Text
+  -- what nodes of this script over this graph went through beside each other, and the first command at which one failed, if one did
+  Lived : List Decl → Script → Option ℕ → Text
 
 -- these bytes are such a text
 abbrev pub IsText : Text → List ℕ → Type 0
 IsText (Exactly text) bytes = bytes ≡ text
 IsText (Traced g script run) bytes = IsTrace g script run bytes
+IsText (Lived g script failed) bytes = IsLived g script failed bytes
 
 -- what the text to write has to be, or a refusal
 abbrev pub Answer : Type 0

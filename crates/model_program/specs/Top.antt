@@ -19,6 +19,7 @@ use Rattle.model_world.specs.declared.stop.Stop.{Stop}
 use Rattle.model_program.specs.Call.{Reading, view_of, DecidesBy, IsPlanned, IsAnswered}
 use Rattle.model_program.specs.Cause.{IsGraphRefused, IsScriptRefused}
 use Rattle.model_program.specs.Ends.{Writing}
+use Rattle.model_program.specs.Live.{IsLiveAnswered}
 use Rattle.model_program.specs.Places.{AreKnown, AreAlike}
 use Rattle.model_program.specs.Plan.{Exactly, Traced, Answer}
 use Rattle.model_program.specs.Program.{form, stopped}
@@ -79,12 +80,12 @@ threaded_in (Export node) = None
 threaded_in Merge = None
 threaded_in Wrong = None
 
--- `run` is answered as that run on one thread, `trace` and `load` as they say, and all else as one thread answers it
+-- `run` is answered as that run on one thread, `trace`, `load` and `live` as they say, and all else as one thread answers it
 abbrev pub AnswersBy : {N : Type 0} → Library → List (List ℕ) → Reading N → Writing → Writing → ℕ → Option threads.Threaded → Type 0
 AnswersBy lib words files out err status (Some (RunBy workers)) = IsAnswered lib (plain_words words) files out err status
 AnswersBy lib words files out err status (Some (Trace workers)) = IsTraceAnswered lib words files out err status
 AnswersBy lib words files out err status (Some (Load seed count workers)) = IsLoadAnswered lib seed count words files out err status
-AnswersBy lib words files out err status (Some (Live workers)) = IsAnswered lib words files out err status
+AnswersBy lib words files out err status (Some (Live workers)) = IsLiveAnswered lib words files out err status
 AnswersBy lib words files out err status None = IsAnswered lib words files out err status
 
 -- A call with worker threads on these words, over these files and both outputs, that answered this status.

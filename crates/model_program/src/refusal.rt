@@ -18,6 +18,8 @@ pub enum Refusal {
     Script(u32, ScriptWhy),
     /// This command is of a word that sets without tombstones don't know.
     NotDots(u32),
+    /// This command is one that nodes don't know which run beside each other.
+    NotLive(u32),
     /// At this command a variable of this node passes 65,536 rows or elements. For `merge` the node is 0, and the command is the file's number from 0, or the number of files where the variable is derived.
     TooLarge(u32, u8, Name),
     /// At this command the bytes of all messages pass 268,435,456.

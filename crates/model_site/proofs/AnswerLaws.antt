@@ -104,6 +104,7 @@ no-shared (shared.TooLong f) h = absurd cc
 no-shared (shared.Graph number why) h = absurd cc
 no-shared (shared.Script number why) h = absurd cc
 no-shared (shared.NotDots number) h = absurd cc
+no-shared (shared.NotLive number) h = absurd cc
 no-shared (shared.TooLarge number node name) h = absurd cc
 no-shared (shared.NetworkFull number) h = absurd cc
 no-shared (shared.NotReached number) h = absurd cc

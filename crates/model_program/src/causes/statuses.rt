@@ -28,7 +28,7 @@ pub fn statuses_tell_the_answer<F>()
     ensures graph { (p : Plan) (words : List (List ℕ)) (files : Reading F) (out err : Writing) (answer : Answer) → IsPlanned p words files out err 2 → DecidesBy p words (view_of files) answer
         → (number : ℕ) × (why : GraphWhy) × (answer ≡ Err (refusal.Graph number why)) }
     ensures script { (p : Plan) (words : List (List ℕ)) (files : Reading F) (out err : Writing) (answer : Answer) → IsPlanned p words files out err 3 → DecidesBy p words (view_of files) answer
-        → ((number : ℕ) × (why : ScriptWhy) × (answer ≡ Err (refusal.Script number why))) ⊎ ((number : ℕ) × (answer ≡ Err (refusal.NotDots number))) }
+        → ((number : ℕ) × (why : ScriptWhy) × (answer ≡ Err (refusal.Script number why))) ⊎ (((number : ℕ) × (answer ≡ Err (refusal.NotDots number))) ⊎ ((number : ℕ) × (answer ≡ Err (refusal.NotLive number)))) }
     ensures file { (p : Plan) (words : List (List ℕ)) (files : Reading F) (out err : Writing) (answer : Answer) → IsPlanned p words files out err 4 → DecidesBy p words (view_of files) answer
         → ((f : ℕ) × (answer ≡ Err (refusal.TooLong f))) ⊎ MeetsFault words (view_of files) p }
     ensures fault { (p : Plan) (words : List (List ℕ)) (files : Reading F) (out err : Writing) (answer : Answer) → IsPlanned p words files out err 5 → DecidesBy p words (view_of files) answer

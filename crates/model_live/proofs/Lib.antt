@@ -1,0 +1,12 @@
+pub mod WordLaws
+pub mod NumberLaws
+pub mod StoryLaws
+pub mod EndLaws
+pub mod BoundLaws
+pub mod FullLaws
+pub mod AloneLaws
+pub mod WithinLaws
+pub mod HearLaws
+pub mod KnowLaws
+pub mod StepLaws
+pub mod UpdateLaws
