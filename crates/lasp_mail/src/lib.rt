@@ -16,7 +16,7 @@
 //!
 //! A mailbox is a queue of `crossbeam_queue`, in blocks of 31 items: one item in 31 asks for memory. To put an item costs one atomic
 //! load more than the queue does, to take one two, whatever was put before. `put` and `take` wait for nothing but a step of the
-//! other end that has begun; to wait for an item is the caller's. A mailbox has to be closed: it can't be dropped. What nobody took
+//! other end that has begun; to wait for an item is the caller's. Where a mailbox is let go without being closed, what nobody took
 //! is dropped with it.
 #![tactic(auto)]
 

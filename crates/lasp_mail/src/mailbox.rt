@@ -32,6 +32,14 @@ impl<T: Framed> Model for Mailbox<T> {
     ghost invariant = { λ m. m.table.shared.table_id.words ≡ 1 };
 }
 
+/// A mailbox that is let go without being closed ends as well, and drops what nobody took.
+impl<T: Framed + Drop> Drop for Mailbox<T> {
+    fn drop(self) {
+        let Mailbox { queue, table: _ } = self;
+        queue.destroy();
+    }
+}
+
 impl<T: Framed + Drop> Mailbox<T> {
     /// A mailbox for bodies of the frame that `like` has, with its two ends.
     pub fn new(alloc: Global, like: &T) -> Result<(Mailbox<T>, Outlet<T>, Inlet<T>), AllocError>
