@@ -75,8 +75,8 @@ impl Store {
         length
     }
 
-    /// The length of the journal, in a turn of its own.
-    fn settle_length<R: Wait>(&self, rt: &R, f: &mut Feed) -> u64
+    /// The length of the journal, in a turn of its own. It may wait for others.
+    pub fn settle_length<R: Wait>(&self, rt: &R, f: &mut Feed) -> u64
         requires seated { IsSeated self.now f.old }
         requires first { f.old.number ≡ 0 }
         ensures pass { HasSettled f.old f.new }
