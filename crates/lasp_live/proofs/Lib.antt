@@ -1,0 +1,15 @@
+pub mod ClosedLaws
+pub mod LogLaws
+pub mod WordLaws
+pub mod OwnLaws
+pub mod TakeLaws
+pub mod PostLaws
+pub mod OwnStepLaws
+pub mod AtLaws
+pub mod SettledLaws
+pub mod LearnLaws
+pub mod CommandLaws
+pub mod FeedLaws
+pub mod DeadLaws
+pub mod TextLaws
+pub mod LargeLaws

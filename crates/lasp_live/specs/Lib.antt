@@ -1,0 +1,15 @@
+pub mod Sealed
+pub mod Mail
+pub mod Diary
+pub mod Turns
+pub mod Own
+pub mod Posted
+pub mod Ends
+pub mod Taken
+pub mod Fed
+pub mod Steady
+pub mod Step
+pub mod Did
+pub mod Large
+pub mod Texts
+pub mod Prelude

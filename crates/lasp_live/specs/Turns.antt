@@ -1,0 +1,46 @@
+-- What one call of a feeder makes of the journal that it has seen, whatever others add to it meanwhile.
+use Rattle.std.specs.Prelude.{◌≡◌, ℕ, List, [], ◌∷◌, ◌++◌, Some, None, Result, Ok, Err}
+use Rattle.model_graph.specs.Evaluation.{eval, first_large}
+use Rattle.model_journal.specs.Entry as model
+use Rattle.model_journal.specs.Entry.{Act, Entry, Frame}
+use Rattle.model_journal.specs.Journal.{graph, vals, counts, sources}
+use Rattle.model_graph.specs.Message.{Message}
+use Rattle.model_runs.specs.Calls.{fed, unbound}
+use Rattle.lasp_core.specs.declared.watched.Settle.{Settle}
+use Rattle.lasp_core.specs.declared.watched.Settle.TheVariants as settle
+use Rattle.lasp_replica.specs.Replica.{IsAnswered, IsDelivered, update_refusal}
+use Rattle.lasp_replica.specs.declared.refused.DeliverRefused.{DeliverRefused}
+use Rattle.lasp_replica.specs.declared.refused.UpdateRefused.{UpdateRefused}
+use Rattle.lasp_state.specs.State.{op_of}
+use Rattle.lasp_state.specs.declared.op.Op.{Op}
+
+-- the list goes on by results alone
+pub record Learns (old new : List Entry) : Type 0 where
+  pub more : List Entry
+  pub is : new ≡ old ++ more
+  pub results : unbound more ≡ []
+
+-- the list goes on by results, and then by this act of the feeder
+pub record Feeds (a : Act) (found old new : List Entry) : Type 0 where
+  pub learned : Learns old found
+  pub is : new ≡ found ++ fed a ∷ []
+
+-- an update was answered at the list that it found, and stands behind that where it was done
+abbrev pub Updates : {A : Type 0} → Frame → ℕ → Op → List Entry → Result A UpdateRefused → List Entry → Type 0
+Updates X x op old (Ok a) new = (found : List Entry) × Feeds (model.Update x (op_of op)) found old new × (update_refusal X.nodes X.replica (graph X found) (vals X found) (counts X found) x op ≡ None)
+Updates {A} X x op old (Err why) new = Learns old new × IsAnswered {A = A} (update_refusal X.nodes X.replica (graph X new) (vals X new) (counts X new) x op) (Err why)
+
+-- so was a delivery
+abbrev pub Delivers : {A : Type 0} → Frame → ℕ → Message → List Entry → Result A DeliverRefused → List Entry → Type 0
+Delivers {A} X i m old (Ok a) new = (found : List Entry) × Feeds (model.Deliver i m) found old new × IsDelivered X.nodes (graph X found) (vals X found) m (Ok a)
+Delivers {A} X i m old (Err why) new = Learns old new × IsDelivered {A = A} X.nodes (graph X new) (vals X new) m (Err why)
+
+-- what plain evaluation gives of the sources
+abbrev pub AreEvaluated : Frame → List Entry → Type 0
+AreEvaluated X entries = vals X entries ≡ eval (graph X entries) (sources X entries)
+
+-- all was settled, and no variable is too large; or this one is the first that is; or memory was wanting
+abbrev pub Settles : Frame → List Entry → Result ℕ Settle → Type 0
+Settles X entries (Ok n) = AreEvaluated X entries × (first_large 0 (eval (graph X entries) (sources X entries)) ≡ None)
+Settles X entries (Err (settle.TooLarge x)) = first_large 0 (eval (graph X entries) (sources X entries)) ≡ Some x
+Settles X entries (Err settle.Memory) = Unit {0}
