@@ -4,6 +4,7 @@ use Rattle.lasp_drive.specs.Node.{NodeView, OnlyLearns}
 use Rattle.lasp_drive.specs.Nodes.{AllLearn}
 use Rattle.lasp_histlock.specs.History.{among}
 use Rattle.lasp_histlock.specs.Names.{LockId}
+use Rattle.lasp_store.specs.Settled.{GoesOnByBinds}
 use Rattle.lasp_store.specs.Turn.{Knows}
 use Rattle.lasp_store_node.specs.View.{Seen, seen, node_of, IsFeed}
 use Rattle.lasp_workers.specs.declared.replicas.Replicas.{Replicas}
@@ -74,14 +75,22 @@ unsent feeds = map (λ (f : Knows). seen f None) feeds
 abbrev pub feeds_of : List Seen → List Knows
 feeds_of nodes = map (λ (n : Seen). n.feed) nodes
 
--- it is still the feed of its store and replica, and learned at most, when a hand was made or came back
+-- it is still the feed of its store and replica, and learned results at most, when a hand was made or came back
 pub record IsKept (store : LockId) (old new : Knows) : Type 0 where
   pub feed : IsFeed store new
   pub frame : new.frame ≡ old.frame
   pub learns : OnlyLearns (feed_seen old) (feed_seen new)
+  pub seen : GoesOnByBinds old.seen new.seen
+
+-- the list that it has seen goes on what was seen there, by results alone
+pub record HasGrown (old : List Knows) (p : ℕ) (f : Knows) : Type 0 where
+  pub was : Knows
+  pub at : slice_get old p ≡ Some was
+  pub grew : GoesOnByBinds was.seen f.seen
 
 -- each is
 pub record AreKept (stores : List LockId) (old new : List Knows) : Type 0 where
   pub feeds : AreFeeds stores new
   pub frames : map (λ (f : Knows). f.frame) new ≡ map (λ (f : Knows). f.frame) old
   pub learn : AllLearn (nodes_seen old) (nodes_seen new)
+  pub seen : (p : ℕ) (f : Knows) → slice_get new p ≡ Some f → HasGrown old p f

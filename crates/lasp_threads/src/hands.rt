@@ -80,11 +80,7 @@ fn rejoin_one<R>(stores: &[Store], feeds: &mut [Feed], mut replicas: Replicas<Se
 }
 
 /// Takes the hands of all workers back.
-pub(crate) fn rejoin_all<R, G>(
-    stores: &[Store],
-    feeds: &mut [Feed],
-    mut workers: Vec<Worker<'_, R, G>>,
-)
+pub fn rejoin_all<R, G>(stores: &[Store], feeds: &mut [Feed], mut workers: Vec<Worker<'_, R, G>>)
     requires feeds { AreFeeds stores.now feeds.old }
     requires at { AreAt stores.now (all_spots (map (λ w. spots_of w.replicas) workers.items)) }
     ensures kept { AreKept stores.now feeds.old feeds.new }
@@ -125,7 +121,7 @@ fn seat<'a, R>(
 }
 
 /// So many workers, each with a hand at every store; where memory is short, fewer, or with hands at the first stores alone.
-pub(crate) fn seat_all<'a, R, G>(
+pub fn seat_all<'a, R, G>(
     rt: &'a R,
     alloc: Global,
     gate: &'a G,

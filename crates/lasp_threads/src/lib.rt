@@ -24,5 +24,9 @@ mod worker;
 mod worth;
 
 pub use closing::close_stores;
+pub use hands::{rejoin_all, seat_all};
 pub use run::drive;
+pub use shared::Shared;
 pub use stores::fresh_stores;
+pub use stretch::call_beside;
+pub use worker::{Worker, Works};

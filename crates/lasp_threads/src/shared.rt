@@ -8,7 +8,7 @@ use std::sync::atomic::AtomicBool;
 
 /// What the workers of a run look at, and who feeds their stores.
 #[derive(Drop)]
-pub(crate) struct Shared {
+pub struct Shared {
     pub(crate) calls: Calls,
     /// Whether the stretch goes on to which they are called.
     pub(crate) more: AtomicBool,

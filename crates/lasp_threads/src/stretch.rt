@@ -233,3 +233,40 @@ pub(crate) fn run_beside<N: Node, R: Threads + Wait, T: Sync, W: Works<T> + Send
     );
     (workers, driver, end)
 }
+
+/// Makes a call, which is one stretch over stores of so many nodes of this graph, while the workers work beside it from its begin to its end, each on a thread of its own where one can be had. The call is made on this thread.
+pub fn call_beside<R: Threads + Wait, T: Sync, W: Works<T> + Send, A, F: FnOnce() -> A>(
+    rt: &R,
+    workers: Vec<W>,
+    tools: &T,
+    alloc: Global,
+    graph: &Graph,
+    nodes: u8,
+    call: F,
+) -> (Vec<W>, A)
+    requires { F.pre call }
+    ensures done { F.post call result.1 }
+    ensures workers { map W.place result.0.items ≡ map W.place workers.items }
+{
+    let shared = Shared::new(alloc, nodes);
+    let crew = Crew {
+        rt,
+        shared: &shared,
+        many: workers.len() as u64,
+    };
+    work_beside(
+        rt,
+        workers,
+        tools,
+        &shared,
+        move || -> A
+            requires { F.pre call }
+            ensures { F.post call result }
+        {
+            crew.call(graph, true);
+            let answer = call();
+            crew.wait();
+            answer
+        },
+    )
+}

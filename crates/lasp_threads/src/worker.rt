@@ -12,7 +12,7 @@ use std::alloc::Global;
 use std::sync::Wait;
 
 /// What may work on a thread of its own, with tools that all workers share.
-pub(crate) trait Works<T>: Drop {
+pub trait Works<T>: Drop {
     // what it is made of, which no work changes
     ghost Place: { Type 0 };
 
@@ -25,7 +25,7 @@ pub(crate) trait Works<T>: Drop {
 
 /// A worker: its number, counted from 1, its hands, each seated at the store of a node, and what it works with.
 #[derive(Drop)]
-pub(crate) struct Worker<'a, R, G> {
+pub struct Worker<'a, R, G> {
     pub(crate) rt: &'a R,
     pub(crate) alloc: Global,
     pub(crate) gate: &'a G,
