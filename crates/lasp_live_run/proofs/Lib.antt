@@ -1,0 +1,9 @@
+pub mod HeardLaws
+pub mod FeederLaws
+pub mod PlaceLaws
+pub mod PostLaws
+pub mod RunLaws
+pub mod SeatLaws
+pub mod DeskLaws
+pub mod ServeLaws
+pub mod CrossLaws
