@@ -3,6 +3,7 @@
 
 mod closed;
 mod generator;
+mod live;
 mod load;
 mod program;
 mod summary;

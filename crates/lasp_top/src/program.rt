@@ -4,9 +4,11 @@ ghost use Rattle.std.specs.Prelude.{◌≡◌, ◌<◌, IfOk, length, string_byt
 ghost use Rattle.model_program.specs.Call.{IsAnswered};
 ghost use Rattle.model_program.specs.Plan.{word_at};
 ghost use Rattle.model_program.specs.Threads.{plain_words};
+ghost use Rattle.model_program.specs.Live.{IsLiveAnswered};
 ghost use Rattle.model_program.specs.Top.{threaded_in, IsTraceAnswered, IsLoadAnswered, IsTopAnswered};
 ghost use Rattle.lasp_run.specs.Prelude.{reading_of, writing_of, library_of, words_of};
 
+use crate::live::{end_live, open_live};
 use crate::load::run_load;
 use crate::threaded::run_threaded;
 use crate::trace::run_traced;
@@ -114,6 +116,32 @@ fn answer_trace<
     end(words, trace, out, err)
 }
 
+/// `live` with so many workers.
+fn answer_live<
+    R: Threads + Wait + RandomSource + AllocGlobal + Sync,
+    F: Files,
+    O: Sink,
+    E: Sink,
+    G: Gate + Sync,
+>(
+    rt: &R,
+    alloc: Global,
+    words: &[String],
+    files: &mut F,
+    out: &mut O,
+    err: &mut E,
+    workers: u8,
+    lib: &Library,
+    gate: &G,
+) -> u8
+    requires { 2 < length words.now }
+    ensures { IsLiveAnswered (library_of lib.now) (words_of words.now) (reading_of F.content F.faults files.old files.new)
+        (writing_of O.written O.faults out.old out.new) (writing_of E.written E.faults err.old err.new) result }
+{
+    let lived = open_live(rt, alloc, words, files, workers, lib, gate);
+    end_live(words, lived, out, err)
+}
+
 /// `load` of a seed and a count by so many workers. It reads no file.
 fn answer_load<
     R: Threads + Wait + RandomSource + AllocGlobal + Sync,
@@ -142,7 +170,7 @@ fn answer_load<
     end(words, summary, out, err)
 }
 
-/// The program with worker threads, 1 to 16, each of which passes the gate in its jobs. `run GRAPH SCRIPT WORKERS` is answered as `plain GRAPH SCRIPT` is; `trace GRAPH SCRIPT WORKERS` writes the same report and then the journals of all nodes; `load SEED COUNT WORKERS` runs a script that it makes, reads no file, and writes a summary. All other words are answered as `one_thread` answers them.
+/// The program with worker threads, 1 to 16, each of which passes the gate in its jobs. `run GRAPH SCRIPT WORKERS` is answered as `plain GRAPH SCRIPT` is; `trace GRAPH SCRIPT WORKERS` writes the same report and then the journals of all nodes; `load SEED COUNT WORKERS` runs a script that it makes, reads no file, and writes a summary; `live GRAPH SCRIPT WORKERS` runs the nodes of the script beside each other and writes what each went through. All other words are answered as `one_thread` answers them.
 pub fn top<
     R: Threads + Wait + RandomSource + AllocGlobal + Sync,
     F: Files,
@@ -173,7 +201,9 @@ pub fn top<
         Some(Threaded::Load(seed, count, workers)) => answer_load(
             rt, alloc, words, files, out, err, seed, count, workers, lib, gate,
         ),
-        Some(Threaded::Live(_)) => one_thread(alloc, words, files, out, err, lib),
+        Some(Threaded::Live(workers)) => {
+            answer_live(rt, alloc, words, files, out, err, workers, lib, gate)
+        }
         None => one_thread(alloc, words, files, out, err, lib),
     }
 }

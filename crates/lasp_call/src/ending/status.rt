@@ -12,7 +12,7 @@ pub fn refusal_status(refusal: &Refusal) -> u8
     match refusal {
         Refusal::Usage => 1,
         Refusal::Graph(_, _) => 2,
-        Refusal::Script(_, _) | Refusal::NotDots(_) => 3,
+        Refusal::Script(_, _) | Refusal::NotDots(_) | Refusal::NotLive(_) => 3,
         Refusal::TooLong(_) => 4,
         Refusal::TooLarge(_, _, _) | Refusal::NetworkFull(_) => 6,
         Refusal::NotReached(_) => 8,

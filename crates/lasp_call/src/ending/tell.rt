@@ -123,6 +123,11 @@ pub fn tell_refusal<E: Sink>(words: &[String], refusal: &Refusal, err: &mut E)
             b"script",
             &[first.format(*command).as_bytes(), b"NotDots"],
         ),
+        Refusal::NotLive(command) => tell(
+            err,
+            b"script",
+            &[first.format(*command).as_bytes(), b"NotLive"],
+        ),
         Refusal::TooLarge(command, node, name) => tell(
             err,
             b"too large",
