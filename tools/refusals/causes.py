@@ -44,6 +44,7 @@ COMMAND = {
     "ValueRefused": "The value isn't a whole number of 64 bits, a text or a pair of values, or has more than 8 parts or 256 bytes of text; "
     "or the number of an inc or max is out of its range.",
     "NotSent": "No command before this one sends a message with this number; they are counted from 0, and a sync sends one for each node.",
+    "NotLive": "Of all commands live knows add, remove, insert, inc, max, send, print and await alone, the last with count, added or removed, and no command 65536: each is of one node, which does its own beside the others.",
     "NotDots": "Of all commands dots knows add, remove, send, deliver, sync, settle and print alone: its replicas keep no tombstones, and have no marks to bind, no reads and one variable.",
     "NotLocal": "A site makes updates of its own number alone: add, remove, insert, inc and max, each with NODE. What other sites do comes in their states.",
     "TooMany": "There are too many: of commands 100,000, of reads and of marks 1,000 each, of variables 64.",
