@@ -2,21 +2,21 @@
 use denote.Ref.{NamedLft}
 use denote.RattleType.{RattleType}
 use denote.Struct.Declared.{shape}
-use denote.Param.Send.{IsSend, IsSync, shr_send, struct_send, recorded_send, view_send}
+use denote.Param.Send.{IsSend, IsSync, shr_send, shr_sync, struct_send, struct_sync, recorded_send, recorded_sync, view_send}
 use Rattle.std.proofs.alloc.Global.TheSendSync as heap
-use Rattle.lasp_fns.specs.contracts.library.Library as Library
 use Rattle.lasp_graph.proofs.graph.Graph.TheSendSync as graph
 use Rattle.lasp_mail.proofs.ends.Inlet.TheSendSync as inlet
 use Rattle.lasp_mail.proofs.ends.Outlet.TheSendSync as outlet
 use Rattle.lasp_mail.proofs.mailbox.Mailbox.TheSendSync as mailbox
-use Rattle.lasp_live.proofs.signal.Signal.TheSendSync as signal
 use Rattle.lasp_live.specs.contracts.diary.Diary as Diary
 use Rattle.lasp_live.specs.contracts.diary.Note as Note
 use Rattle.lasp_live.specs.contracts.diary.Noted as Noted
 use Rattle.lasp_live.specs.contracts.mail.Letter as Letter
 use Rattle.lasp_live.specs.contracts.mail.Mail as Mail
+use Rattle.lasp_live_run.specs.declared.feeder.Settles.{Ghosts}
 use Rattle.lasp_live_run.specs.contracts.feeder.StoreFeeder as StoreFeeder
 use Rattle.lasp_live_run.specs.contracts.feeder.StoreFeeder.TheInside as inside
+use Rattle.lasp_live_run.specs.contracts.seat.Office as Office
 use Rattle.lasp_store.specs.contracts.store.Store as Store
 use Rattle.lasp_crossing.proofs.Messages.{Message-send, Message-sync}
 use Rattle.lasp_crossing.proofs.Scripts.{Script-send, Script-sync}
@@ -51,12 +51,29 @@ Diary-send = search (Note-send, owned) depth 40 fits 4000
 
 -- ---- feeders
 
-Library-sync : IsSync (Library.the_field).row
-Library-sync = search owned depth 40 fits 4000
+pub Feeder-send : (a : NamedLft) (R T S : RattleType) (g : Ghosts S.Denot T.Denot) → IsSync R → IsSync T → IsSync S → IsSend (StoreFeeder.the_row a R T S g)
+Feeder-send a R T S g r t s = view_send (inside.the_row a R T S g) _ _ _ _ (recorded_send (inside.the_field a R T S g).row _ _ (inside.the_type a R T S g).to_one
+    (struct_send (shape (inside.the_type a R T S g)) (shr_send _ _ R r, (heap.the_field_send, (shr_send _ _ Store.the_row Store-sync, (Hand-send, (shr_send _ _ T t, (shr_send _ _ S s, tt))))))))
 
-pub Feeder-send : (a : NamedLft) (R : RattleType) → IsSync R → IsSend (StoreFeeder.the_row a R)
-Feeder-send a R s = view_send (inside.the_row a R) _ _ _ _ (recorded_send (inside.the_field a R).row _ _ (inside.the_type a R).to_one
-    (struct_send (shape (inside.the_type a R)) (shr_send _ _ R s, (heap.the_field_send, (shr_send _ _ Store.the_row Store-sync, (Hand-send, (shr_send _ _ (Library.the_field).row Library-sync, tt)))))))
+-- ---- offices
+
+pub Office-fields : (a : NamedLft) (R : RattleType) → IsSync R → IsSync (Office.the_field a R).row
+Office-fields a R r = struct_sync (shape (Office.the_type a R)) (
+  shr_sync _ _ R r,
+  (
+    search owned depth 40 fits 4000,
+    (
+      search (graph.the_send, graph.the_sync, owned) depth 40 fits 4000,
+      (
+        search (Script-send, Script-sync, owned) depth 40 fits 4000,
+        (search (mailbox.the_sync, Mail-send, owned) depth 40 fits 4000, (search owned depth 40 fits 4000, tt)),
+      ),
+    ),
+  ),
+)
+
+pub Office-sync : (a : NamedLft) (R : RattleType) → IsSync R → IsSync (Office.the_row a R)
+Office-sync a R r = recorded_sync (Office.the_field a R).row _ _ (Office.the_type a R).to_one (Office-fields a R r)
 
 -- all of these, as one set for `search`
-pub ruleset mails = (Letter-send, Letter-sync, Mail-send, Mail-sync, Diary-send, Feeder-send, outlet.the_send, inlet.the_send, mailbox.the_sync, signal.the_sync)
+pub ruleset mails = (Letter-send, Letter-sync, Mail-send, Mail-sync, Diary-send, Feeder-send, Office-fields, Office-sync, outlet.the_send, inlet.the_send, mailbox.the_sync)

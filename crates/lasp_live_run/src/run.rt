@@ -8,7 +8,8 @@ ghost use Rattle.model_live.specs.Words.{AreLive};
 ghost use Rattle.model_readings.specs.Lawful.{FitsAll};
 ghost use Rattle.lasp_drive.specs.Run.{IsRunnable};
 ghost use Rattle.lasp_graph.specs.Library.{library_of};
-ghost use Rattle.lasp_live_run.specs.Run.{AreSeated, HaveLived, IsBack, failed_of};
+ghost use Rattle.lasp_live_run.specs.Posts.{AreFreshEnds};
+ghost use Rattle.lasp_live_run.specs.Run.{AreSeated, AreUnfed, HaveLived, HaveServed, IsBack, failed_of};
 ghost use Rattle.lasp_store.specs.Turn.{graph_seen};
 ghost use Rattle.lasp_threads.specs.Spots.{AreAt, AreFeeds, AreKept, HaveMade, HaveOut, all_spots, spots_of};
 
@@ -20,10 +21,10 @@ use lasp_core::Core;
 use lasp_fns::Library;
 use lasp_graph::Graph;
 use lasp_live::{Diary, Mail, Signal, live_text};
-use lasp_mail::{Inlet, Outlet};
+use lasp_mail::{Inlet, Mailbox, Outlet};
 use lasp_script::Script;
 use lasp_store::{Feed, Store};
-use lasp_threads::{Worker, close_stores, fresh_stores, rejoin_all, seat_all};
+use lasp_threads::{Worker, Works, close_stores, fresh_stores, rejoin_all, seat_all};
 use lasp_workers::Gate;
 use std::alloc::{AllocError, AllocGlobal, Global};
 use std::random::RandomSource;
@@ -119,6 +120,45 @@ fn back_of<R, T, S: Settles<T>>(
     Ok(back)
 }
 
+/// Feeds the nodes of a script beside each other, each at its desk, while workers work beside all of them. The feeds that it takes are those of the nodes, which went through nothing.
+fn serve_nodes<R: Threads + Wait + Sync, T: Sync, S: Settles<T> + Sync, W: Works<T> + Send>(
+    rt: &R,
+    alloc: Global,
+    graph: &Arc<Graph>,
+    script: &Arc<Script>,
+    stores: &[Store],
+    boxes: &[Mailbox<Mail>],
+    lib: &T,
+    by: &S,
+    crew: Vec<W>,
+    mut feeds: Vec<Feed>,
+    outs: Vec<Vec<Outlet<Mail>>>,
+    ins: Vec<Vec<Inlet<Mail>>>,
+) -> Result<(Vec<W>, Back), AllocError>
+    requires runnable { IsRunnable (S.library lib.now) (arc_value graph.now) (arc_value script.now) }
+    requires live { AreLive (arc_value script.now).commands }
+    requires small { too_large (arc_value graph.now) (arc_value script.now) ≡ None }
+    requires feeds { AreFeeds stores.now feeds.items }
+    requires unfed { AreUnfed (arc_value graph.now) (arc_value script.now) feeds.items }
+    requires fits { All (λ f. FitsAll (S.library lib.now) (graph_seen f)) feeds.items }
+    requires ends { AreFreshEnds (arc_value graph.now, arc_value script.now) (arc_value script.now).nodes boxes.now outs.items ins.items }
+    ensures workers { IfOk result (λ given. map W.place given.0.items ≡ map W.place crew.items) }
+    ensures served { IfOk result (λ given. HaveServed (arc_value graph.now) (arc_value script.now) boxes.now feeds.items outs.items ins.items given.1) }
+{
+    let seats = seats_of(rt, alloc, stores, lib, by, &mut feeds, outs, ins)?;
+    let signal = Signal::new();
+    let office = Office {
+        rt,
+        alloc,
+        graph,
+        script,
+        boxes,
+        signal: &signal,
+    };
+    let (crew, seats) = serve_beside(rt, crew, lib, alloc, graph, script.nodes(), seats, &office);
+    Ok((crew, back_of(alloc, seats)?))
+}
+
 /// The workers, each with a hand at every store, as far as there is memory.
 fn crew_of<'a, R, G>(
     rt: &'a R,
@@ -168,26 +208,27 @@ fn run_nodes<R: Threads + Wait + RandomSource + AllocGlobal + Sync, G: Gate + Sy
     let Posts { boxes, outs, ins } = fresh_posts(alloc, graph, script)?;
     let all = stores.as_slice();
     let crew = crew_of(rt, alloc, gate, all, &mut feeds, workers);
-    let seats = seats_of(rt, alloc, all, lib, &ByLibrary, &mut feeds, outs, ins)?;
-    let signal = Signal::new();
-    let office = Office {
+    let (crew, mut back) = serve_nodes(
         rt,
         alloc,
         graph,
         script,
-        boxes: boxes.as_slice(),
-        signal: &signal,
-    };
-    let (crew, seats) = serve_beside(rt, crew, lib, alloc, graph, script.nodes(), seats, &office);
-    let Back {
-        mut feeds,
+        all,
+        boxes.as_slice(),
+        lib,
+        &ByLibrary,
+        crew,
+        feeds,
         outs,
         ins,
-        diaries,
-    } = back_of(alloc, seats)?;
-    take_back(all, &mut feeds, crew);
-    close_posts(Posts { boxes, outs, ins });
-    Ok((close_stores(alloc, stores, feeds)?, diaries))
+    )?;
+    take_back(all, &mut back.feeds, crew);
+    close_posts(Posts {
+        boxes,
+        outs: back.outs,
+        ins: back.ins,
+    });
+    Ok((close_stores(alloc, stores, back.feeds)?, back.diaries))
 }
 
 /// The lesser of two commands at which nodes failed.

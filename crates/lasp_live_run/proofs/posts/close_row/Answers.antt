@@ -1,6 +1,6 @@
 use Rattle.std.proofs.Common.{rules, ℕ, ◌≡◌, ◌+◌, ◌<◌, List, [], ◌∷◌, length, sym, ap, subst, ◌∙◌, length-append, arith}
 use Rattle.std.specs.Prelude.{vec_len}
-use Rattle.lasp_live.specs.Ends.{Box, In, Out}
+use Rattle.lasp_live.specs.Ends.{Out}
 use Rattle.lasp_live_run.specs.Posts.{AreLeft, IsPoppedFrom}
 use Rattle.lasp_live_run.proofs.PlaceLaws.{found-at, nothing}
 use Rattle.lasp_live_run.proofs.PostLaws.{closing-begins, closing-ends, closing-next, last-ends}

@@ -1,5 +1,4 @@
-use Rattle.std.proofs.Common.{ℕ, List, ◌≡◌, ◌+◌, sym, subst, arith}
-use Rattle.lasp_live.specs.Ends.{Box}
+use Rattle.std.proofs.Common.{ℕ, ◌≡◌, sym, subst, arith}
 use Rattle.lasp_live.specs.Mail.{plan_of}
 use Rattle.lasp_live_run.specs.Posts.{AreMade, IsBehind, IsPushedTo}
 use Rattle.lasp_live_run.proofs.PostLaws.{behind-next, made-next}

@@ -1,10 +1,8 @@
-use Rattle.std.proofs.Common.{◌≡◌, ◌++◌, ◌∷◌, [], List, length, refl, sym, ap, subst, ◌∙◌, append-nil, append_assoc, arith}
+use Rattle.std.proofs.Common.{◌≡◌, ◌++◌, ◌∷◌, [], List, sym, ap, subst, ◌∙◌, append-nil, append_assoc}
 use Rattle.std.specs.Vec.Iter.{into_iter_items}
-use Rattle.std.proofs.lemmas.Bool.Decides.{nat_tests}
 use Rattle.lasp_live_run.specs.Run.{IsBack}
-use Rattle.lasp_live_run.specs.declared.run.Back.{Back}
 use Rattle.lasp_live_run.specs.declared.seat.Seat.{Seat}
-use Rattle.lasp_live_run.proofs.DeskLaws.{back-begins, back-next}
+use Rattle.lasp_live_run.proofs.DeskLaws.{back-next}
 use Rattle.lasp_live_run.proofs.PlaceLaws.{nothing}
 use Rattle.lasp_live_run.proofs.run.back_of.Goals as goal
 use Rattle.lasp_store.specs.Turn.{Knows}
@@ -22,5 +20,5 @@ loop-seat-preserved g c =
 pub returns : goal.returns
 returns g c =
     let at = c.loop-seat.invariant in
-    let empty : into_iter_items c.loop-seat.left ≡ [] = nothing (into_iter_items c.loop-seat.left) (grind (arith, nat_tests, c.in_default.ensures.variant)) in
+    let empty : into_iter_items c.loop-seat.left ≡ [] = nothing (into_iter_items c.loop-seat.left) (sym c.loop-seat.left.rest.ok.0 ∙ c.in_default.ensures.cases.0) in
     subst (λ (l : List (Seat Knows)). IsBack l c.loop-seat.back) (sym (append-nil at.0) ∙ ap (λ (l : List (Seat Knows)). at.0 ++ l) (sym empty) ∙ at.1) at.2

@@ -1,4 +1,4 @@
-use Rattle.std.proofs.Common.{◌≡◌, ◌+◌, ◌++◌, ℕ, length, map}
+use Rattle.std.proofs.Common.{◌≡◌, ◌++◌, ℕ, length, map}
 use Rattle.std.specs.Prelude.{None, Some, slice_get}
 use Rattle.std.specs.Vec.Iter.{into_iter_items}
 use Rattle.lasp_live_run.specs.declared.seat.Seat.{Seat}

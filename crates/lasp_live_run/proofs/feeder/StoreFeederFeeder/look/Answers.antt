@@ -1,4 +1,4 @@
-use Rattle.std.proofs.Common.{◌≡◌, ◌∷◌, [], refl, subst}
+use Rattle.std.proofs.Common.{◌≡◌, [], refl, subst}
 use Rattle.lasp_live.specs.Turns.{Learns}
 use Rattle.lasp_store.specs.Turn.{Knows, frame_of}
 use Rattle.lasp_store_node.specs.View.{place_of}
