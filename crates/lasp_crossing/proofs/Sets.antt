@@ -9,7 +9,7 @@ use Rattle.lasp_logset.specs.contracts.past.Past as Past
 use Rattle.lasp_logset.specs.contracts.set.LogSet as LogSet
 use Rattle.lasp_logset.specs.contracts.grown.Grown as Grown
 use Rattle.lasp_logset.specs.contracts.orset.OrSet as OrSet
-use Rattle.lasp_counters.specs.contracts.gset.GSet as GSet
+use Rattle.lasp_state.specs.contracts.gset.GSet as GSet
 
 Key-send : IsSend Key.the_row
 Key-send = search (Token-send, Value-send, owned) depth 40 fits 4000

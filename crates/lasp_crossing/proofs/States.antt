@@ -1,7 +1,7 @@
 -- States, operations and thresholds may cross threads and be shared.
 use denote.Param.Send.{IsSend, IsSync}
-use Rattle.lasp_counters.proofs.counter.GCount.TheSendSync as count
-use Rattle.lasp_counters.proofs.register.MaxReg.TheSendSync as register
+use Rattle.lasp_state.proofs.counter.GCount.TheSendSync as count
+use Rattle.lasp_state.proofs.register.MaxReg.TheSendSync as register
 use Rattle.lasp_crossing.proofs.Values.{Value-send, Value-sync, Values-send, Values-sync, owned}
 use Rattle.lasp_crossing.proofs.Sets.{OrSet-send, OrSet-sync, GSet-send, GSet-sync}
 use Rattle.lasp_state.specs.contracts.state.State as State

@@ -5,9 +5,8 @@ ghost use Rattle.model_states.specs.Threshold.{fold};
 ghost use Rattle.model_deltas.specs.Delta.{new_values, changed_counts, changed_top, changed_content};
 ghost use Rattle.lasp_state.specs.State.{content_of, shape_of};
 
-use lasp_counters::{GCount, GSet, MaxReg};
 use lasp_logset::changed;
-use lasp_state::State;
+use lasp_state::{GCount, GSet, MaxReg, State};
 use std::alloc::{AllocError, Global};
 
 /// The elements of the second set that the first one lacks. It makes a table of the first, and costs a look-up for each element of the second and a copy of each that is new.

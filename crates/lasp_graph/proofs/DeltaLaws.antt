@@ -19,7 +19,7 @@ use Rattle.lasp_graph.specs.Delta.{IsSetBefore, IsStateBefore, IsStateOf, gained
 use Rattle.model_graph.specs.Increment.{IsChange}
 use Rattle.lasp_setops.specs.Grown.{IsGrown}
 use Rattle.lasp_setops.specs.Width.{IsSetOfWidth}
-use Rattle.lasp_fold.proofs.FoldLaws.{change-below}
+use Rattle.lasp_setops.proofs.FoldLaws.{change-below}
 
 -- the changed rows are no wider than the rows
 pub width-change : (before change after : List Row) → IsChange before change after → IsSetOfWidth 16 after → IsSetOfWidth 16 change

@@ -20,7 +20,7 @@ pub use Rattle.model_readings.specs.Tree.{has_items, is_word_at, number_at, text
 pub use Rattle.lasp_fns.specs.Library.{lift_op_at, lifts_of, maps_of, predicates_of}
 pub use Rattle.lasp_fns.specs.Lift.{lift_op_of}
 pub use Rattle.lasp_fns.specs.Stored.{lift_of}
-pub use Rattle.lasp_fold.specs.Fold.{IsWithinLimits}
+pub use Rattle.lasp_setops.specs.Fold.{IsWithinLimits}
 pub use Rattle.lasp_setops.specs.Width.{IsSetOfWidth}
 pub use Rattle.lasp_state.specs.State.{content_of, number_of}
 pub use Rattle.lasp_graph.specs.Answers.{Answers, Gives, GivesAt, refused_at, why_of}

@@ -9,11 +9,10 @@ ghost use Rattle.lasp_graph.specs.Kind.{fold_op_of};
 use super::inputs::EvalRefused;
 use super::kind::{FoldOp, Kind, LiftRef, MapRef, PredRef};
 use lasp_fns::StepLib;
-use lasp_fold::{Modulo, Sum, Xor, fold_increment};
 use lasp_logset::OrSet;
 use lasp_setops::{
-    SetRefused, filter_counted, intersect_increment, intersect_sets, map_counted,
-    product_increment, product_sets, union_sets,
+    Modulo, SetRefused, Sum, Xor, filter_counted, fold_increment, intersect_increment,
+    intersect_sets, map_counted, product_increment, product_sets, union_sets,
 };
 use lasp_state::State;
 use std::alloc::{AllocError, Global};

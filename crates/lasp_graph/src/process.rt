@@ -8,9 +8,11 @@ ghost use Rattle.lasp_graph.specs.Kind.{fold_op_of};
 use super::inputs::EvalRefused;
 use super::kind::{FoldOp, Kind, LiftRef, MapRef, PredRef};
 use lasp_fns::{Library, StoredLift};
-use lasp_fold::{Modulo, Sum, Xor, fold_all};
 use lasp_logset::OrSet;
-use lasp_setops::{SetRefused, filter_set, intersect_sets, map_set, product_sets, union_sets};
+use lasp_setops::{
+    Modulo, SetRefused, Sum, Xor, filter_set, fold_all, intersect_sets, map_set, product_sets,
+    union_sets,
+};
 use lasp_state::State;
 use std::alloc::{AllocError, Global};
 

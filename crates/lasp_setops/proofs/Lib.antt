@@ -4,3 +4,9 @@ pub mod TickLaws
 pub mod SwapLaws
 pub mod WidthLaws
 pub mod GrownLaws
+pub mod StepLaws
+pub mod TurnLaws
+pub mod PassLaws
+pub mod FoldLaws
+pub mod ModuloLaws
+pub mod LimitLaws

@@ -3,6 +3,7 @@
 
 mod counted;
 mod filter;
+mod fold;
 mod increments;
 mod intersection;
 mod laws;
@@ -14,6 +15,7 @@ mod union;
 
 pub use counted::{filter_counted, map_counted};
 pub use filter::filter_set;
+pub use fold::{FoldGroup, Modulo, Sum, Xor, fold_all, fold_change, fold_counted, fold_increment};
 pub use increments::{
     filter_increment, intersect_increment, map_increment, product_increment, union_increment,
 };

@@ -2,3 +2,5 @@ mod FoldLaws
 mod JoinLaws
 pub mod StateLaws
 mod ThresholdLaws
+pub mod MemberLaws
+pub mod RaiseLaws

@@ -9,8 +9,8 @@ use Rattle.model_states.specs.Register as register
 use Rattle.model_states.specs.Content.{Content, of_set, of_grow, of_counts, of_top, join_contents, Key, at_row, at_value, at_count, at_top, content_mark, IsContentAtMost}
 use Rattle.model_states.proofs.RegisterLaws.{not_later-reaches, reaches-not_later}
 use Rattle.model_states.specs.Threshold.{Shape, counter}
-use Rattle.lasp_counters.specs.declared.register.MaxReg.{MaxReg}
-use Rattle.lasp_counters.specs.Counts.{larger, AreAtMost, HaveSameNodes}
+use Rattle.lasp_state.specs.declared.register.MaxReg.{MaxReg}
+use Rattle.lasp_state.specs.Counts.{larger, AreAtMost, HaveSameNodes}
 use Rattle.model_states.specs.Register.{later, IsNotLater}
 
 -- ---- the order

@@ -11,7 +11,7 @@ ghost use Rattle.lasp_state.specs.State.{content_of, shape_of, number_of, joined
 use super::fold::take_greater;
 use super::op::Op;
 use super::print::{print_fold, print_number, print_total};
-use lasp_counters::{GCount, GSet, MaxReg};
+use crate::{GCount, GSet, MaxReg};
 use lasp_logset::{OrSet, add_delta};
 use std::alloc::{AllocError, Global};
 

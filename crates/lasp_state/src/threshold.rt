@@ -9,7 +9,7 @@ ghost use Rattle.lasp_state.specs.State.{content_of, shape_of};
 ghost use Rattle.lasp_state.specs.Threshold.{threshold_of, is_in};
 
 use super::state::State;
-use lasp_counters::GSet;
+use crate::GSet;
 use lasp_value::{Value, Values};
 use std::sync::Arc;
 

@@ -3,7 +3,7 @@
 ghost use Rattle.std.specs.Prelude.{◌≡◌, ◌<◌, ◌↔◌, ◌++◌, ◌∷◌, [], IsTrue, Some, IfOk, OnOk, OnErr, length, slice_get, slice_set};
 ghost use Rattle.model_states.specs.Counts.{AreCountsAtMost};
 
-use lasp_counters::are_at_most;
+use lasp_state::are_at_most;
 use std::alloc::{AllocError, Global};
 use std::marker::Model;
 

@@ -4,12 +4,12 @@ ghost use Rattle.std.specs.Prelude.{◌≡◌, ◌<◌, IfOk, length};
 ghost use Rattle.model_graph.specs.Increment.{IsChange};
 ghost use Rattle.lasp_fns.specs.Library.{lifts_of};
 ghost use Rattle.lasp_fns.specs.Steps.{library_of};
-ghost use Rattle.lasp_fold.specs.Fold.{HasWidth, IsWithinLimits};
+ghost use Rattle.lasp_setops.specs.Fold.{HasWidth, IsWithinLimits};
 
 use crate::made::{Rows, no_calls, rows};
 use lasp_fns::{Library, MapOp, StepLib};
-use lasp_fold::*;
 use lasp_logset::OrSet;
+use lasp_setops::*;
 use std::alloc::{AllocError, Global};
 use std::sync::atomic::Ordering;
 use std::test::Fail;

@@ -8,7 +8,7 @@ ghost use Rattle.model_functions.specs.Lift.{lifted};
 ghost use Rattle.lasp_value.specs.Value.{val_of};
 ghost use Rattle.lasp_fns.specs.Answers.{Answers};
 ghost use Rattle.lasp_fns.specs.Library.{maps_of, predicates_of, lifts_of};
-ghost use Rattle.lasp_fold.specs.Fold.{IsWithinLimits};
+ghost use Rattle.lasp_setops.specs.Fold.{IsWithinLimits};
 ghost use Rattle.lasp_setops.specs.Width.{IsSetOfWidth};
 
 use lasp_fns::{

@@ -1,6 +1,6 @@
 //! How counters and registers behave, against numbers written by hand.
 
-use lasp_counters::*;
+use lasp_state::*;
 use lasp_value::{Lattice, join_all};
 use std::alloc::{AllocError, Global};
 use std::test::Fail;

@@ -11,10 +11,10 @@ ghost use Rattle.lasp_fns.specs.Stored.{ops_of};
 ghost use Rattle.lasp_setops.specs.Width.{IsSetOfWidth};
 ghost use Rattle.lasp_setops.specs.declared.refused.SetRefused.TheVariants as refused;
 
-use lasp_counters::GCount;
 use lasp_fns::StoredMap;
 use lasp_logset::{Entry, OrSet};
 use lasp_setops::{SetRefused, map_set, union_sets};
+use lasp_state::GCount;
 use lasp_value::Value;
 use std::alloc::{AllocError, Global};
 
@@ -57,7 +57,7 @@ pub fn image(alloc: Global, f: &StoredMap, x: &OrSet) -> Result<OrSet, AllocErro
     map_set(alloc, f, x)
 }
 
-/// `lasp_counters::GCount::inc_delta`.
+/// `lasp_state::GCount::inc_delta`.
 pub fn count_more(counts: &GCount, replica: u8, by: u32) -> Result<GCount, AllocError>
     requires { replica < length counts.now }
     ensures { IfOk result (λ d. d ≡ inc_delta counts.now replica by) }

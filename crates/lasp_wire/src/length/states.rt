@@ -5,8 +5,7 @@ ghost use Rattle.lasp_wire.specs.Prelude.{spelled_values, spelled_counts, spelle
 
 use super::rows::set_len;
 use super::values::value_len;
-use lasp_counters::{GCount, GSet};
-use lasp_state::State;
+use lasp_state::{GCount, GSet, State};
 use std::alloc::AllocError;
 
 fn elements_len(set: &GSet) -> Result<u64, AllocError>

@@ -9,9 +9,8 @@ use super::numbers::{i64_at, kind_in};
 use super::rows::single_rows_in;
 use super::sequence::numbers_in;
 use crate::refused::ReadError;
-use lasp_counters::{COUNT_MAX, GCount, GSet, MaxReg};
 use lasp_logset::{Entry, OrSet};
-use lasp_state::State;
+use lasp_state::{COUNT_MAX, GCount, GSet, MaxReg, State};
 use std::alloc::{AllocError, Global};
 
 /// The rows of a set, as the version has them.

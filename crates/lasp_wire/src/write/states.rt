@@ -6,8 +6,7 @@ ghost use Rattle.lasp_wire.specs.Prelude.{number, spelled_values, spelled_counts
 use super::numbers::{put_bool, put_i64, put_u32, put_u64};
 use super::rows::put_set;
 use super::values::put_value;
-use lasp_counters::{GCount, GSet};
-use lasp_state::State;
+use lasp_state::{GCount, GSet, State};
 use std::alloc::AllocError;
 
 fn put_elements(out: &mut Vec<u8>, set: &GSet) -> Result<(), AllocError>

@@ -1,7 +1,7 @@
 use Rattle.std.proofs.Common.{◌∙◌, sym, ap, arith, List}
 use Rattle.model_values.specs.Row.{Row}
 use Rattle.model_sets.specs.Rows.{join}
-use Rattle.lasp_fold.proofs.LimitLaws.{width-join}
+use Rattle.lasp_setops.proofs.LimitLaws.{width-join}
 use Rattle.tests_processes.proofs.fold.grown.Goals as goal
 
 pub returns-clause-limits : goal.returns-clause-limits

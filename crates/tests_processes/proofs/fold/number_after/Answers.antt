@@ -4,8 +4,8 @@ use Rattle.model_sets.specs.Folds.{fold_set}
 use Rattle.lasp_fns.specs.Library.{lift_op_at}
 use Rattle.lasp_fns.specs.Steps.{library_of}
 use Rattle.lasp_fns.specs.Stored.{lift_of}
-use Rattle.lasp_fold.specs.Fold.{taken_lift}
-use Rattle.lasp_fold.proofs.FoldLaws.{change-grown}
+use Rattle.lasp_setops.specs.Fold.{taken_lift}
+use Rattle.lasp_setops.proofs.FoldLaws.{change-grown}
 use Rattle.tests_processes.proofs.fold.number_after.Goals as goal
 
 pub fold_change-requires-clause-more : goal.fold_change-requires-clause-more

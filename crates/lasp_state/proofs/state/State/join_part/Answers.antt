@@ -1,7 +1,7 @@
 use Rattle.std.proofs.Common.{◌≢◌, ◌↔◌, length, Bool, IsTrue, IfOk, Result, Ok, ap, sym, subst, ◌∙◌}
 use Rattle.model_states.specs.Content.{of_set, of_grow, of_counts, of_top}
 use Rattle.model_states.specs.Threshold.{counter}
-use Rattle.lasp_counters.specs.CountLaws.{length-larger}
+use Rattle.lasp_state.specs.CountLaws.{length-larger}
 use Rattle.lasp_state.specs.State.{content_of, shape_of, number_of}
 use Rattle.lasp_state.proofs.FoldLaws.{no-number, on-err}
 use Rattle.lasp_state.proofs.StateLaws.{join-counts, join-top, differ-sets, differ-grow, differ-counts, differ-registers, grew-as, grew-result, on-ok, same-nodes, joined-as}

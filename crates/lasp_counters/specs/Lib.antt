@@ -1,5 +1,0 @@
-pub mod Counts
-pub mod CountLaws
-pub mod Members
-pub mod RegisterLaws
-pub mod Prelude

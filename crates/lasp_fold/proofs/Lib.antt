@@ -1,6 +1,0 @@
-pub mod StepLaws
-pub mod TurnLaws
-pub mod PassLaws
-pub mod FoldLaws
-pub mod ModuloLaws
-pub mod LimitLaws

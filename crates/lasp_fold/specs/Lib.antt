@@ -1,5 +1,0 @@
-pub mod Group
-pub mod GroupLaws
-pub mod Fold
-pub mod Turns
-pub mod Prelude
