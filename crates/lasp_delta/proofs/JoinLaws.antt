@@ -119,5 +119,5 @@ pub changed-all : (before after : List Sent) (i : ℕ) (name : List ℕ) (state 
     → slice_get (changed_sources before 0 after) i ≡ Some (sent name state)
 changed-all before after i name state e past up =
     let was : sent_at before (0 + i) ≡ least = sent-past before (0 + i) (omega (arith, past)) in
-    let all : changed_content least (content_of state) ≡ content_of state = changed-from_nothing least (content_of state) up (omega arith) (at_most-least (content_of state)) (at_most-itself least) in
+    let all : changed_content least (content_of state) ≡ content_of state = changed-from_nothing least (content_of state) up (at_most-least (content_of state)) (at_most-itself least) in
     changed-at before 0 after i (sent name state) e ∙ ap (λ (c : Content). Some (changed_source c (sent name state))) was ∙ ap (λ (c : Content). Some (record { decl = (sent name state).decl; content = c })) all

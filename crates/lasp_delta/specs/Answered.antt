@@ -1,7 +1,6 @@
 -- What applying a delta answered, beside what comes of it.
 use Rattle.std.specs.Prelude.{◌≡◌, Option, Some, None, Result, Ok, Err}
 use Rattle.model_graph.specs.Message.{Message}
-use Rattle.model_wire.specs.Lawful.{IsMessage}
 use Rattle.model_deltas.specs.Delta.{Delta, delta_of}
 use Rattle.model_deltas.specs.Applied.{first_gap, joined, limited, unless}
 use Rattle.model_deltas.specs.Applied as plain
@@ -34,5 +33,5 @@ Finds (Err e) gap = IsGap e gap
 
 -- at a message of a world, where the delta leads from one message of the world to a later one: what was answered is what comes of the message and the later one together, with the gap where the message counts fewer updates than the earlier one
 unfoldable pub AnswersInWorlds : Message → Delta → Result Message DeltaRefused → Type 0
-AnswersInWorlds m d result = (before after : Message) → AreOfOneWorld before after m → IsMessage before → IsMessage after → IsBefore before after → d ≡ delta_of before after
+AnswersInWorlds m d result = (before after : Message) → AreOfOneWorld before after m → IsBefore before after → d ≡ delta_of before after
     → Answers result (unless (first_gap 0 m.counts before.counts) (limited (joined m after)))

@@ -27,7 +27,6 @@ pub fn apply(alloc: Global, base: &Message, delta: &Delta) -> Result<Message, De
     ensures answers { Answers result (applied base.now delta.now) }
     ensures world { AnswersInWorlds base.now delta.now result }
 {
-    base.recall();
     apply_to(alloc, base, delta)
 }
 

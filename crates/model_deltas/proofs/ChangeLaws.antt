@@ -5,14 +5,16 @@ use Rattle.std.proofs.lemmas.Int.{ints, clamps}
 use Rattle.std.specs.Ordering.{int_eq}
 use Rattle.model_values.specs.Value.{Val}
 use Rattle.model_values.specs.Token.{Tok}
+use Rattle.model_values.specs.Row.{Row}
 use Rattle.model_sets.specs.Rows.{mark}
 use Rattle.model_sets.specs.Values.{held, IsHeld, AreAscending, unite, IsWithin}
 use Rattle.model_sets.proofs.ValueLaws.{held-small, held-unite, ascending-of_values, same_from_held}
 use Rattle.model_sets.proofs.EquationLaws.{changed-mark, join-changed, ascending-changed}
 use Rattle.model_sets.proofs.AlgebraLaws.{held-filter, IsHeld-filter, ascending-filter}
 use Rattle.model_states.specs.Counts.{count_at, larger, AreCountsAtMost}
-use Rattle.model_states.specs.Register.{later, IsNotLater}
-use Rattle.model_states.specs.Content.{Content, least, join_contents, content_mark, IsContentAtMost, IsOrdered}
+use Rattle.model_states.specs.Register.{later, reaches, IsNotLater}
+use Rattle.model_states.specs.Content.{Content, least, join_contents, Key, at_row, at_value, at_count, at_top, content_mark, IsContentAtMost, IsOrdered}
+use Rattle.model_states.proofs.CountLaws.{count_at-larger}
 use Rattle.model_states.proofs.ContentLaws.{order-parts, same_from_content_mark, content_mark-join, content_mark-least, ordered-join, counts-join}
 use Rattle.model_graph.proofs.PlaceLaws.{equal-numbers}
 use Rattle.model_deltas.specs.Delta.{new_values, changed_counts, changed_top, changed_content}
@@ -131,17 +133,30 @@ changed-joined s t up long a =
       top = top-joined s.top t.top parts.3 i;
     }
 
+-- key by key the change makes up the difference, however many nodes the first counts
+count-joined : (s t : List ℕ) → AreCountsAtMost s t → (node : ℕ) → count_at (larger s (changed_counts s t)) node ≡ count_at t node
+count-joined s t a node = choose (count_at s node == count_at t node) refl (counts-changed s t node) where
+  choose : (b : Bool) → (count_at s node == count_at t node) ≡ b → count_at (changed_counts s t) node ≡ (if b then 0 else count_at t node) → count_at (larger s (changed_counts s t)) node ≡ count_at t node
+  choose true e is = omega (arith, count_at-larger s (changed_counts s t) node, is, equal-numbers (count_at s node) (count_at t node) e)
+  choose false e is = omega (arith, count_at-larger s (changed_counts s t) node, is, a node)
+
+marks-joined : (s t : Content) → IsOrdered t → IsContentAtMost s t → (k : Key) → content_mark (join_contents s (changed_content s t)) k ≡ content_mark t k
+marks-joined s t up a (at_row v w) = ap (λ (rows : List Row). mark rows v w) (join-changed s.rows t.rows up.rows ((order-parts s t).0 a).0)
+marks-joined s t up a (at_value v) = ap (λ (values : List Val). held values v) (values-joined s.values t.values up.values ((order-parts s t).0 a).1)
+marks-joined s t up a (at_count node) = count-joined s.counts t.counts ((order-parts s t).0 a).2 node
+marks-joined s t up a (at_top n) = ap (λ (top : Option ℤ). reaches top n) (top-joined s.top t.top ((order-parts s t).0 a).3)
+
 -- to a content that has what there was before, a change is what came to be
-pub changed-onto : (m s t : Content) → IsOrdered t → length s.counts ≤ length t.counts → IsContentAtMost s t → IsContentAtMost s m → join_contents m (changed_content s t) ≡ join_contents m t
-changed-onto m s t up long a b =
+pub changed-onto : (m s t : Content) → IsOrdered t → IsContentAtMost s t → IsContentAtMost s m → join_contents m (changed_content s t) ≡ join_contents m t
+changed-onto m s t up a b =
     same_from_content_mark (join_contents m (changed_content s t)) (join_contents m t) (ordered-join m (changed_content s t)) (ordered-join m t)
     (omega (arith, counts-join m (changed_content s t), counts-join m t, length-changed_counts s.counts t.counts))
-    (λ k. omega (arith, content_mark-join m (changed_content s t) k, content_mark-join m t k, content_mark-join s (changed_content s t) k, ap (λ (c : Content). content_mark c k) (changed-joined s t up long a), b k))
+    (λ k. omega (arith, content_mark-join m (changed_content s t) k, content_mark-join m t k, content_mark-join s (changed_content s t) k, marks-joined s t up a k, b k))
 
 -- from nothing everything is new
-pub changed-from_nothing : (s t : Content) → IsOrdered t → length s.counts ≤ length t.counts → IsContentAtMost s t → IsContentAtMost s least → changed_content s t ≡ t
-changed-from_nothing s t up long a none =
+pub changed-from_nothing : (s t : Content) → IsOrdered t → IsContentAtMost s t → IsContentAtMost s least → changed_content s t ≡ t
+changed-from_nothing s t up a none =
     same_from_content_mark (changed_content s t) t (changed-ordered s t up) up (length-changed_counts s.counts t.counts)
-    (λ k. omega (arith, content_mark-join s (changed_content s t) k, ap (λ (c : Content). content_mark c k) (changed-joined s t up long a), none k, content_mark-least k))
+    (λ k. omega (arith, content_mark-join s (changed_content s t) k, marks-joined s t up a k, none k, content_mark-least k))
 
 pub ruleset changes = (rows-changed, values-changed, content_counts-changed, content_top-changed, changed-joined, changed-ordered)

@@ -51,12 +51,12 @@ module _ (g : List Decl) (nodes : ℕ) (commands : List Command) (f : Followed) 
       inr (subst (λ (r : Run). IsToldAmong g nodes commands (message_at r.graph (peer_at r.peers p))) same
       (record { done = commands; rest = []; all = append-nil commands; at = f; place = place; node = p; member = member; is = refl }))
 
-  pub applied-place : Travels s → (p i : ℕ) → p < nodes → i < length s.run.sent → IsMessage (mine p)
+  pub applied-place : Travels s → (p i : ℕ) → p < nodes → i < length s.run.sent
       → applied (mine p) (delta_number s i) ≡ unless (first_gap 0 (peer_at s.run.peers p).counts (delta_number s i).from) (limited (joined (mine p) (sent_number s.run.sent i)))
-  applied-place travels p i member within present =
+  applied-place travels p i member within =
       let d = travels.deltas i within in
       let by = delta-world (told_by s.run d.number) (sent_number s.run.sent i) (mine p)
-      (record { graph = g; nodes = nodes; commands = commands; at = f; place = place; earlier = told-in d.number d.there; later = sent-in i within; third = mine-in p member }) d.lawful d.whole present d.earlier in
+      (record { graph = g; nodes = nodes; commands = commands; at = f; place = place; earlier = told-in d.number d.there; later = sent-in i within; third = mine-in p member }) d.earlier in
       subst (λ (e : Delta). applied (mine p) e ≡ unless (first_gap 0 (peer_at s.run.peers p).counts e.from) (limited (joined (mine p) (sent_number s.run.sent i)))) (sym d.delta) by
 
   -- what the delta carries brings a node as much as the message, where it counts all that the delta goes on from
@@ -70,5 +70,5 @@ module _ (g : List Decl) (nodes : ℕ) (commands : List Command) (f : Followed) 
       subst (λ (e : Delta). BringsAsMuch s.run.graph (peer_at s.run.peers p).contents (sent_number s.run.sent i) (carried e)) (sym d.delta)
       (subst (λ (r : Run). BringsAsMuch r.graph (peer_at r.peers p).contents (sent_number s.run.sent i) (carried (delta_of (told_by s.run d.number) (sent_number s.run.sent i)))) same
       (delta-brings f.run.graph nodes f.deltas (told_by s.run d.number) (sent_number s.run.sent i) (peer_at f.run.peers p) told.carries
-      (sends-known f.run.graph nodes f.deltas (peer_at f.run.peers p).contents (peer_at f.run.peers p).counts holds) holds.long (holds.wide ∙ sym sent.wide) d.lawful d.whole d.earlier
+      (sends-known f.run.graph nodes f.deltas (peer_at f.run.peers p).contents (peer_at f.run.peers p).counts holds) holds.long (holds.wide ∙ sym sent.wide) sent.ordered d.earlier
       (subst (λ (r : Run). first_gap 0 (peer_at r.peers p).counts (told_by s.run d.number).counts ≡ None) (sym same) (subst (λ (e : Delta). first_gap 0 (peer_at s.run.peers p).counts e.from ≡ None) d.delta none))))

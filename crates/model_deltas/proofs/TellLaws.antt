@@ -1,25 +1,28 @@
 -- Messages of one world: each is known by its counts at every later place, is of the graph that has grown there, and goes before what its node tells there.
-use Rattle.std.proofs.Common.{◌≡◌, ℕ, ◌<◌, inl, inr, List, [], ◌++◌, length, refl, sym, ap, subst, ◌∙◌, append_assoc, append-nil, arith}
+use Rattle.std.proofs.Common.{◌≡◌, ℕ, ◌≤◌, ◌<◌, ◌⊎◌, inl, inr, List, [], ◌++◌, length, refl, sym, ap, subst, ◌∙◌, append_assoc, append-nil, arith}
 use Rattle.model_states.specs.Counts.{AreCountsAtMost}
+use Rattle.model_states.specs.Content.{IsOrdered}
 use Rattle.model_states.proofs.CountLaws.{count_at-zeros, length-zeros}
+use Rattle.model_states.proofs.ContentLaws.{ordered-least}
 use Rattle.model_graph.specs.Graph.{Decl}
 use Rattle.model_graph.specs.Lawful.{sources_among}
-use Rattle.model_graph.specs.Message.{Message}
-use Rattle.model_graph.proofs.MessageLaws.{sent-among, among-append}
+use Rattle.model_graph.specs.Message.{Message, sent_at}
+use Rattle.model_graph.proofs.PlaceLaws.{below-or-not}
+use Rattle.model_graph.proofs.MessageLaws.{sent-is, sent-past, sent-length, sent-among, among-append}
 use Rattle.model_world.specs.Command.{Command}
-use Rattle.model_world.specs.World.{peer_at}
+use Rattle.model_world.specs.World.{Peer, peer_at, message_at}
 use Rattle.model_world.specs.Delta as known
 use Rattle.model_world.specs.Follow.{Followed}
 use Rattle.model_world.specs.Holds.{Holds, Carries, IsPlaceOf}
 use Rattle.model_world.proofs.HoldLaws.{sends-known}
 use Rattle.model_world.proofs.PlayLaws.{place-sound}
 use Rattle.model_world.proofs.SoundLaws.{IsSound}
-use Rattle.model_wire.specs.Lawful.{IsMessage}
+use Rattle.model_world.proofs.VariableLaws.{known-ordered}
 use Rattle.model_deltas.specs.Before.{IsBefore, AreAlike}
-use Rattle.model_deltas.specs.World.{nothing_told, told_at, IsMessageIn, AreOfOneWorld, DeltaStandsFor}
+use Rattle.model_deltas.specs.World.{nothing_told, told_at, IsInOrder, IsMessageIn, AreOfOneWorld, DeltaStandsFor}
 use Rattle.model_deltas.proofs.BeginLaws.{decls_of, alike-begun, before-from, nothing-carries}
 use Rattle.model_deltas.proofs.WayLaws.{GoesOn, goes-on}
-use Rattle.model_deltas.proofs.WorldLaws.{holds-more, delta-known}
+use Rattle.model_deltas.proofs.WorldLaws.{HasSource, source-there, holds-more, delta-known}
 
 -- what holds of a message of a world
 pub record IsOfWorld (g : List Decl) (nodes : ℕ) (all : List (List known.Delta)) (m : Message) : Type 0 where
@@ -27,6 +30,20 @@ pub record IsOfWorld (g : List Decl) (nodes : ℕ) (all : List (List known.Delta
   pub wide : length m.counts ≡ nodes
   pub more : List Decl
   pub begins : decls_of m.sources ++ more ≡ sources_among g
+  pub ordered : IsInOrder m
+
+-- what a node tells is in order, since all that is known is
+told-ordered : (g : List Decl) (nodes : ℕ) (all : List (List known.Delta)) (r : Peer) → Holds g nodes all r.contents r.counts → IsInOrder (message_at g r)
+told-ordered g nodes all r h j = choose (below-or-not j (length (message_at g r).sources)) where
+  knows : HasSource g j → IsOrdered (sent_at (message_at g r).sources j)
+  knows x =
+      let is : sent_at (message_at g r).sources j ≡ known.known g nodes all r.counts x.var =
+      ap (sent_at (message_at g r).sources) (sym x.place) ∙ sent-is g r.contents x.var x.declared h.long x.source ∙ h.knows x.var x.declared in
+      subst IsOrdered (sym is) (known-ordered g nodes all r.counts x.var)
+
+  choose : (j < length (message_at g r).sources) ⊎ (length (message_at g r).sources ≤ j) → IsOrdered (sent_at (message_at g r).sources j)
+  choose (inl low) = knows (source-there g j (omega (arith, low, sent-length g r.contents h.long)))
+  choose (inr past) = subst IsOrdered (sym (sent-past (message_at g r).sources j past)) ordered-least
 
 told-here : (nodes : ℕ) (f : Followed) (p : ℕ) → IsSound nodes f → p < nodes → IsOfWorld f.run.graph nodes f.deltas (told_at f p)
 told-here nodes f p s member =
@@ -36,10 +53,11 @@ told-here nodes f p s member =
       wide = h.wide;
       more = [];
       begins = append-nil (decls_of (told_at f p).sources) ∙ sent-among f.run.graph (peer_at f.run.peers p).contents h.long;
+      ordered = told-ordered f.run.graph nodes f.deltas (peer_at f.run.peers p) h;
     }
 
 nothing-here : (g : List Decl) (nodes : ℕ) (all : List (List known.Delta)) → IsOfWorld g nodes all (nothing_told nodes)
-nothing-here g nodes all = record { carries = nothing-carries g nodes all; wide = length-zeros nodes; more = sources_among g; begins = refl }
+nothing-here g nodes all = record { carries = nothing-carries g nodes all; wide = length-zeros nodes; more = sources_among g; begins = refl; ordered = λ j. ordered-least }
 
 told-later : (nodes : ℕ) (f last : Followed) (m : Message) → GoesOn nodes f last → IsOfWorld f.run.graph nodes f.deltas m → IsOfWorld last.run.graph nodes last.deltas m
 told-later nodes f last m way h = record {
@@ -47,6 +65,7 @@ told-later nodes f last m way h = record {
   wide = h.wide;
   more = h.more ++ sources_among way.more;
   begins = sym (append_assoc (decls_of m.sources) h.more (sources_among way.more)) ∙ ap (λ (ds : List Decl). ds ++ sources_among way.more) h.begins ∙ sym (among-append f.run.graph way.more) ∙ ap sources_among way.graph;
+  ordered = h.ordered;
 }
 
 pub in-world : (g : List Decl) (nodes : ℕ) (commands : List Command) (f : Followed) → IsPlaceOf g nodes commands f → (m : Message) → IsMessageIn g nodes commands m → IsOfWorld f.run.graph nodes f.deltas m
@@ -86,7 +105,8 @@ told-before g nodes commands more f last at there p member =
 
 -- ---- and so do the deltas between them
 
-pub delta-world : (before after m : Message) → AreOfOneWorld before after m → IsMessage before → IsMessage after → IsMessage m → IsBefore before after → DeltaStandsFor before after m
-delta-world before after m w hb ha hm step =
-    delta-known w.at.run.graph w.nodes w.at.deltas before after m (in-world w.graph w.nodes w.commands w.at w.place before w.earlier).carries (in-world w.graph w.nodes w.commands w.at w.place m w.third).carries hb ha hm step
+pub delta-world : (before after m : Message) → AreOfOneWorld before after m → IsBefore before after → DeltaStandsFor before after m
+delta-world before after m w step =
+    delta-known w.at.run.graph w.nodes w.at.deltas before after m (in-world w.graph w.nodes w.commands w.at w.place before w.earlier).carries (in-world w.graph w.nodes w.commands w.at w.place m w.third).carries
+    (in-world w.graph w.nodes w.commands w.at w.place after w.later).ordered step
     (worlds-alike w.graph w.nodes w.commands w.at w.place m after w.third w.later)

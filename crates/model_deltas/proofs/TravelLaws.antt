@@ -27,7 +27,7 @@ use Rattle.model_deltas.specs.Applied.{first_gap, joined, limited, unless, appli
 use Rattle.model_deltas.specs.Before.{IsBefore, AreAlike}
 use Rattle.model_deltas.proofs.BeginLaws.{alike-from, before-from, nothing-carries}
 use Rattle.model_deltas.proofs.RiseLaws.{counts-itself, counts-rise, peers-stay}
-use Rattle.model_deltas.proofs.WorldLaws.{delta-known, holds-more}
+use Rattle.model_deltas.proofs.WorldLaws.{message-ordered, delta-known, holds-more}
 use Rattle.model_deltas.specs.Gossip.{Gossip, nothing_told, told_in, told_by, last_told, no_delta, delta_number, gossip_after, gossip_each, gossip_start}
 use Rattle.model_deltas.specs.Going.{IsSentNumber, IsTold, IsDeltaTo, Travels, IsGoing}
 use Rattle.model_deltas.proofs.SourceLaws.{decls-changed, begins-by}
@@ -365,11 +365,11 @@ module _ (nodes : ℕ) (stage : Stage) (s : Gossip) (p i : ℕ) (going : IsGoing
       })
 
   -- and brings what the message brings
-  pub applied-delta : IsMessage mine → applied mine (delta_number s i) ≡ unless (first_gap 0 (peer_at s.run.peers p).counts (delta_number s i).from) (limited (joined mine (sent_number s.run.sent i)))
-  applied-delta present =
+  pub applied-delta : applied mine (delta_number s i) ≡ unless (first_gap 0 (peer_at s.run.peers p).counts (delta_number s i).from) (limited (joined mine (sent_number s.run.sent i)))
+  applied-delta =
       let d = going.travels.deltas i within in
       let by = delta-known s.run.graph nodes going.followed.deltas (told_by s.run d.number) (sent_number s.run.sent i) mine (carries-told d.number)
-      (sends-known s.run.graph nodes going.followed.deltas (peer_at s.run.peers p).contents (peer_at s.run.peers p).counts mine-holds) d.lawful d.whole present d.earlier alike-sent in
+      (sends-known s.run.graph nodes going.followed.deltas (peer_at s.run.peers p).contents (peer_at s.run.peers p).counts mine-holds) (message-ordered (sent_number s.run.sent i) d.whole) d.earlier alike-sent in
       subst (λ (e : Delta). applied mine e ≡ unless (first_gap 0 (peer_at s.run.peers p).counts e.from) (limited (joined mine (sent_number s.run.sent i)))) (sym d.delta) by
 
   pub delta-wide : length (peer_at s.run.peers p).counts ≡ length (delta_number s i).from
@@ -383,7 +383,7 @@ module _ (nodes : ℕ) (stage : Stage) (s : Gossip) (p i : ℕ) (going : IsGoing
       let d = going.travels.deltas i within in
       subst (λ (e : Delta). BringsAsMuch s.run.graph (peer_at s.run.peers p).contents (sent_number s.run.sent i) (carried e)) (sym d.delta)
       (delta-brings s.run.graph nodes going.followed.deltas (told_by s.run d.number) (sent_number s.run.sent i) (peer_at s.run.peers p) (carries-told d.number)
-      (sends-known s.run.graph nodes going.followed.deltas (peer_at s.run.peers p).contents (peer_at s.run.peers p).counts mine-holds) mine-holds.long (mine-holds.wide ∙ sym to.wide) d.lawful d.whole d.earlier
+      (sends-known s.run.graph nodes going.followed.deltas (peer_at s.run.peers p).contents (peer_at s.run.peers p).counts mine-holds) mine-holds.long (mine-holds.wide ∙ sym to.wide) (message-ordered (sent_number s.run.sent i) d.whole) d.earlier
       (subst (λ (e : Delta). first_gap 0 (peer_at s.run.peers p).counts e.from ≡ None) d.delta none))
 
 -- ---- the beginning

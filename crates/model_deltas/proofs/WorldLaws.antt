@@ -4,22 +4,21 @@ use Rattle.std.specs.List.{AllByRecursion}
 use Rattle.model_states.specs.Counts.{larger, AreCountsAtMost}
 use Rattle.model_states.specs.Content.{Content, least, join_contents, Key, at_row, at_value, at_count, at_top, content_mark, IsContentAtMost, IsOrdered}
 use Rattle.model_states.proofs.CountLaws.{count_at-zeros, larger-at_most}
-use Rattle.model_states.proofs.ContentLaws.{content_mark-join, content_mark-least, at_most-least}
-use Rattle.model_states.proofs.DeltaLaws.{shape-counts}
+use Rattle.model_states.proofs.ContentLaws.{content_mark-join, content_mark-least, ordered-least, at_most-least}
 use Rattle.model_graph.specs.Graph.{Kind, OrSet, GSet, Counter, MaxReg, Union, Product, Intersection, Map, Filter, Fold, Decl, is_source, kind_at}
 use Rattle.model_graph.specs.Evaluation.{least_of}
-use Rattle.model_graph.specs.Lawful.{shape_of}
 use Rattle.model_graph.proofs.PlaceLaws.{below-or-not}
 use Rattle.model_graph.specs.Message.{Sent, Message, source_number, sent_at}
 use Rattle.model_graph.proofs.MessageLaws.{sent-past}
 use Rattle.model_world.specs.Delta as known
 use Rattle.model_world.specs.Holds.{Carries}
 use Rattle.model_world.proofs.KnownLaws.{known-larger}
-use Rattle.model_runs.proofs.SourceLaws.{source-shape, source-ordered}
-use Rattle.model_wire.specs.Lawful.{IsSource, IsSent, IsMessage}
+use Rattle.model_runs.proofs.SourceLaws.{source-ordered}
+use Rattle.model_wire.specs.Lawful.{IsSent, IsMessage}
 use Rattle.model_deltas.specs.Delta.{changed_content, changed_sources, delta_of, carried}
 use Rattle.model_deltas.specs.Applied.{Cause, first_gap, joined_sources, joined, limited, unless, applied}
 use Rattle.model_deltas.specs.Before.{AreSourcesBefore, IsBefore, AreAlike}
+use Rattle.model_deltas.specs.World.{IsInOrder}
 use Rattle.model_deltas.proofs.ChangeLaws.{changed-onto, changed-from_nothing}
 use Rattle.model_deltas.proofs.AppliedLaws.{no-gap}
 use Rattle.model_world.proofs.StopLaws.{shifted}
@@ -28,41 +27,43 @@ use Rattle.model_world.proofs.StopLaws.{shifted}
 
 pub record IsStep (s m t : Content) : Type 0 where
   pub ordered : IsOrdered t
-  pub long : length s.counts ≤ length t.counts
   pub later : IsContentAtMost s t
   pub known : IsContentAtMost s m
 
 abbrev pub AreSteps : List Sent → ℕ → List Sent → List Sent → Type 0
-AreSteps before i ss ts = (j : ℕ) → j < length ts → IsStep (sent_at before (i + j)) (sent_at ss j) (sent_at ts j)
+AreSteps before i ss ts = (j : ℕ) → IsStep (sent_at before (i + j)) (sent_at ss j) (sent_at ts j)
 
 pub joined-changed : (before : List Sent) (i : ℕ) (ss ts : List Sent) → AreSteps before i ss ts → joined_sources ss (changed_sources before i ts) ≡ joined_sources ss ts
 joined-changed before i ss [] steps = refl
 joined-changed before i [] (t ∷ ts) steps =
-    let first : IsStep (sent_at before i) least t.content = subst (λ (n : ℕ). IsStep (sent_at before n) least t.content) (add-zero i) (steps 0 (omega arith)) in
-    let same : changed_content (sent_at before i) t.content ≡ t.content = changed-from_nothing (sent_at before i) t.content first.ordered first.long first.later first.known in
-    let rest : changed_sources before (i + 1) ts ≡ ts = joined-changed before (i + 1) [] ts (λ j low. subst (λ (n : ℕ). IsStep (sent_at before n) least (sent_at ts j)) ((sym (shifted i j))) (steps (suc j) (omega (arith, low)))) in
+    let first : IsStep (sent_at before i) least t.content = subst (λ (n : ℕ). IsStep (sent_at before n) least t.content) (add-zero i) (steps 0) in
+    let same : changed_content (sent_at before i) t.content ≡ t.content = changed-from_nothing (sent_at before i) t.content first.ordered first.later first.known in
+    let rest : changed_sources before (i + 1) ts ≡ ts = joined-changed before (i + 1) [] ts (λ j. subst (λ (n : ℕ). IsStep (sent_at before n) least (sent_at ts j)) ((sym (shifted i j))) (steps (suc j))) in
     λ k. record { decl = t.decl; content = same k } ∷ rest k
 joined-changed before i (s ∷ ss) (t ∷ ts) steps =
-    let first : IsStep (sent_at before i) s.content t.content = subst (λ (n : ℕ). IsStep (sent_at before n) s.content t.content) (add-zero i) (steps 0 (omega arith)) in
+    let first : IsStep (sent_at before i) s.content t.content = subst (λ (n : ℕ). IsStep (sent_at before n) s.content t.content) (add-zero i) (steps 0) in
     let same : join_contents s.content (changed_content (sent_at before i) t.content) ≡ join_contents s.content t.content =
-    changed-onto s.content (sent_at before i) t.content first.ordered first.long first.later first.known in
+    changed-onto s.content (sent_at before i) t.content first.ordered first.later first.known in
     let rest : joined_sources ss (changed_sources before (i + 1) ts) ≡ joined_sources ss ts =
-    joined-changed before (i + 1) ss ts (λ j low. subst (λ (n : ℕ). IsStep (sent_at before n) (sent_at ss j) (sent_at ts j)) ((sym (shifted i j))) (steps (suc j) (omega (arith, low)))) in
+    joined-changed before (i + 1) ss ts (λ j. subst (λ (n : ℕ). IsStep (sent_at before n) (sent_at ss j) (sent_at ts j)) ((sym (shifted i j))) (steps (suc j))) in
     λ k. record { decl = s.decl; content = same k } ∷ rest k
 
 -- ---- from an earlier message to a later one
 
-same-counts : (nodes : ℕ) (s t : Sent) → s.decl ≡ t.decl → IsSent nodes s → IsSent nodes t → length s.content.counts ≡ length t.content.counts
-same-counts nodes s t e h g =
-    shape-counts (shape_of nodes t.decl.kind) s.content t.content (source-shape nodes t.decl.kind s.content (subst (λ (d : Decl). IsSource nodes d.kind s.content) e h.1)) (source-shape nodes t.decl.kind t.content g.1)
+pub later-sources : (bs ts : List Sent) → AreSourcesBefore bs ts → (j : ℕ) → IsContentAtMost (sent_at bs j) (sent_at ts j)
+later-sources [] ts before j = at_most-least (sent_at ts j)
+later-sources (b ∷ bs) [] before j = absurd before
+later-sources (b ∷ bs) (t ∷ ts) before zero = before.1
+later-sources (b ∷ bs) (t ∷ ts) before (suc j) = later-sources bs ts before.2 j
 
-pub later-sources : (nodes : ℕ) (bs ts : List Sent) → AreSourcesBefore bs ts → AllByRecursion (IsSent nodes) bs → AllByRecursion (IsSent nodes) ts → (j : ℕ) → j < length ts
-    → IsOrdered (sent_at ts j) × (length (sent_at bs j).counts ≤ length (sent_at ts j).counts) × IsContentAtMost (sent_at bs j) (sent_at ts j)
-later-sources nodes bs [] before h g j low = absurd (omega (arith, low))
-later-sources nodes [] (t ∷ ts) before h g zero low = (source-ordered nodes t.decl.kind t.content g.0.1, omega arith, at_most-least t.content)
-later-sources nodes [] (t ∷ ts) before h g (suc j) low = later-sources nodes [] ts tt tt g.1 j (omega (arith, low))
-later-sources nodes (b ∷ bs) (t ∷ ts) before h g zero low = (source-ordered nodes t.decl.kind t.content g.0.1, omega (arith, same-counts nodes b t before.0 h.0 g.0), before.1)
-later-sources nodes (b ∷ bs) (t ∷ ts) before h g (suc j) low = later-sources nodes bs ts before.2 h.1 g.1 j (omega (arith, low))
+-- what is within the ranges of the format is in order
+each-ordered : (nodes : ℕ) (ts : List Sent) → AllByRecursion (IsSent nodes) ts → (j : ℕ) → IsOrdered (sent_at ts j)
+each-ordered nodes [] h j = ordered-least
+each-ordered nodes (t ∷ ts) h zero = source-ordered nodes t.decl.kind t.content h.0.1
+each-ordered nodes (t ∷ ts) h (suc j) = each-ordered nodes ts h.1 j
+
+pub message-ordered : (m : Message) → IsMessage m → IsInOrder m
+message-ordered m h = each-ordered (length m.counts) m.sources h.sources
 
 -- ---- counts tell what is held
 
@@ -91,7 +92,7 @@ pub record HasSource (g : List Decl) (j : ℕ) : Type 0 where
   pub source : IsTrue (is_source (kind_at g var))
   pub place : source_number g var ≡ j
 
-source-there : (g : List Decl) (j : ℕ) → j < source_number g (length g) → HasSource g j
+pub source-there : (g : List Decl) (j : ℕ) → j < source_number g (length g) → HasSource g j
 source-there [] j low = absurd (omega (arith, low))
 source-there (d ∷ g) j low = choose (source-there g) (is_source d.kind) refl j low where
   choose : ((j : ℕ) → j < source_number g (length g) → HasSource g j) → (b : Bool) → is_source d.kind ≡ b → (j : ℕ) → j < (if b then source_number g (length g) + 1 else source_number g (length g)) → HasSource (d ∷ g) j
@@ -140,15 +141,14 @@ module _ (g : List Decl) (nodes : ℕ) (all : List (List known.Delta)) where
     choose (inl low) = knows (source-there g j (let few = cb.few in omega (arith, low, few)))
     choose (inr past) = omega (arith, ap (λ (c : Content). content_mark c k) (sent-past b.sources j past), content_mark-least k)
 
-  pub known-delta : (before after m : Message) → Carries g nodes all before → Carries g nodes all m → IsMessage before → IsMessage after → IsMessage m → IsBefore before after → AreAlike m after
+  pub known-delta : (before after m : Message) → Carries g nodes all before → Carries g nodes all m → IsInOrder after → IsBefore before after → AreAlike m after
       → applied m (delta_of before after) ≡ unless (first_gap 0 m.counts before.counts) (limited (joined m after))
-  known-delta before after m cb cm hb ha hm step alike = choose (first_gap 0 m.counts before.counts) refl where
+  known-delta before after m cb cm up step alike = choose (first_gap 0 m.counts before.counts) refl where
     steps : AreCountsAtMost before.counts m.counts → AreSteps before.sources 0 m.sources after.sources
-    steps counts j low =
-        let later = later-sources (length after.counts) before.sources after.sources step.sources (subst (λ (n : ℕ). AllByRecursion (IsSent n) before.sources) step.nodes hb.sources) ha.sources j low in
+    steps counts j =
         let long : length before.counts ≤ length m.counts = (let e = step.nodes in let f = alike.nodes in omega (arith, e, f)) in
         subst (λ (n : ℕ). IsStep (sent_at before.sources n) (sent_at m.sources j) (sent_at after.sources j)) (let start : j ≡ 0 + j = omega arith in start)
-        (record { ordered = later.0; long = later.1; later = later.2; known = holds-more before m cb cm long counts j })
+        (record { ordered = up j; later = later-sources before.sources after.sources step.sources j; known = holds-more before m cb cm long counts j })
 
     same : AreCountsAtMost before.counts m.counts → joined m (carried (delta_of before after)) ≡ joined m after
     same counts = λ i. record { counts = larger m.counts after.counts; sources = joined-changed before.sources 0 m.sources after.sources (steps counts) i }
@@ -158,5 +158,5 @@ module _ (g : List Decl) (nodes : ℕ) (all : List (List known.Delta)) where
     choose None e = ap limited (same ((no-gap m.counts before.counts).0 e))
 
 pub delta-known : (g : List Decl) (nodes : ℕ) (all : List (List known.Delta)) (before after m : Message) → Carries g nodes all before → Carries g nodes all m
-    → IsMessage before → IsMessage after → IsMessage m → IsBefore before after → AreAlike m after → applied m (delta_of before after) ≡ unless (first_gap 0 m.counts before.counts) (limited (joined m after))
+    → IsInOrder after → IsBefore before after → AreAlike m after → applied m (delta_of before after) ≡ unless (first_gap 0 m.counts before.counts) (limited (joined m after))
 delta-known g nodes all = known-delta g nodes all

@@ -33,7 +33,6 @@ pub fn messages_travel_as_deltas()
 /// At each place of a lawful run the delta of a message, applied to what a node would send, is what both have together, unless there is a gap or a source would be too large; and a node that takes what it has together with a message holds what it would hold by the message. Where there is no gap, what the delta carries brings the node as much as the message, so that it may be joined in alone.
 pub fn deliveries_by_deltas_bring_the_message()
     ensures applied { (g : List Decl) (nodes : ℕ) (commands : List Command) (f : Followed) (s : Gossip) → IsPlaceOf g nodes commands f → f.run ≡ s.run → Travels s → (p i : ℕ) → p < nodes → i < length s.run.sent
-        → IsMessage (message_at s.run.graph (peer_at s.run.peers p))
         → applied (message_at s.run.graph (peer_at s.run.peers p)) (delta_number s i) ≡ unless (first_gap 0 (peer_at s.run.peers p).counts (delta_number s i).from) (limited (joined (message_at s.run.graph (peer_at s.run.peers p)) (sent_number s.run.sent i))) }
     ensures carried { (g : List Decl) (nodes : ℕ) (commands : List Command) (f : Followed) (s : Gossip) → IsPlaceOf g nodes commands f → f.run ≡ s.run → Travels s → (p i : ℕ) → p < nodes → i < length s.run.sent
         → first_gap 0 (peer_at s.run.peers p).counts (delta_number s i).from ≡ None → BringsAsMuch s.run.graph (peer_at s.run.peers p).contents (sent_number s.run.sent i) (carried (delta_number s i)) }

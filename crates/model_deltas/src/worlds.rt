@@ -8,15 +8,14 @@ ghost use Rattle.model_world.specs.World.{sent_number};
 ghost use Rattle.model_world.specs.Delta as known;
 ghost use Rattle.model_world.specs.Follow.{Followed};
 ghost use Rattle.model_world.specs.Holds.{IsPlaceOf, Carries};
-ghost use Rattle.model_wire.specs.Lawful.{IsMessage};
 ghost use Rattle.model_deltas.specs.Before.{IsBefore, AreAlike};
-ghost use Rattle.model_deltas.specs.World.{nothing_told, told_at, IsToldAmong, IsMessageIn, AreOfOneWorld, DeltaStandsFor};
+ghost use Rattle.model_deltas.specs.World.{nothing_told, told_at, IsInOrder, IsToldAmong, IsMessageIn, AreOfOneWorld, DeltaStandsFor};
 
-/// Between messages of one world a delta stands for its later message: applied to a third message it gives what that one and the later message have together, or is refused for a gap, or since a source of these would be too large. The step rests on counts alone: where no count of the third message is below the earlier one's, it holds what the earlier one holds. What is asked of the three messages beside this is that they are within the ranges of the format, as every message of a program is, and that the earlier one goes before the later one.
+/// Between messages of one world a delta stands for its later message: applied to a third message it gives what that one and the later message have together, or is refused for a gap, or since a source of these would be too large. The step rests on counts alone: where no count of the third message is below the earlier one's, it holds what the earlier one holds. What is asked of the three messages beside this is that the earlier one goes before the later one; nothing is asked of their ranges. Where no world is told, but what messages carry, the later one's sources have to be in order, too.
 pub fn deltas_stand_for_their_messages()
-    ensures world { (before after m : Message) → AreOfOneWorld before after m → IsMessage before → IsMessage after → IsMessage m → IsBefore before after → DeltaStandsFor before after m }
+    ensures world { (before after m : Message) → AreOfOneWorld before after m → IsBefore before after → DeltaStandsFor before after m }
     ensures known { (g : List Decl) (nodes : ℕ) (all : List (List known.Delta)) (before after m : Message) → Carries g nodes all before → Carries g nodes all m
-        → IsMessage before → IsMessage after → IsMessage m → IsBefore before after → AreAlike m after → DeltaStandsFor before after m }
+        → IsInOrder after → IsBefore before after → AreAlike m after → DeltaStandsFor before after m }
 {}
 
 /// The messages of a world go together. What was sent was told by a node on the way. Any two are of one graph and of as many nodes, so a delta to the one may be applied to the other. What a node tells at a place goes before what it tells at a later one, and nothing told goes before all: so there is a delta between two messages of a node in the order in which it made them, sent or not.

@@ -17,7 +17,7 @@ known-places g script f at p member = replica-contents g script.nodes at.done f 
 
 pub deltas-stand : (g : List Decl) (script : Script) → DeltasStand g script
 deltas-stand g script f at before after m told =
-    delta-world before after m (record { graph = g; nodes = script.nodes; commands = at.done; at = f; place = at.place; earlier = told.earlier; later = told.later; third = told.third }) told.earlier_whole told.later_whole told.third_whole told.in_order
+    delta-world before after m (record { graph = g; nodes = script.nodes; commands = at.done; at = f; place = at.place; earlier = told.earlier; later = told.later; third = told.third }) told.in_order
 
 -- the first of two beginnings of a list begins the second, or the second the first
 data AreBeginnings (a c : List Command) : Type 0 where

@@ -3,7 +3,6 @@ use Rattle.std.specs.Prelude.{◌≡◌, ◌<◌, ◌++◌, ℕ, List}
 use Rattle.model_graph.specs.Graph.{Decl, kind_at}
 use Rattle.model_graph.specs.Evaluation.{content_at}
 use Rattle.model_graph.specs.Message.{Message}
-use Rattle.model_wire.specs.Lawful.{IsMessage}
 use Rattle.model_world.specs.Command.{Command, Script}
 use Rattle.model_world.specs.Line.{shown_content}
 use Rattle.model_world.specs.World.{peer_at, shown_at}
@@ -37,14 +36,11 @@ abbrev pub AreAlike : List Decl → Script → Type 0
 AreAlike g script = (f last : Followed) → IsPlaceIn g script f → IsPlaceIn g script last → f.run.graph ≡ last.run.graph
     → (p q : ℕ) → p < script.nodes → q < script.nodes → (peer_at f.run.peers p).counts ≡ (peer_at last.run.peers q).counts → IsAlike f last p q
 
--- three messages that nodes told on the way to a place, of which a delta may lead from the first to the second: all within the ranges of the format, and the first goes before the second
+-- three messages that nodes told on the way to a place, of which a delta may lead from the first to the second: the first goes before the second
 pub record AreToldThere (g : List Decl) (nodes : ℕ) (commands : List Command) (before after m : Message) : Type 0 where
   pub earlier : IsMessageIn g nodes commands before
   pub later : IsMessageIn g nodes commands after
   pub third : IsMessageIn g nodes commands m
-  pub earlier_whole : IsMessage before
-  pub later_whole : IsMessage after
-  pub third_whole : IsMessage m
   pub in_order : IsBefore before after
 
 -- at each place a delta between messages that nodes told on the way does to a third of these what its later message does

@@ -3,7 +3,7 @@ use Rattle.model_deltas.proofs.DeliveryLaws.{applied-place, carried-place}
 use Rattle.model_deltas.proofs.runs.deliveries_by_deltas_bring_the_message.Goals as goal
 
 pub returns-clause-applied : goal.returns-clause-applied
-returns-clause-applied c = λ g nodes commands f s place same travels p i member within present. applied-place g nodes commands f s place same travels p i member within present
+returns-clause-applied c = λ g nodes commands f s place same travels p i member within. applied-place g nodes commands f s place same travels p i member within
 
 pub returns-clause-carried : goal.returns-clause-carried
 returns-clause-carried c = λ g nodes commands f s place same travels p i member within none. carried-place g nodes commands f s place same travels p i member within none
