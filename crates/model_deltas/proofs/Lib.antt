@@ -12,6 +12,7 @@ pub mod PlaceLaws
 pub mod CountFails
 pub mod SourceFails
 pub mod StuckLaws
+pub mod CauseLaws
 pub mod SourceLaws
 pub mod BringLaws
 pub mod TravelLaws

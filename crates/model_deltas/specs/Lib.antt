@@ -4,6 +4,7 @@ pub mod Before
 pub mod Spelling
 pub mod Reader
 pub mod Stuck
+pub mod Causes
 pub mod World
 pub mod Gossip
 pub mod Going

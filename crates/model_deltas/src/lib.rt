@@ -18,5 +18,7 @@ pub use runs::{
     deliveries_by_deltas_bring_the_message, deltas_change_nothing_of_a_run,
     messages_travel_as_deltas,
 };
-pub use stuck::bytes_are_no_delta_where_they_are_stuck;
+pub use stuck::{
+    bytes_are_no_delta_where_they_are_stuck, parts_are_refused_for_causes_of_their_own,
+};
 pub use worlds::{deltas_stand_for_their_messages, messages_of_a_world_go_together};
