@@ -12,8 +12,7 @@ use Rattle.model_world.specs.Holds.{Carries}
 use Rattle.model_runs.specs.Part.{BringsAsMuch}
 use Rattle.model_deltas.specs.Delta.{delta_of, carried}
 use Rattle.model_deltas.specs.Applied.{first_gap}
-use Rattle.model_deltas.specs.Before.{IsBefore}
-use Rattle.model_deltas.specs.World.{IsInOrder}
+use Rattle.model_deltas.specs.Before.{IsBefore, IsInOrder}
 use Rattle.model_deltas.proofs.AppliedLaws.{no-gap}
 use Rattle.model_deltas.proofs.ChangeLaws.{changed-onto}
 use Rattle.model_deltas.proofs.DeltaLaws.{delta-source, delta-length}

@@ -13,23 +13,26 @@ use Rattle.model_runs.proofs.EachLaws.{each-larger}
 use Rattle.model_runs.proofs.SourceLaws.{source-ordered, source-join}
 use Rattle.model_deltas.specs.Delta.{Delta, carried}
 use Rattle.model_deltas.specs.Applied.{joined_sources, joined, contents_of, applied}
-use Rattle.model_deltas.specs.Before.{AreSourcesAlike, AreAlike, IsDelta}
+use Rattle.model_deltas.specs.Before.{AreSourcesAlike, AreAlike, IsDelta, IsInOrder}
 use Rattle.model_deltas.proofs.AppliedLaws.{cause-done}
 
 -- what a lawful source has is ordered, and so is the least that stands for one that isn't there
-pub sent-ordered : (nodes : ℕ) (sources : List Sent) → AllByRecursion (IsSent nodes) sources → (i : ℕ) → IsOrdered (sent_at sources i)
+sent-ordered : (nodes : ℕ) (sources : List Sent) → AllByRecursion (IsSent nodes) sources → (i : ℕ) → IsOrdered (sent_at sources i)
 sent-ordered nodes [] h i = ordered-least
 sent-ordered nodes (s ∷ sources) h zero = source-ordered nodes s.decl.kind s.content h.0.1
 sent-ordered nodes (s ∷ sources) h (suc i) = sent-ordered nodes sources h.1 i
 
-joined-at : (nodes more : ℕ) (ss ts : List Sent) → AllByRecursion (IsSent nodes) ss → AllByRecursion (IsSent more) ts → (i : ℕ) → sent_at (joined_sources ss ts) i ≡ join_contents (sent_at ss i) (sent_at ts i)
-joined-at nodes more [] ts h g i = sym (join-commutative least (sent_at ts i) ∙ join-nothing (sent_at ts i) (sent-ordered more ts g i))
-joined-at nodes more (s ∷ ss) [] h g i = sym (join-nothing (sent_at (s ∷ ss) i) (sent-ordered nodes (s ∷ ss) h i))
-joined-at nodes more (s ∷ ss) (t ∷ ts) h g zero = refl
-joined-at nodes more (s ∷ ss) (t ∷ ts) h g (suc i) = joined-at nodes more ss ts h.1 g.1 i
+pub message-ordered : (m : Message) → IsMessage m → IsInOrder m
+message-ordered m h = sent-ordered (length m.counts) m.sources h.sources
 
-pub joined-source : (m n : Message) (i : ℕ) → IsMessage m → IsMessage n → sent_at (joined m n).sources i ≡ join_contents (sent_at m.sources i) (sent_at n.sources i)
-joined-source m n i h g = joined-at (length m.counts) (length n.counts) m.sources n.sources h.sources g.sources i
+joined-at : (ss ts : List Sent) → ((i : ℕ) → IsOrdered (sent_at ss i)) → ((i : ℕ) → IsOrdered (sent_at ts i)) → (i : ℕ) → sent_at (joined_sources ss ts) i ≡ join_contents (sent_at ss i) (sent_at ts i)
+joined-at [] ts h g i = sym (join-commutative least (sent_at ts i) ∙ join-nothing (sent_at ts i) (g i))
+joined-at (s ∷ ss) [] h g i = sym (join-nothing (sent_at (s ∷ ss) i) (h i))
+joined-at (s ∷ ss) (t ∷ ts) h g zero = refl
+joined-at (s ∷ ss) (t ∷ ts) h g (suc i) = joined-at ss ts (λ j. h (suc j)) (λ j. g (suc j)) i
+
+pub joined-source : (m n : Message) (i : ℕ) → IsInOrder m → IsInOrder n → sent_at (joined m n).sources i ≡ join_contents (sent_at m.sources i) (sent_at n.sources i)
+joined-source m n i h g = joined-at m.sources n.sources h g i
 
 pub length-joined : (ss ts : List Sent) → length (joined_sources ss ts) ≡ max (length ss) (length ts)
 length-joined [] ts = omega arith

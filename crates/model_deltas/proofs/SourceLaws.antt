@@ -12,8 +12,7 @@ use Rattle.model_graph.specs.Message.{Sent, Message, source_number, sent_at, bro
 use Rattle.model_graph.proofs.MessageLaws.{sent-is, sent-among, among-append, gained-length, gained-at}
 use Rattle.model_world.specs.Command.{Command}
 use Rattle.model_world.specs.World.{Peer, peer_at, message_at, delivered}
-use Rattle.model_runs.specs.Held.{IsHeld, IsSentTo}
-use Rattle.model_runs.proofs.SourceLaws.{source-ordered}
+use Rattle.model_runs.specs.Held.{IsSentTo}
 use Rattle.model_world.specs.Holds.{IsPlaceOf}
 use Rattle.model_world.specs.Follow.{Followed}
 use Rattle.model_world.proofs.KnownLaws.{replica-holds}
@@ -21,8 +20,10 @@ use Rattle.model_world.proofs.VariableLaws.{known-ordered}
 use Rattle.model_wire.specs.Lawful.{IsNodes, AreAtMost, IsMessage}
 use Rattle.model_deltas.specs.Delta.{changed_sources}
 use Rattle.model_deltas.specs.Applied.{joined_sources, joined}
+use Rattle.model_deltas.specs.Before.{IsInOrder}
 use Rattle.model_deltas.proofs.BeginLaws.{decls_of, BeginsBy, tail-of}
 use Rattle.model_deltas.proofs.JoinedLaws.{joined-source}
+use Rattle.model_deltas.proofs.WorldLaws.{tells-ordered}
 use Rattle.model_deltas.specs.Gossip.{nothing_told}
 
 pub decls-changed : (before : List Sent) (i : ℕ) (after : List Sent) → decls_of (changed_sources before i after) ≡ decls_of after
@@ -57,9 +58,9 @@ begins-by nodes g r m long sent = (
 joins-twice : (a b : Content) → IsOrdered a → join_contents a (join_contents a b) ≡ join_contents a b
 joins-twice a b h = sym (join-associative a a b) ∙ ap (λ (c : Content). join_contents c b) (join-idempotent a h)
 
-pub taken-again : (g : List Decl) (r : Peer) (m : Message) → length r.contents ≡ length g → ((x : ℕ) → x < length g → IsTrue (is_source (kind_at g x)) → IsOrdered (content_at r.contents x)) → IsMessage (message_at g r) → IsMessage m
+pub taken-again : (g : List Decl) (r : Peer) (m : Message) → length r.contents ≡ length g → ((x : ℕ) → x < length g → IsTrue (is_source (kind_at g x)) → IsOrdered (content_at r.contents x)) → IsInOrder m
     → delivered g (joined (message_at g r) m) r ≡ delivered g m r
-taken-again g r m long ordered present lawful = λ i. record { contents = contents i; counts = counts i } where
+taken-again g r m long ordered lawful = λ i. record { contents = contents i; counts = counts i } where
   both : Message
   both = joined (message_at g r) m
 
@@ -70,7 +71,7 @@ taken-again g r m long ordered present lawful = λ i. record { contents = conten
   gain x low true e =
       let n = source_number g x in
       let here : sent_at both.sources n ≡ join_contents (content_at r.contents x) (sent_at m.sources n) =
-      joined-source (message_at g r) m n present lawful ∙ ap (λ (c : Content). join_contents c (sent_at m.sources n)) (sent-is g r.contents x low long e) in
+      joined-source (message_at g r) m n (tells-ordered g r long ordered) lawful ∙ ap (λ (c : Content). join_contents c (sent_at m.sources n)) (sent-is g r.contents x low long e) in
       ap (λ (b : Bool). with_gain (content_at r.contents x) (if b then Some (sent_at both.sources n) else None)) e
       ∙ ap (λ (c : Content). join_contents (content_at r.contents x) c) here
       ∙ joins-twice (content_at r.contents x) (sent_at m.sources n) (ordered x low e)
@@ -90,15 +91,12 @@ taken-again g r m long ordered present lawful = λ i. record { contents = conten
       ∙ ap (λ (i : ℕ). with_gain (content_at r.contents x) (brought g m i)) (from-nothing x)
       ∙ sym (gained-at (brought g m) 0 r.contents x within))
 
-pub taken-twice : (nodes : ℕ) (g : List Decl) (r : Peer) (m : Message) → IsHeld nodes g r → IsMessage (message_at g r) → IsMessage m → delivered g (joined (message_at g r) m) r ≡ delivered g m r
-taken-twice nodes g r m held present lawful = taken-again g r m held.long (λ x low source. source-ordered nodes (kind_at g x) (content_at r.contents x) (held.sources x low source)) present lawful
-
 -- so it is at each place of a lawful run
-pub taken-there : (g : List Decl) (nodes : ℕ) (commands : List Command) (f : Followed) → IsPlaceOf g nodes commands f → (p : ℕ) (m : Message) → p < nodes → IsMessage (message_at f.run.graph (peer_at f.run.peers p)) → IsMessage m
+pub taken-there : (g : List Decl) (nodes : ℕ) (commands : List Command) (f : Followed) → IsPlaceOf g nodes commands f → (p : ℕ) (m : Message) → p < nodes → IsInOrder m
     → delivered f.run.graph (joined (message_at f.run.graph (peer_at f.run.peers p)) m) (peer_at f.run.peers p) ≡ delivered f.run.graph m (peer_at f.run.peers p)
-taken-there g nodes commands f place p m member present lawful =
+taken-there g nodes commands f place p m member lawful =
     let h = replica-holds g nodes commands f place p member in
-    taken-again f.run.graph (peer_at f.run.peers p) m h.long (λ x low source. subst IsOrdered (sym (h.knows x low)) (known-ordered f.run.graph nodes f.deltas (peer_at f.run.peers p).counts x)) present lawful
+    taken-again f.run.graph (peer_at f.run.peers p) m h.long (λ x low source. subst IsOrdered (sym (h.knows x low)) (known-ordered f.run.graph nodes f.deltas (peer_at f.run.peers p).counts x)) lawful
 
 -- ---- before a node told anything
 

@@ -1,14 +1,13 @@
 -- Messages of one world: each is known by its counts at every later place, is of the graph that has grown there, and goes before what its node tells there.
-use Rattle.std.proofs.Common.{◌≡◌, ℕ, ◌≤◌, ◌<◌, ◌⊎◌, inl, inr, List, [], ◌++◌, length, refl, sym, ap, subst, ◌∙◌, append_assoc, append-nil, arith}
+use Rattle.std.proofs.Common.{◌≡◌, ℕ, ◌<◌, inl, inr, List, [], ◌++◌, length, refl, sym, ap, subst, ◌∙◌, append_assoc, append-nil, arith}
 use Rattle.model_states.specs.Counts.{AreCountsAtMost}
 use Rattle.model_states.specs.Content.{IsOrdered}
 use Rattle.model_states.proofs.CountLaws.{count_at-zeros, length-zeros}
 use Rattle.model_states.proofs.ContentLaws.{ordered-least}
 use Rattle.model_graph.specs.Graph.{Decl}
 use Rattle.model_graph.specs.Lawful.{sources_among}
-use Rattle.model_graph.specs.Message.{Message, sent_at}
-use Rattle.model_graph.proofs.PlaceLaws.{below-or-not}
-use Rattle.model_graph.proofs.MessageLaws.{sent-is, sent-past, sent-length, sent-among, among-append}
+use Rattle.model_graph.specs.Message.{Message}
+use Rattle.model_graph.proofs.MessageLaws.{sent-among, among-append}
 use Rattle.model_world.specs.Command.{Command}
 use Rattle.model_world.specs.World.{Peer, peer_at, message_at}
 use Rattle.model_world.specs.Delta as known
@@ -18,11 +17,11 @@ use Rattle.model_world.proofs.HoldLaws.{sends-known}
 use Rattle.model_world.proofs.PlayLaws.{place-sound}
 use Rattle.model_world.proofs.SoundLaws.{IsSound}
 use Rattle.model_world.proofs.VariableLaws.{known-ordered}
-use Rattle.model_deltas.specs.Before.{IsBefore, AreAlike}
-use Rattle.model_deltas.specs.World.{nothing_told, told_at, IsInOrder, IsMessageIn, AreOfOneWorld, DeltaStandsFor}
+use Rattle.model_deltas.specs.Before.{IsBefore, AreAlike, IsInOrder}
+use Rattle.model_deltas.specs.World.{nothing_told, told_at, IsMessageIn, AreOfOneWorld, DeltaStandsFor}
 use Rattle.model_deltas.proofs.BeginLaws.{decls_of, alike-begun, before-from, nothing-carries}
 use Rattle.model_deltas.proofs.WayLaws.{GoesOn, goes-on}
-use Rattle.model_deltas.proofs.WorldLaws.{HasSource, source-there, holds-more, delta-known}
+use Rattle.model_deltas.proofs.WorldLaws.{tells-ordered, holds-more, delta-known}
 
 -- what holds of a message of a world
 pub record IsOfWorld (g : List Decl) (nodes : ℕ) (all : List (List known.Delta)) (m : Message) : Type 0 where
@@ -34,16 +33,7 @@ pub record IsOfWorld (g : List Decl) (nodes : ℕ) (all : List (List known.Delta
 
 -- what a node tells is in order, since all that is known is
 told-ordered : (g : List Decl) (nodes : ℕ) (all : List (List known.Delta)) (r : Peer) → Holds g nodes all r.contents r.counts → IsInOrder (message_at g r)
-told-ordered g nodes all r h j = choose (below-or-not j (length (message_at g r).sources)) where
-  knows : HasSource g j → IsOrdered (sent_at (message_at g r).sources j)
-  knows x =
-      let is : sent_at (message_at g r).sources j ≡ known.known g nodes all r.counts x.var =
-      ap (sent_at (message_at g r).sources) (sym x.place) ∙ sent-is g r.contents x.var x.declared h.long x.source ∙ h.knows x.var x.declared in
-      subst IsOrdered (sym is) (known-ordered g nodes all r.counts x.var)
-
-  choose : (j < length (message_at g r).sources) ⊎ (length (message_at g r).sources ≤ j) → IsOrdered (sent_at (message_at g r).sources j)
-  choose (inl low) = knows (source-there g j (omega (arith, low, sent-length g r.contents h.long)))
-  choose (inr past) = subst IsOrdered (sym (sent-past (message_at g r).sources j past)) ordered-least
+told-ordered g nodes all r h = tells-ordered g r h.long (λ x low source. subst IsOrdered (sym (h.knows x low)) (known-ordered g nodes all r.counts x))
 
 told-here : (nodes : ℕ) (f : Followed) (p : ℕ) → IsSound nodes f → p < nodes → IsOfWorld f.run.graph nodes f.deltas (told_at f p)
 told-here nodes f p s member =
@@ -74,6 +64,9 @@ in-world g nodes commands f place m (inr told) =
     let there : IsPlaceOf g nodes (told.done ++ told.rest) f = subst (λ (ks : List Command). IsPlaceOf g nodes ks f) (sym told.all) place in
     subst (IsOfWorld f.run.graph nodes f.deltas) (sym told.is)
     (told-later nodes told.at f (told_at told.at told.node) (goes-on g nodes told.done told.rest told.at f told.place there) (told-here nodes told.at told.node (place-sound g nodes told.done told.at told.place) told.member))
+
+pub world-ordered : (g : List Decl) (nodes : ℕ) (commands : List Command) (f : Followed) → IsPlaceOf g nodes commands f → (m : Message) → IsMessageIn g nodes commands m → IsInOrder m
+world-ordered g nodes commands f place m a = (in-world g nodes commands f place m a).ordered
 
 -- ---- they go together
 

@@ -27,7 +27,8 @@ use Rattle.model_deltas.specs.Applied.{first_gap, joined, limited, unless, appli
 use Rattle.model_deltas.specs.Before.{IsBefore, AreAlike}
 use Rattle.model_deltas.proofs.BeginLaws.{alike-from, before-from, nothing-carries}
 use Rattle.model_deltas.proofs.RiseLaws.{counts-itself, counts-rise, peers-stay}
-use Rattle.model_deltas.proofs.WorldLaws.{message-ordered, delta-known, holds-more}
+use Rattle.model_deltas.proofs.JoinedLaws.{message-ordered}
+use Rattle.model_deltas.proofs.WorldLaws.{delta-known, holds-more}
 use Rattle.model_deltas.specs.Gossip.{Gossip, nothing_told, told_in, told_by, last_told, no_delta, delta_number, gossip_after, gossip_each, gossip_start}
 use Rattle.model_deltas.specs.Going.{IsSentNumber, IsTold, IsDeltaTo, Travels, IsGoing}
 use Rattle.model_deltas.proofs.SourceLaws.{decls-changed, begins-by}

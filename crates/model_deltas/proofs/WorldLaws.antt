@@ -1,24 +1,21 @@
 -- Deltas between messages that carry what is known by their counts.
 use Rattle.std.proofs.Common.{◌≡◌, ℕ, zero, suc, ◌+◌, ◌≤◌, ◌<◌, ◌⊎◌, inl, inr, Bool, true, false, if◌then◌else◌, IsTrue, List, [], ◌∷◌, length, Option, Some, None, refl, sym, ap, subst, ◌∙◌, arith, add-zero}
-use Rattle.std.specs.List.{AllByRecursion}
 use Rattle.model_states.specs.Counts.{larger, AreCountsAtMost}
 use Rattle.model_states.specs.Content.{Content, least, join_contents, Key, at_row, at_value, at_count, at_top, content_mark, IsContentAtMost, IsOrdered}
 use Rattle.model_states.proofs.CountLaws.{count_at-zeros, larger-at_most}
 use Rattle.model_states.proofs.ContentLaws.{content_mark-join, content_mark-least, ordered-least, at_most-least}
 use Rattle.model_graph.specs.Graph.{Kind, OrSet, GSet, Counter, MaxReg, Union, Product, Intersection, Map, Filter, Fold, Decl, is_source, kind_at}
-use Rattle.model_graph.specs.Evaluation.{least_of}
+use Rattle.model_graph.specs.Evaluation.{content_at, least_of}
 use Rattle.model_graph.proofs.PlaceLaws.{below-or-not}
 use Rattle.model_graph.specs.Message.{Sent, Message, source_number, sent_at}
-use Rattle.model_graph.proofs.MessageLaws.{sent-past}
+use Rattle.model_graph.proofs.MessageLaws.{sent-is, sent-past, sent-length}
+use Rattle.model_world.specs.World.{Peer, message_at}
 use Rattle.model_world.specs.Delta as known
 use Rattle.model_world.specs.Holds.{Carries}
 use Rattle.model_world.proofs.KnownLaws.{known-larger}
-use Rattle.model_runs.proofs.SourceLaws.{source-ordered}
-use Rattle.model_wire.specs.Lawful.{IsSent, IsMessage}
 use Rattle.model_deltas.specs.Delta.{changed_content, changed_sources, delta_of, carried}
 use Rattle.model_deltas.specs.Applied.{Cause, first_gap, joined_sources, joined, limited, unless, applied}
-use Rattle.model_deltas.specs.Before.{AreSourcesBefore, IsBefore, AreAlike}
-use Rattle.model_deltas.specs.World.{IsInOrder}
+use Rattle.model_deltas.specs.Before.{AreSourcesBefore, IsBefore, AreAlike, IsInOrder}
 use Rattle.model_deltas.proofs.ChangeLaws.{changed-onto, changed-from_nothing}
 use Rattle.model_deltas.proofs.AppliedLaws.{no-gap}
 use Rattle.model_world.proofs.StopLaws.{shifted}
@@ -56,15 +53,6 @@ later-sources (b ∷ bs) [] before j = absurd before
 later-sources (b ∷ bs) (t ∷ ts) before zero = before.1
 later-sources (b ∷ bs) (t ∷ ts) before (suc j) = later-sources bs ts before.2 j
 
--- what is within the ranges of the format is in order
-each-ordered : (nodes : ℕ) (ts : List Sent) → AllByRecursion (IsSent nodes) ts → (j : ℕ) → IsOrdered (sent_at ts j)
-each-ordered nodes [] h j = ordered-least
-each-ordered nodes (t ∷ ts) h zero = source-ordered nodes t.decl.kind t.content h.0.1
-each-ordered nodes (t ∷ ts) h (suc j) = each-ordered nodes ts h.1 j
-
-pub message-ordered : (m : Message) → IsMessage m → IsInOrder m
-message-ordered m h = each-ordered (length m.counts) m.sources h.sources
-
 -- ---- counts tell what is held
 
 nothing-counted : (nodes : ℕ) (k : Key) → content_mark (least_of nodes Counter) k ≡ 0
@@ -92,7 +80,7 @@ pub record HasSource (g : List Decl) (j : ℕ) : Type 0 where
   pub source : IsTrue (is_source (kind_at g var))
   pub place : source_number g var ≡ j
 
-pub source-there : (g : List Decl) (j : ℕ) → j < source_number g (length g) → HasSource g j
+source-there : (g : List Decl) (j : ℕ) → j < source_number g (length g) → HasSource g j
 source-there [] j low = absurd (omega (arith, low))
 source-there (d ∷ g) j low = choose (source-there g) (is_source d.kind) refl j low where
   choose : ((j : ℕ) → j < source_number g (length g) → HasSource g j) → (b : Bool) → is_source d.kind ≡ b → (j : ℕ) → j < (if b then source_number g (length g) + 1 else source_number g (length g)) → HasSource (d ∷ g) j
@@ -113,6 +101,18 @@ source-there (d ∷ g) j low = choose (source-there g) (is_source d.kind) refl j
         source = rest.source;
         place = ap (λ (b : Bool). if b then source_number g rest.var + 1 else source_number g rest.var) e ∙ rest.place;
       }
+
+-- what a node tells is in order where what its sources hold is
+pub tells-ordered : (g : List Decl) (r : Peer) → length r.contents ≡ length g → ((x : ℕ) → x < length g → IsTrue (is_source (kind_at g x)) → IsOrdered (content_at r.contents x)) → IsInOrder (message_at g r)
+tells-ordered g r long up j = choose (below-or-not j (length (message_at g r).sources)) where
+  here : HasSource g j → IsOrdered (sent_at (message_at g r).sources j)
+  here x =
+      let is : sent_at (message_at g r).sources j ≡ content_at r.contents x.var = ap (sent_at (message_at g r).sources) (sym x.place) ∙ sent-is g r.contents x.var x.declared long x.source in
+      subst IsOrdered (sym is) (up x.var x.declared x.source)
+
+  choose : (j < length (message_at g r).sources) ⊎ (length (message_at g r).sources ≤ j) → IsOrdered (sent_at (message_at g r).sources j)
+  choose (inl low) = here (source-there g j (omega (arith, low, sent-length g r.contents long)))
+  choose (inr past) = subst IsOrdered (sym (sent-past (message_at g r).sources j past)) ordered-least
 
 module _ (g : List Decl) (nodes : ℕ) (all : List (List known.Delta)) where
   -- who counts as much holds as much

@@ -1,9 +1,9 @@
 -- Which messages a delta leads from and to, and which ones it may be applied to.
-use Rattle.std.specs.Prelude.{◌≡◌, ◌≤◌, List, [], ◌∷◌, length}
+use Rattle.std.specs.Prelude.{◌≡◌, ℕ, ◌≤◌, List, [], ◌∷◌, length}
 use Rattle.std.specs.List.{AllByRecursion}
 use Rattle.model_states.specs.Counts.{AreCountsAtMost}
-use Rattle.model_states.specs.Content.{IsContentAtMost}
-use Rattle.model_graph.specs.Message.{Sent, Message}
+use Rattle.model_states.specs.Content.{IsContentAtMost, IsOrdered}
+use Rattle.model_graph.specs.Message.{Sent, Message, sent_at}
 use Rattle.model_wire.specs.Lawful.{IsNodes, AreAtMost, IsSent}
 use Rattle.model_deltas.specs.Delta.{Delta}
 
@@ -18,6 +18,10 @@ pub record IsBefore (before after : Message) : Type 0 where
   pub nodes : length before.counts ≡ length after.counts
   pub counts : AreCountsAtMost before.counts after.counts
   pub sources : AreSourcesBefore before.sources after.sources
+
+-- what a message has of each source is in order
+abbrev pub IsInOrder : Message → Type 0
+IsInOrder m = (i : ℕ) → IsOrdered (sent_at m.sources i)
 
 -- sources of one graph that may have grown: those of the one with fewer are the first of the other, by name and kind
 abbrev pub AreSourcesAlike : List Sent → List Sent → Type 0

@@ -1,9 +1,8 @@
 -- The messages of a world, and what it is that a delta between two of them stands for the later one.
 use Rattle.std.specs.Prelude.{◌≡◌, ℕ, ◌<◌, ◌++◌, ◌⊎◌, List, []}
 use Rattle.model_states.specs.Counts.{zeros}
-use Rattle.model_states.specs.Content.{IsOrdered}
 use Rattle.model_graph.specs.Graph.{Decl}
-use Rattle.model_graph.specs.Message.{Message, sent_at}
+use Rattle.model_graph.specs.Message.{Message}
 use Rattle.model_world.specs.Command.{Command}
 use Rattle.model_world.specs.World.{peer_at, message_at}
 use Rattle.model_world.specs.Follow.{Followed}
@@ -14,10 +13,6 @@ use Rattle.model_deltas.specs.Applied.{first_gap, joined, limited, unless, appli
 -- before it sent anything a node told of no update and of no source
 abbrev pub nothing_told : ℕ → Message
 nothing_told nodes = record { counts = zeros nodes; sources = [] }
-
--- what a message has of each source is in order
-abbrev pub IsInOrder : Message → Type 0
-IsInOrder m = (i : ℕ) → IsOrdered (sent_at m.sources i)
 
 -- what node p tells at a place of a run, or would tell if it sent there
 abbrev pub told_at : Followed → ℕ → Message

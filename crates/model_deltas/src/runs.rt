@@ -12,7 +12,7 @@ ghost use Rattle.model_runs.specs.Part.{BringsAsMuch};
 ghost use Rattle.model_wire.specs.Lawful.{IsMessage};
 ghost use Rattle.model_deltas.specs.Delta.{carried};
 ghost use Rattle.model_deltas.specs.Applied.{first_gap, joined, limited, unless, applied};
-ghost use Rattle.model_deltas.specs.Before.{IsBefore};
+ghost use Rattle.model_deltas.specs.Before.{IsBefore, IsInOrder};
 ghost use Rattle.model_deltas.specs.Gossip.{Gossip, last_told, delta_number, gossip_after, gossip_start, gossiped};
 ghost use Rattle.model_deltas.specs.Going.{Travels};
 
@@ -30,12 +30,12 @@ pub fn messages_travel_as_deltas()
     ensures others { (c : ℕ) (s : Gossip) (a : Act) (next : Run) → Travels s → ((p : ℕ) → a ≡ Post p → ⊥) → act c s.run a ≡ Ok next → Travels (gossip_after s a next) }
 {}
 
-/// At each place of a lawful run the delta of a message, applied to what a node would send, is what both have together, unless there is a gap or a source would be too large; and a node that takes what it has together with a message holds what it would hold by the message. Where there is no gap, what the delta carries brings the node as much as the message, so that it may be joined in alone.
+/// At each place of a lawful run the delta of a message, applied to what a node would send, is what both have together, unless there is a gap or a source would be too large; and a node that takes what it has together with a message whose sources are in order holds what it would hold by the message. Where there is no gap, what the delta carries brings the node as much as the message, so that it may be joined in alone.
 pub fn deliveries_by_deltas_bring_the_message()
     ensures applied { (g : List Decl) (nodes : ℕ) (commands : List Command) (f : Followed) (s : Gossip) → IsPlaceOf g nodes commands f → f.run ≡ s.run → Travels s → (p i : ℕ) → p < nodes → i < length s.run.sent
         → applied (message_at s.run.graph (peer_at s.run.peers p)) (delta_number s i) ≡ unless (first_gap 0 (peer_at s.run.peers p).counts (delta_number s i).from) (limited (joined (message_at s.run.graph (peer_at s.run.peers p)) (sent_number s.run.sent i))) }
     ensures carried { (g : List Decl) (nodes : ℕ) (commands : List Command) (f : Followed) (s : Gossip) → IsPlaceOf g nodes commands f → f.run ≡ s.run → Travels s → (p i : ℕ) → p < nodes → i < length s.run.sent
         → first_gap 0 (peer_at s.run.peers p).counts (delta_number s i).from ≡ None → BringsAsMuch s.run.graph (peer_at s.run.peers p).contents (sent_number s.run.sent i) (carried (delta_number s i)) }
-    ensures taken { (g : List Decl) (nodes : ℕ) (commands : List Command) (f : Followed) → IsPlaceOf g nodes commands f → (p : ℕ) (m : Message) → p < nodes → IsMessage (message_at f.run.graph (peer_at f.run.peers p)) → IsMessage m
+    ensures taken { (g : List Decl) (nodes : ℕ) (commands : List Command) (f : Followed) → IsPlaceOf g nodes commands f → (p : ℕ) (m : Message) → p < nodes → IsInOrder m
         → delivered f.run.graph (joined (message_at f.run.graph (peer_at f.run.peers p)) m) (peer_at f.run.peers p) ≡ delivered f.run.graph m (peer_at f.run.peers p) }
 {}

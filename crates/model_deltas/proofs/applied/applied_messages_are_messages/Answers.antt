@@ -1,5 +1,5 @@
 use Rattle.model_states.proofs.CountLaws.{count_at-larger}
-use Rattle.model_deltas.proofs.JoinedLaws.{joined-source, length-joined, applied-lawful}
+use Rattle.model_deltas.proofs.JoinedLaws.{message-ordered, joined-source, length-joined, applied-lawful}
 use Rattle.model_deltas.proofs.applied.applied_messages_are_messages.Goals as goal
 
 pub returns-clause-counts : goal.returns-clause-counts
@@ -10,6 +10,9 @@ returns-clause-length c = λ m n. length-joined m.sources n.sources
 
 pub returns-clause-sources : goal.returns-clause-sources
 returns-clause-sources c = joined-source
+
+pub returns-clause-ordered : goal.returns-clause-ordered
+returns-clause-ordered c = message-ordered
 
 pub returns-clause-lawful : goal.returns-clause-lawful
 returns-clause-lawful c = applied-lawful

@@ -9,4 +9,4 @@ pub returns-clause-carried : goal.returns-clause-carried
 returns-clause-carried c = λ g nodes commands f s place same travels p i member within none. carried-place g nodes commands f s place same travels p i member within none
 
 pub returns-clause-taken : goal.returns-clause-taken
-returns-clause-taken c = λ g nodes commands f place p m member present lawful. taken-there g nodes commands f place p m member present lawful
+returns-clause-taken c = λ g nodes commands f place p m member lawful. taken-there g nodes commands f place p m member lawful
