@@ -50,18 +50,19 @@ fn is_change(command: &Command) -> bool {
     }
 }
 
-/// Whether a stretch from a place on changes what a node holds.
-fn has_change(script: &Script, from: u64) -> bool {
+/// How many commands of the stretch from a place on change what a node holds. No more are counted than is asked for.
+fn changes_from(script: &Script, from: u64, most: u32) -> u32 {
+    let mut changes: u32 = 0;
     for i in from..script.len() {
         let command = script.at(i);
-        if is_point(command) {
-            return false;
+        if is_point(command) || changes == most {
+            break;
         }
         if is_change(command) {
-            return true;
+            changes = changes.saturating_add(1);
         }
     }
-    false
+    changes
 }
 
 /// Does a stretch with what goes on beside it. Where it changes nothing, nothing does.
@@ -78,10 +79,13 @@ fn stretch_beside<N: Node, B: Beside>(
     ensures advances { Advances N.view N.read N.place (library_of lib.now) from script.now.commands driver result.1 result.0 }
     ensures place { B.place beside.new ≡ B.place beside.old }
 {
-    if !has_change(script, from) {
+    let changes = changes_from(script, from, beside.most_counted());
+    if changes == 0 {
         return advance(driver, alloc, lib, script, from);
     }
+    beside.learn(&driver.graph);
     beside.go_beside(
+        changes,
         move || -> (Driver<N>, Result<u64, Halt>)
             requires { (from ≤ length script.now.commands) × MayGoOn (library_of lib.now) (from + 1) (seen N.view N.read driver) (drop from script.now.commands) }
             ensures { Advances N.view N.read N.place (library_of lib.entry.now) from script.entry.now.commands driver result.1 result.0 }
