@@ -67,8 +67,8 @@ fn push_act(text: &mut String, graph: &Graph, k: u64, act: &Act) -> Result<(), A
     }
 }
 
-/// Appends the line of an entry: the node, the entry's place, its caller, and what was done.
-fn push_entry(
+/// Appends the line of entry i of node p's journal: the node, the place, its caller, and what was done, some 20 bytes. Of an update it tells k, the node's updates so far, this one among them.
+pub fn push_entry(
     text: &mut String,
     graph: &Graph,
     p: u8,
@@ -86,7 +86,7 @@ fn push_entry(
 }
 
 /// The updates up to an act, where so many came before it.
-fn updates_with(k: u64, act: &Act) -> u64
+pub fn updates_with(k: u64, act: &Act) -> u64
     requires { k < 2 ^ 63 }
     ensures { result ≡ updates_with k (act_of act.now) }
 {

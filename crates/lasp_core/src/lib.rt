@@ -34,7 +34,7 @@ mod upkeep;
 mod watched;
 
 pub use jobs::Jobs;
-pub use journal::push_journal;
+pub use journal::{push_entry, push_journal, updates_with};
 pub use kept::{KeptEntry, KeptFrame};
 pub use lasp_replica::{Act, DeliverRefused, Entry, NotYet, UpdateRefused, begins};
 pub use laws::{

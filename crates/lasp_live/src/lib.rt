@@ -14,7 +14,6 @@
 
 mod commands;
 mod diary;
-mod entry;
 mod feeder;
 mod large;
 mod log;

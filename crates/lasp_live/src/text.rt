@@ -14,13 +14,20 @@ ghost use Rattle.lasp_live.specs.Prelude.{live_text};
 ghost use Rattle.lasp_live.specs.Texts.{AreLeft, AreTellable, IsTellable, peer_in, stories_of};
 
 use crate::diary::{Diary, Note, Noted};
-use crate::entry::{push_entry, push_word, updates_with};
-use lasp_core::Core;
+use lasp_core::{Core, push_entry, updates_with};
 use lasp_drive::{push_counts, push_state};
 use lasp_graph::Graph;
 use lasp_state::State;
 use model_core::journals_name_declared_variables;
 use std::alloc::{AllocError, Global};
+
+/// Appends a word behind a space.
+fn push_word(text: &mut String, word: &str) -> Result<(), AllocError>
+    ensures { OnOk result (string_bytes text.new ≡ string_bytes text.old ++ 32 ∷ word.now) }
+{
+    text.push(' ')?;
+    text.push_str(word)
+}
 
 /// Appends the line of a send of node p.
 fn push_send(text: &mut String, p: u8, place: u64) -> Result<(), AllocError>
