@@ -1,10 +1,12 @@
 -- Calls of `live` follow their plan.
-use Rattle.std.proofs.Common.{ℕ, List, sym, ap, subst, ◌∙◌}
+use Rattle.std.proofs.Common.{ℕ, ◌<◌, List, length, sym, ap, subst, ◌∙◌, arith}
 use Rattle.std.specs.Prelude.{◌≡◌, Option, Some, None, Result, Ok, Err, string_bytes}
 use Rattle.model_functions.specs.Library.{Library}
+use Rattle.model_graph.specs.Evaluation.{eval}
 use Rattle.model_graph.specs.Graph.{Decl}
+use Rattle.model_graph.proofs.EvalLaws.{eval-length}
 use Rattle.model_live.specs.Lived.{IsLived}
-use Rattle.model_live.specs.Together.{too_large}
+use Rattle.model_live.specs.Together.{full, too_large}
 use Rattle.model_live.specs.Words.{AreLive, first_other}
 use Rattle.model_live.proofs.WordLaws.{known-none}
 use Rattle.model_program.specs.Follows.{View, Allows, Follows, Passes, Stops}
@@ -14,6 +16,7 @@ use Rattle.model_program.specs.declared.failure.Failure.{Failure}
 use Rattle.model_program.specs.declared.failure.Failure.TheVariants.{Refused, ReadFault, Memory}
 use Rattle.model_program.specs.declared.refusal.Refusal.{Refusal}
 use Rattle.model_program.specs.declared.refusal.Refusal.TheVariants.{NotLive}
+use Rattle.model_runs.proofs.StopLaws.{first-low}
 use Rattle.model_world.specs.Command.{Script}
 use Rattle.lasp_run.specs.Run.{opening_run}
 use Rattle.lasp_live_run.specs.declared.run.Lived.{Lived}
@@ -36,6 +39,10 @@ live-stops lib words v failure part = follows-stop words v (opening_run lib) (λ
 
 -- ---- what the code answers
 
+-- what is too large when all is known is a variable of the graph
+pub large-low : (g : List Decl) (script : Script) (x : ℕ) → Some x ≡ too_large g script → x < length g
+large-low g script x large = omega (arith, first-low 0 (eval g (full g script)) x (sym large), eval-length g (full g script))
+
 pub run-lives : (g : List Decl) (script : Script) (l : Lived) → AreLive script.commands → None ≡ too_large g script → IsLived g script l.failed (string_bytes l.text) → LiveAllows g script (lived_of (Ok l))
 run-lives g script l live small is = lived-allows g script (record { text = string_bytes l.text; failed = l.failed }) (known-none 1 script.commands live) (sym small) is
 
@@ -47,4 +54,4 @@ large-refused g script x Memory live large is = tt
 pub other-refused : (g : List Decl) (script : Script) (number : ℕ) → Some number ≡ first_other 1 script.commands → LiveAllows g script (Err (Refused (NotLive number)))
 other-refused g script number is = ap (live_or g script None) (sym is)
 
-pub ruleset livings = (run-lives, large-refused, other-refused)
+pub ruleset livings = (run-lives, large-refused, other-refused, large-low)

@@ -13,7 +13,7 @@ use lasp_fns::Library;
 use lasp_graph::Graph;
 use lasp_live::{first_other, first_too_large};
 use lasp_live_run::{Lived, live};
-use lasp_run::open_run;
+use lasp_run::{Opened, open_run};
 use lasp_script::Script;
 use lasp_workers::Gate;
 use model_live::the_first_command_of_another_word_is_told;
@@ -48,7 +48,7 @@ fn run_live<R: Threads + Wait + RandomSource + AllocGlobal + Sync, G: Gate + Syn
 ) -> Result<Lived, Failure>
     requires runnable { IsRunnable (library_of lib.now) (arc_value graph.now) script }
     requires live { AreLive script.commands }
-    ensures { LiveAllows (arc_value graph.now) script.entry (lived_of result) }
+    ensures { LiveAllows (arc_value graph.now) script (lived_of result) }
 {
     match first_too_large(alloc, graph, &script, lib) {
         Ok(None) => match Arc::new(alloc, script) {
@@ -75,7 +75,7 @@ fn live_over<R: Threads + Wait + RandomSource + AllocGlobal + Sync, G: Gate + Sy
     gate: &G,
 ) -> Result<Lived, Failure>
     requires { IsRunnable (library_of lib.now) (arc_value graph.now) script }
-    ensures { LiveAllows (arc_value graph.now) script.entry (lived_of result) }
+    ensures { LiveAllows (arc_value graph.now) script (lived_of result) }
 {
     the_first_command_of_another_word_is_told();
     match first_other(&script) {
@@ -104,7 +104,7 @@ pub(crate) fn open_live<
     ensures follows { LiveFollows (library_of lib.now) (words_of words.now) (seen F.content F.faults files.old files.new) (lived_of result) }
 {
     match open_run(alloc, words, files, lib) {
-        Ok(opened) => live_over(rt, alloc, &opened.graph, opened.script, workers, lib, gate),
+        Ok(Opened { graph, script }) => live_over(rt, alloc, &graph, script, workers, lib, gate),
         Err(failure) => Err(failure),
     }
 }

@@ -10,7 +10,7 @@ use Rattle.lasp_top.proofs.live.open_live.Goals as goal
 pub returns-in-Ok-clause-follows : goal.returns-in-Ok-clause-follows
 returns-in-Ok-clause-follows g c =
     let v : View = view (g.F.Files.content c.args.files.now) (g.F.Files.faults c.args.files.now) (g.F.Files.faults c.open_run.new.files) in
-    live-follows (library_of c.args.lib.now) (words_of c.args.words.now) v (arc_value c.in-Ok.opened.graph) c.in-Ok.opened.script (lived_of c.live_over.result) c.in-Ok.ensures.part c.live_over.ensures
+    live-follows (library_of c.args.lib.now) (words_of c.args.words.now) v (arc_value c.in-Ok.field-0.graph) c.in-Ok.field-0.script (lived_of c.live_over.result) c.in-Ok.ensures.part c.live_over.ensures
 
 pub returns-in-Err-clause-follows : goal.returns-in-Err-clause-follows
 returns-in-Err-clause-follows g c =
