@@ -31,7 +31,7 @@ use Rattle.model_live.proofs.WithinLaws.{start-within}
 use Rattle.lasp_live.specs.Diary.{AreTold, note_of, notes_of}
 use Rattle.lasp_live.specs.Did.{HasFailed, HasPassed, HasPlayed}
 use Rattle.lasp_live.specs.Ends.{AreUnused, Box, In, Out}
-use Rattle.lasp_live.specs.Fed.{HasFed, HasHeard, HaveEnded, Hears, HearsMore, IsAt, IsFresh, Setting, frame_in, has_ended}
+use Rattle.lasp_live.specs.Fed.{HasFed, HasHeard, HaveEnded, Hears, HearsMore, HoldsOwn, IsAt, IsFresh, Setting, behind, frame_in, has_ended}
 use Rattle.lasp_live.specs.Mail.{if_ended, letters_and_end, letters_so_far, mails}
 use Rattle.lasp_live.specs.Own.{steps_before, total_in}
 use Rattle.lasp_live.specs.Posted.{AreOfTheSame, HavePut}
@@ -135,10 +135,19 @@ at-begins s seen log outs ins legal made results member many fresh unused =
 got-all : (seen : List Entry) (q : ℕ) (i : In) (ended : Bool) → ended ≡ true → HasHeard seen q i ended → (messages : List Message) × (mails i.got ≡ letters_and_end messages) × (heard_of q seen ≡ numbered (first_number q) messages)
 got-all seen q i ended is heard = (heard.messages, heard.got ∙ ap (λ (b : Bool). if_ended b heard.messages) is, heard.heard)
 
+-- what the journal has of the node's own
+own-held : (s : Setting) (i : ℕ) (seen : List Entry) (log : Log) (outs : List Out) (ins : List In) → IsAt s i seen log outs ins → HoldsOwn s i seen
+own-held s i seen log outs ins at = record {
+  updates = at.hears.knows.updates ∙ at.own.updates;
+  totals = λ x low kind. at.hears.knows.totals x low kind ∙ at.own.totals x low kind;
+  known = at.hears.knows.known;
+  within = at.hears.knows.within;
+}
+
 -- a feeder whose story ends so, that has told its end to all and taken all that came
-fed-at : (s : Setting) (i : ℕ) (failed : Option ℕ) (seen : List Entry) (log : Log) (diary : Diary) (outs rest : List Out) (ins : List In) → IsAt s i seen log outs ins → s.script.nodes ≡ length ins → diary.notes ≡ log.diary.notes → diary.failed ≡ failed
+fed-at : (s : Setting) (i : ℕ) (failed : Option ℕ) (seen : List Entry) (log : Log) (diary : Diary) (outs rest : List Out) (ins : List In) → IsAt s i seen log outs ins → s.script.nodes ≡ length ins → diary.notes ≡ log.diary.notes → diary.failed ≡ failed → i ≡ behind s.script failed
     → Goes (frame_in s) seen (steps s.me 1 s.script.commands) (deeds_from 0 (notes_of log.diary) seen) failed → AreOfTheSame outs rest → HavePut s.me None outs rest → HaveEnded s log.ended.items → HasFed s seen diary rest ins
-fed-at s i failed seen log diary outs rest ins at many notes is goes same put ended = record {
+fed-at s i failed seen log diary outs rest ins at many notes is done goes same put ended = record {
   story = record {
     legal = at.hears.knows.legal;
     made = at.hears.knows.callers;
@@ -152,6 +161,7 @@ fed-at s i failed seen log diary outs rest ins at many notes is goes same put en
       ∙ ap (λ (ns : List plain.Note). letters_and_end (letters_in (frame_in s) seen ns)) (sym kept));
   got = λ q e there other. got-all seen q e (has_ended log.ended.items q) (ended q (omega (arith, many, slice_get_within ins q e there))) (at.hears.heard q e there other);
   others = at.hears.knows.others;
+  own = subst (λ (n : ℕ). HoldsOwn s n seen) (done ∙ ap (behind s.script) (sym is)) (own-held s i seen log outs ins at);
 } where
   kept : notes_of diary ≡ notes_of log.diary
   kept = ap (λ (ns : Vec Note Global). map note_of ns.items) notes
@@ -160,14 +170,14 @@ fed-at s i failed seen log diary outs rest ins at many notes is goes same put en
 pub fed-done : (s : Setting) (boxes : List Box) (seen : List Entry) (log : Log) (diary : Diary) (outs rest : List Out) (ins : List In) → MayFeed s boxes rest ins → IsAt s (length s.script.commands) seen log outs ins → diary.notes ≡ log.diary.notes → diary.failed ≡ None
     → AreOfTheSame outs rest → HavePut s.me None outs rest → HaveEnded s log.ended.items → HasFed s seen diary rest ins
 fed-done s boxes seen log diary outs rest ins may at notes is same put ended =
-    fed-at s (length s.script.commands) None seen log diary outs rest ins at (sym may.ends.ins_many) notes is
+    fed-at s (length s.script.commands) None seen log diary outs rest ins at (sym may.ends.ins_many) notes is refl
     (subst (λ (ks : List Command). Goes (frame_in s) seen (steps s.me 1 ks) (deeds_from 0 (notes_of log.diary) seen) None) (take_all (length s.script.commands) s.script.commands (omega arith)) at.goes) same put ended
 
 -- at the threshold at which it failed
 pub fed-failed : (s : Setting) (boxes : List Box) (i : ℕ) (seen : List Entry) (log : Log) (diary : Diary) (outs rest : List Out) (ins : List In) → MayFeed s boxes rest ins → HasFailed s i seen log outs ins → diary.notes ≡ log.diary.notes → diary.failed ≡ Some (i + 1)
     → AreOfTheSame outs rest → HavePut s.me None outs rest → HasFed s seen diary rest ins
 fed-failed s boxes i seen log diary outs rest ins may fails notes is same put =
-    fed-at s i (Some (i + 1)) seen log diary outs rest ins fails.at (sym may.ends.ins_many) notes is
+    fed-at s i (Some (i + 1)) seen log diary outs rest ins fails.at (sym may.ends.ins_many) notes is (omega arith)
     (subst (λ (l : List Step). Goes (frame_in s) seen l (deeds_from 0 (notes_of log.diary) seen) (Some (i + 1))) (sym (all-around s.script s.me i (Waits (i + 1) fails.x fails.until) fails.step))
     (goes-fails (frame_in s) seen (i + 1) fails.x fails.until (steps s.me (i + 2) (drop (i + 1) s.script.commands)) fails.unmet (steps_before s.script s.me i) (deeds_from 0 (notes_of log.diary) seen) None refl fails.at.goes))
     same put fails.ended

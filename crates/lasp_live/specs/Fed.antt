@@ -1,6 +1,9 @@
 -- How far a feeder has come, and what it tells at its end.
-use Rattle.std.specs.Prelude.{◌≡◌, ◌≢◌, ℕ, ◌<◌, ◌≤◌, ◌==◌, true, Bool, List, [], ◌∷◌, ◌++◌, length, slice_get, slice_index_or, Some, None}
-use Rattle.model_graph.specs.Graph.{Decl}
+use Rattle.std.specs.Prelude.{◌≡◌, ◌≢◌, ℕ, ◌-◌, ◌<◌, ◌≤◌, ◌==◌, true, Bool, List, [], ◌∷◌, ◌++◌, length, slice_get, slice_index_or, Option, Some, None}
+use Rattle.model_core.specs.Peer.{peer_of}
+use Rattle.model_graph.specs.Evaluation.{content_at}
+use Rattle.model_graph.specs.Graph.{Counter, Decl, kind_at}
+use Rattle.model_states.specs.Counts.{count_at}
 use Rattle.model_journal.specs.Entry.{Act, Update, Deliver, Bind, Extend, Entry, Frame}
 use Rattle.model_graph.specs.Message.{Message}
 use Rattle.model_runs.specs.Calls.{frame_of}
@@ -8,10 +11,11 @@ use Rattle.model_world.specs.Command.{Script}
 use Rattle.model_live.specs.Knows.{Knows}
 use Rattle.model_live.specs.Lived.{heard_of, numbered, first_number, AreOfOthers}
 use Rattle.model_live.specs.Story.{ArePlaced, Goes, deeds_from, letters_in, letters, IsStory}
+use Rattle.model_live.specs.Together.{AreWithin, own_updates}
 use Rattle.lasp_live.specs.Diary.{notes_of, story_of, AreTold}
 use Rattle.lasp_live.specs.Ends.{Out, In}
 use Rattle.lasp_live.specs.Mail.{mails, letters_so_far, letters_and_end, if_ended}
-use Rattle.lasp_live.specs.Own.{CountsOwn, steps_before, total_in}
+use Rattle.lasp_live.specs.Own.{CountsOwn, peer_before, steps_before, total_in}
 use Rattle.lasp_live.specs.declared.diary.Diary.{Diary}
 use Rattle.lasp_live.specs.declared.log.Log.{Log}
 use Rattle.lasp_live.specs.declared.own.Own.{Own}
@@ -92,6 +96,19 @@ pub record IsFresh (g : List Decl) (nodes me : ℕ) (log : Log) : Type 0 where
 
 -- ---- what is told
 
+-- A journal that has of the node's own just what its steps before command i make, by its updates and by each counter, whatever came of others; and that holds of nobody more than all updates together come to.
+pub record HoldsOwn (s : Setting) (i : ℕ) (seen : List Entry) : Type 0 where
+  pub updates : count_at (peer_of (frame_in s) seen).counts s.me ≡ count_at (peer_before s.graph s.script s.me i).counts s.me
+  pub totals : (x : ℕ) → x < length s.graph → kind_at s.graph x ≡ Counter
+      → count_at (content_at (peer_of (frame_in s) seen).contents x).counts s.me ≡ count_at (content_at (peer_before s.graph s.script s.me i).contents x).counts s.me
+  pub known : (q : ℕ) → q < s.script.nodes → count_at (peer_of (frame_in s) seen).counts q ≤ own_updates s.graph s.script q
+  pub within : AreWithin s.graph s.script (peer_of (frame_in s) seen).contents
+
+-- how many commands a node is behind that failed at this one; all, where it failed at none
+abbrev pub behind : Script → Option ℕ → ℕ
+behind script None = length script.commands
+behind script (Some c) = c - 1
+
 -- A feeder at its end: its journal and its diary are a story of its node, what it noted is so, all its letters and then the end lie in every other node's mailbox, and it took all that stands in its own ones, to the end of each, and nothing else.
 pub record HasFed (s : Setting) (seen : List Entry) (diary : Diary) (outs : List Out) (ins : List In) : Type 0 where
   pub story : IsStory s.graph s.script s.me (story_of seen diary)
@@ -100,3 +117,4 @@ pub record HasFed (s : Setting) (seen : List Entry) (diary : Diary) (outs : List
   pub got : (q : ℕ) (e : In) → slice_get ins q ≡ Some e → q ≢ s.me
       → (messages : List Message) × (mails e.got ≡ letters_and_end messages) × (heard_of q seen ≡ numbered (first_number q) messages)
   pub others : AreOfOthers s.script.nodes s.me seen
+  pub own : HoldsOwn s (behind s.script diary.failed) seen
