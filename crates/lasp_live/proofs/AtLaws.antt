@@ -44,7 +44,7 @@ use Rattle.model_live.proofs.WithinLaws.{sent-letter}
 use Rattle.lasp_state.specs.declared.state.State.{State}
 use Rattle.lasp_live.specs.Diary.{AreTold, IsTold, note_of, noted_of, notes_of}
 use Rattle.lasp_live.specs.Did.{IsStepAt}
-use Rattle.lasp_live.specs.Ends.{Box, In, Out}
+use Rattle.lasp_live.specs.Ends.{Box, In, IsUnput, Out}
 use Rattle.lasp_live.specs.Fed.{Setting, frame_in, HasHeard, has_ended, Hears, HearsMore, IsHearing, AreHearings, IsAt}
 use Rattle.lasp_live.specs.Mail.{letters_so_far, mails}
 use Rattle.lasp_live.specs.Own.{CountsOwn, HasUpdated, peer_before, steps_before, total_in}
@@ -119,6 +119,7 @@ at-more s i h more log ended outs ins rest at hearings hears =
       few = at.few;
       sent = at.sent ∙ ap (λ (l : List Message). length l) (sym letters);
       put = λ p o there other. at.put p o there other ∙ ap letters_so_far (sym letters);
+      unput = at.unput;
     }
 
 pub at-hears : (s : Setting) (i : ℕ) (h k : List Entry) (log : Log) (ended : Vec Bool Global) (outs : List Out) (ins rest : List In) → IsAt s i h log outs ins → HearsMore h k
@@ -180,6 +181,7 @@ at-update s i h log own outs ins x o lawful limits member at step legal made did
         many = at.hears.many;
         itself = at.hears.itself;
         heard = λ q i there other. still-heard h q x o i (has_ended log.ended.items q) (at.hears.heard q i there other);
+        untaken = at.hears.untaken;
       };
       unfailed = at.unfailed;
       placed = placed-later 0 (length h) (length (h ++ e ∷ [])) notes (omega (arith, length-append h (e ∷ []))) at.placed;
@@ -190,6 +192,7 @@ at-update s i h log own outs ins x o lawful limits member at step legal made did
       few = omega (arith, at.few);
       sent = at.sent ∙ ap (λ (l : List Message). length l) (sym letters);
       put = λ p o there other. at.put p o there other ∙ ap letters_so_far (sym letters);
+      unput = at.unput;
     }
 
 -- an update behind results
@@ -223,8 +226,8 @@ at-noted : (s : Setting) (i : ℕ) (h : List Entry) (log : Log) (what : Noted) (
     → ((r : Peer) → after_steps s.me (Does (deed_of (noted_of what)) ∷ []) r ≡ r) → IsTold (frame_in s) h (length h) what
     → diary.notes.items ≡ log.diary.notes.items ++ record { place = length h; what = what } ∷ [] → diary.failed ≡ log.diary.failed → sent ≤ i + 1
     → (letters : List Message) → letters_in (frame_in s) h (notes_of log.diary) ++ message_noted (frame_in s) h (length h) (noted_of what) ≡ letters → sent ≡ length letters
-    → ((p : ℕ) (o : Out) → slice_get rest p ≡ Some o → p ≢ s.me → mails o.put ≡ letters_so_far letters) → IsAt s (i + 1) h (record log { diary = diary; sent = sent }) rest ins
-at-noted s i h log what diary sent outs rest ins at step still told noted unfailed few letters are many put =
+    → ((p : ℕ) (o : Out) → slice_get rest p ≡ Some o → p ≢ s.me → mails o.put ≡ letters_so_far letters) → IsUnput rest s.me → IsAt s (i + 1) h (record log { diary = diary; sent = sent }) rest ins
+at-noted s i h log what diary sent outs rest ins at step still told noted unfailed few letters are many put unput =
     let X : Frame = frame_in s in
     let n : Note = record { place = length h; what = what } in
     let notes : List plain.Note = notes_of log.diary in
@@ -242,6 +245,7 @@ at-noted s i h log what diary sent outs rest ins at step still told noted unfail
       few = few;
       sent = many ∙ ap (λ (l : List Message). length l) (sym all);
       put = λ p o there other. put p o there other ∙ ap letters_so_far (sym all);
+      unput = unput;
     }
 
 pub at-printed : (s : Setting) (i : ℕ) (h : List Entry) (log : Log) (x : ℕ) (a : Arc State Global) (diary : Diary) (outs : List Out) (ins : List In) → IsAt s i h log outs ins → IsStepAt s.script s.me i (Does (Prints x))
@@ -249,7 +253,7 @@ pub at-printed : (s : Setting) (i : ℕ) (h : List Entry) (log : Log) (x : ℕ) 
 unfolding after_steps
 at-printed s i h log x a diary outs ins at step told noted unfailed =
     let letters : List Message = letters_in (frame_in s) h (notes_of log.diary) in
-    at-noted s i h log (Print x a) diary log.sent outs outs ins at step (λ r. refl) told noted unfailed (omega (arith, at.few)) letters (append-nil letters) at.sent at.put
+    at-noted s i h log (Print x a) diary log.sent outs outs ins at step (λ r. refl) told noted unfailed (omega (arith, at.few)) letters (append-nil letters) at.sent at.put at.unput
 
 pub at-sent : (s : Setting) (i : ℕ) (h : List Entry) (log : Log) (a : Arc Message Global) (diary : Diary) (outs rest : List Out) (ins : List In) → IsAt s i h log outs ins → IsStepAt s.script s.me i (Does Sends)
     → arc_value a ≡ message_after (frame_in s) h (length h) → diary.notes.items ≡ log.diary.notes.items ++ record { place = length h; what = Send a } ∷ [] → diary.failed ≡ log.diary.failed
@@ -263,6 +267,7 @@ at-sent s i h log a diary outs rest ins at step told noted unfailed same put =
     (omega (arith, at.sent, length-append before (arc_value a ∷ [])))
     (λ p o there other. (let was = found outs p (omega (arith, slice_get_within rest p o there, same.many)) in
     put.each p was.0 o was.1 there other ∙ ap (λ (l : List (Option Message)). l ++ Some (arc_value a) ∷ []) (at.put p was.0 was.1 other) ∙ sym (so-far-next before (arc_value a))))
+    (λ o there. at.unput o (sym put.itself ∙ there))
 
 -- ---- thresholds and commands of others
 
@@ -280,6 +285,7 @@ at-passed s i c x until h log outs ins at step met = record {
   few = omega (arith, at.few);
   sent = at.sent;
   put = at.put;
+  unput = at.unput;
 }
 
 -- a threshold that was asked for at the end of a journal which went on by results
@@ -304,6 +310,7 @@ at-skipped s i k h log outs ins at there none =
       few = omega (arith, at.few);
       sent = at.sent;
       put = at.put;
+      unput = at.unput;
     }
 
 -- ---- what is sent

@@ -78,6 +78,7 @@ at-fresh s log outs ins legal member many fresh unused = record {
     many = fresh.many;
     itself = fresh.ended s.me member ∙ grind (arith, nat_tests);
     heard = λ q i there other. first-heard q i (unused.ins_are q i there) (has_ended log.ended.items q) (choose q other (slice_get_within ins q i there));
+    untaken = unused.ins_are s.me;
   };
   unfailed = fresh.unfailed;
   placed = subst (λ (ns : List Note). ArePlaced 0 0 (map note_of ns)) (sym fresh.notes) tt;
@@ -93,6 +94,7 @@ at-fresh s log outs ins legal member many fresh unused = record {
   few = omega (arith, fresh.sent);
   sent = subst (λ (ns : List Note). log.sent ≡ length (letters_in X [] (map note_of ns))) (sym fresh.notes) fresh.sent;
   put = λ p o there other. ap mails (unused.outs_are p o there) ∙ subst (λ (ns : List Note). [] ≡ letters_so_far (letters_in X [] (map note_of ns))) (sym fresh.notes) refl;
+  unput = unused.outs_are s.me;
 } where
   X : Frame
   X = frame_in s
@@ -161,6 +163,8 @@ fed-at s i failed seen log diary outs rest ins at many notes is done goes same p
       ∙ ap (λ (ns : List plain.Note). letters_and_end (letters_in (frame_in s) seen ns)) (sym kept));
   got = λ q e there other. got-all seen q e (has_ended log.ended.items q) (ended q (omega (arith, many, slice_get_within ins q e there))) (at.hears.heard q e there other);
   others = at.hears.knows.others;
+  unput = λ o there. at.unput o (sym put.itself ∙ there);
+  untaken = at.hears.untaken;
   own = subst (λ (n : ℕ). HoldsOwn s n seen) (done ∙ ap (behind s.script) (sym is)) (own-held s i seen log outs ins at);
 } where
   kept : notes_of diary ≡ notes_of log.diary

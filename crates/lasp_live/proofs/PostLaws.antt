@@ -51,7 +51,7 @@ same-put p message old new put = subst (AreOfTheSame old) (sym put.is) (same-set
 -- ---- node by node
 
 pub posted-begins : (me : ℕ) (message : Option Message) (outs : List Out) → ArePutBefore me 0 message outs outs
-posted-begins me message outs = record { same = same-ends outs; put = λ p o n at there low other. absurd (omega (arith, low)); left = λ p past. refl }
+posted-begins me message outs = record { same = same-ends outs; put = λ p o n at there low other. absurd (omega (arith, low)); left = λ p past. refl; itself = refl }
 
 -- to itself a node puts nothing
 pub posted-past : (me k : ℕ) (message : Option Message) (old new : List Out) → ArePutBefore me k message old new → k ≡ me → ArePutBefore me (k + 1) message old new
@@ -59,29 +59,32 @@ posted-past me k message old new at is = record {
   same = at.same;
   put = λ p o n was there low other. at.put p o n was there (choose p other (below-or-not p k) low) other;
   left = λ p past. at.left p (omega (arith, past));
+  itself = at.itself;
 } where
   choose : (p : ℕ) → p ≢ me → (p < k) ⊎ (k ≤ p) → p < k + 1 → p < k
   choose p other (inl less) low = less
   choose p other (inr past) low = absurd (other (omega (arith, past, low, is)))
 
-pub posted-next : (me k : ℕ) (message : Option Message) (old now new : List Out) → ArePutBefore me k message old now → IsPutTo k message now new → ArePutBefore me (k + 1) message old new
-posted-next me k message old now new at put = subst (ArePutBefore me (k + 1) message old) (sym put.is) (record {
+pub posted-next : (me k : ℕ) (message : Option Message) (old now new : List Out) → ArePutBefore me k message old now → k ≢ me → IsPutTo k message now new → ArePutBefore me (k + 1) message old new
+posted-next me k message old now new at other put = subst (ArePutBefore me (k + 1) message old) (sym put.is) (record {
   same = same-then old now (slice_set now k put.after) at.same (same-set now k put.before put.after put.at put.of);
   put = λ p o n was there low other. each p n there o was low other;
-  left = λ p past. away now k put.after p (omega (arith, past)) ∙ at.left p (omega (arith, past));
+  left = λ p past. away now k put.after p (λ e. omega (arith, past, e)) ∙ at.left p (omega (arith, past));
+  itself = away now k put.after me (λ e. other (sym e)) ∙ at.itself;
 }) where
   each : (p : ℕ) (n : Out) → slice_get (slice_set now k put.after) p ≡ Some n → (o : Out) → slice_get old p ≡ Some o → p < k + 1 → p ≢ me → mails n.put ≡ mails o.put ++ message ∷ []
   each = at-set (λ p n. (o : Out) → slice_get old p ≡ Some o → p < k + 1 → p ≢ me → mails n.put ≡ mails o.put ++ message ∷ []) now k put.after
       (λ p n other there o was low apart. at.put p o n was there (omega (arith, low, other)) apart)
       (λ o was low apart. put.more ∙ ap (λ (e : Out). mails e.put ++ message ∷ []) (same_Some put.before o (sym put.at ∙ at.left k (omega arith) ∙ was)))
 
-  away : (l : List Out) (i : ℕ) (x : Out) (p : ℕ) → i < p → slice_get (slice_set l i x) p ≡ slice_get l p
-  away [] i x p low = refl
-  away (y ∷ l) i x zero low = absurd (omega (arith, low))
-  away (y ∷ l) zero x (suc p) low = refl
-  away (y ∷ l) (suc i) x (suc p) low = away l i x p (omega (arith, low))
+  away : (l : List Out) (i : ℕ) (x : Out) (p : ℕ) → p ≢ i → slice_get (slice_set l i x) p ≡ slice_get l p
+  away [] i x p apart = refl
+  away (y ∷ l) zero x zero apart = absurd (apart refl)
+  away (y ∷ l) (suc i) x zero apart = refl
+  away (y ∷ l) zero x (suc p) apart = refl
+  away (y ∷ l) (suc i) x (suc p) apart = away l i x p (λ e. apart (ap suc e))
 
 pub posted-ends : (me k : ℕ) (message : Option Message) (old new : List Out) → ArePutBefore me k message old new → length old ≤ k → HavePut me message old new
-posted-ends me k message old new at past = record { each = λ p o n was there other. at.put p o n was there (omega (arith, past, slice_get_within old p o was)) other }
+posted-ends me k message old new at past = record { each = λ p o n was there other. at.put p o n was there (omega (arith, past, slice_get_within old p o was)) other; itself = at.itself }
 
 pub ruleset posts = (same-ends, same-then, same-put, posted-begins, posted-past, posted-next, posted-ends)

@@ -19,7 +19,7 @@ use Rattle.model_live.proofs.KnowLaws.{heard-next, heard-apart, knows-results, k
 use Rattle.model_live.proofs.NumberLaws.{numbered-next}
 use Rattle.lasp_drive.proofs.NodeLaws.{at-set}
 use Rattle.lasp_mail.specs.declared.item.Item.{Item}
-use Rattle.lasp_live.specs.Ends.{Box, In}
+use Rattle.lasp_live.specs.Ends.{Box, In, IsUntaken}
 use Rattle.lasp_live.specs.Fed.{Setting, frame_in, has_ended, HasHeard, Hears, IsHearing, AreHearings, HearsMore}
 use Rattle.lasp_live.specs.Mail.{mails, message_in, plan_of, letters_so_far}
 use Rattle.lasp_live.specs.Own.{total_in}
@@ -54,6 +54,7 @@ hears-learned s old new own ended ins h learned legal made = record {
   many = h.many;
   itself = h.itself;
   heard = λ q e at other. heard-learned s old new q e (has_ended ended q) learned (h.heard q e at other);
+  untaken = h.untaken;
 }
 
 -- ---- a letter
@@ -91,6 +92,11 @@ heard-other old new q r k e ended m found feeds low other heard = record {
 never-itself : (s : Setting) (old : List Entry) (own : Own) (ended : List Bool) (ins : List In) (q : ℕ) → Hears s old own ended ins → has_ended ended q ≡ false → q ≢ s.me
 never-itself s old own ended ins q h more e = let both : true ≡ false = sym h.itself ∙ ap (has_ended ended) (sym e) ∙ more in cc
 
+-- what is taken of another is not the node's own
+untaken-still : (ins : List In) (me q : ℕ) (after : In) → q ≢ me → IsUntaken ins me → IsUntaken (slice_set ins q after) me
+untaken-still ins me q after other none i there =
+    at-set (λ r e. r ≡ me → e.got ≡ []) ins q after (λ r e apart was is. none e (ap (slice_get ins) (sym is) ∙ was)) (λ is. absurd (other is)) me i there refl
+
 pub hears-letter : (s : Setting) (old new : List Entry) (own : Own) (ended : List Bool) (ins : List In) (q : ℕ) (i : In) (item : Item Mail) (m : Message) (found : List Entry) → Hears s old own ended ins
     → slice_get ins q ≡ Some i → q < s.script.nodes → has_ended ended q ≡ false → item.number ≡ length i.got → message_in item.body ≡ Some m
     → IsLetter s.graph s.script m → IsNews s.graph s.me own.updates (total_in own) m → item.number < numbers_of_one → Feeds (Deliver (first_number q + item.number) m) found old new
@@ -109,6 +115,7 @@ hears-letter s old new own ended ins q i item m found h at member more number is
       heard = at-set (λ r e. r ≢ s.me → HasHeard new r e (has_ended ended r)) ins q (taken i item)
           (λ r e apart there away. heard-other old new q r item.number e (has_ended ended r) m found feeds low apart (h.heard r e there away))
           (λ away. subst (HasHeard new q (taken i item)) (sym more) (heard-letter old new q i item m found feeds low number is (subst (HasHeard old q i) more (h.heard q i at away))));
+      untaken = untaken-still ins s.me q (taken i item) other h.untaken;
     }
 
 -- ---- the end of a sender
@@ -132,6 +139,7 @@ hears-end s old own ended ins q i item h at member more is =
       heard = at-set (λ r e. r ≢ s.me → HasHeard old r e (has_ended (slice_set ended q true) r)) ins q (taken i item)
           (λ r e apart there away. subst (HasHeard old r e) (sym (get_or-set_other ended q r true true apart)) (h.heard r e there away))
           (λ away. subst (HasHeard old q (taken i item)) (sym (get_or-set_same ended q true true low)) (heard-end old q i item is (subst (HasHeard old q i) more (h.heard q i at away))));
+      untaken = untaken-still ins s.me q (taken i item) other h.untaken;
     }
 
 -- ---- messages and results alone

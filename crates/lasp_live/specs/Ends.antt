@@ -23,6 +23,14 @@ pub record AreEnds (plan : Plan) (nodes me : ℕ) (boxes : List Box) (outs : Lis
   pub outs_of : (p : ℕ) (o : Out) → slice_get outs p ≡ Some o → slice_get boxes (me * nodes + p) ≡ Some o.of
   pub ins_of : (q : ℕ) (i : In) → slice_get ins q ≡ Some i → slice_get boxes (q * nodes + me) ≡ Some i.of
 
+-- nothing was put into the mailbox to node p
+abbrev pub IsUnput : List Out → ℕ → Type 0
+IsUnput outs p = (o : Out) → slice_get outs p ≡ Some o → o.put ≡ []
+
+-- nothing was taken from the mailbox of node q
+abbrev pub IsUntaken : List In → ℕ → Type 0
+IsUntaken ins q = (i : In) → slice_get ins q ≡ Some i → i.got ≡ []
+
 -- ends through which nothing went
 pub record AreUnused (outs : List Out) (ins : List In) : Type 0 where
   pub outs_are : (p : ℕ) (o : Out) → slice_get outs p ≡ Some o → o.put ≡ []

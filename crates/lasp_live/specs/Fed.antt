@@ -13,7 +13,7 @@ use Rattle.model_live.specs.Lived.{heard_of, numbered, first_number, AreOfOthers
 use Rattle.model_live.specs.Story.{ArePlaced, Goes, deeds_from, letters_in, letters, IsStory}
 use Rattle.model_live.specs.Together.{AreWithin, own_updates}
 use Rattle.lasp_live.specs.Diary.{notes_of, story_of, AreTold}
-use Rattle.lasp_live.specs.Ends.{Out, In}
+use Rattle.lasp_live.specs.Ends.{Out, In, IsUnput, IsUntaken}
 use Rattle.lasp_live.specs.Mail.{mails, letters_so_far, letters_and_end, if_ended}
 use Rattle.lasp_live.specs.Own.{CountsOwn, peer_before, steps_before, total_in}
 use Rattle.lasp_live.specs.declared.diary.Diary.{Diary}
@@ -51,6 +51,7 @@ pub record Hears (s : Setting) (seen : List Entry) (own : Own) (ended : List Boo
   pub many : length ended ≡ s.script.nodes
   pub itself : has_ended ended s.me ≡ true
   pub heard : (q : ℕ) (e : In) → slice_get ins q ≡ Some e → q ≢ s.me → HasHeard seen q e (has_ended ended q)
+  pub untaken : IsUntaken ins s.me
 
 -- a message that came, or a result
 abbrev pub IsHearing : Act → Type 0
@@ -82,6 +83,7 @@ pub record IsAt (s : Setting) (i : ℕ) (seen : List Entry) (log : Log) (outs : 
   pub few : log.sent ≤ i
   pub sent : log.sent ≡ length (letters_in (frame_in s) seen (notes_of log.diary))
   pub put : (p : ℕ) (o : Out) → slice_get outs p ≡ Some o → p ≢ s.me → mails o.put ≡ letters_so_far (letters_in (frame_in s) seen (notes_of log.diary))
+  pub unput : IsUnput outs s.me
 
 -- a log in which nothing stands
 pub record IsFresh (g : List Decl) (nodes me : ℕ) (log : Log) : Type 0 where
@@ -109,7 +111,7 @@ abbrev pub behind : Script → Option ℕ → ℕ
 behind script None = length script.commands
 behind script (Some c) = c - 1
 
--- A feeder at its end: its journal and its diary are a story of its node, what it noted is so, all its letters and then the end lie in every other node's mailbox, and it took all that stands in its own ones, to the end of each, and nothing else.
+-- A feeder at its end: its journal and its diary are a story of its node, what it noted is so, all its letters and then the end lie in every other node's mailbox, and it took all that stands in its own ones, to the end of each, and nothing else; its mailbox to itself stays unused.
 pub record HasFed (s : Setting) (seen : List Entry) (diary : Diary) (outs : List Out) (ins : List In) : Type 0 where
   pub story : IsStory s.graph s.script s.me (story_of seen diary)
   pub told : AreTold (frame_in s) seen diary.notes.items
@@ -117,4 +119,6 @@ pub record HasFed (s : Setting) (seen : List Entry) (diary : Diary) (outs : List
   pub got : (q : ℕ) (e : In) → slice_get ins q ≡ Some e → q ≢ s.me
       → (messages : List Message) × (mails e.got ≡ letters_and_end messages) × (heard_of q seen ≡ numbered (first_number q) messages)
   pub others : AreOfOthers s.script.nodes s.me seen
+  pub unput : IsUnput outs s.me
+  pub untaken : IsUntaken ins s.me
   pub own : HoldsOwn s (behind s.script diary.failed) seen

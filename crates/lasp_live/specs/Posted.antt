@@ -31,12 +31,14 @@ pub record IsPutTo (p : ℕ) (message : Option Message) (old new : List Out) : T
   pub of : after.of ≡ before.of
   pub more : mails after.put ≡ mails before.put ++ message ∷ []
 
--- one more item lies in each mailbox to another node before node k, and those from there on are as they were
+-- one more item lies in each mailbox to another node before node k; those from there on, and the node's own, are as they were
 pub record ArePutBefore (me k : ℕ) (message : Option Message) (old new : List Out) : Type 0 where
   pub same : AreOfTheSame old new
   pub put : (p : ℕ) (o n : Out) → slice_get old p ≡ Some o → slice_get new p ≡ Some n → p < k → p ≢ me → mails n.put ≡ mails o.put ++ message ∷ []
   pub left : (p : ℕ) → k ≤ p → slice_get new p ≡ slice_get old p
+  pub itself : slice_get new me ≡ slice_get old me
 
--- one more item lies in each mailbox to another node
+-- one more item lies in each mailbox to another node, and the node's own is as it was
 pub record HavePut (me : ℕ) (message : Option Message) (old new : List Out) : Type 0 where
   pub each : (p : ℕ) (o n : Out) → slice_get old p ≡ Some o → slice_get new p ≡ Some n → p ≢ me → mails n.put ≡ mails o.put ++ message ∷ []
+  pub itself : slice_get new me ≡ slice_get old me

@@ -18,7 +18,7 @@ loop-p-preserved g c =
       | then-p-from+in_ok-body+in_ok-put_to w ↦
           let put = subst (λ (o : Option Message). IsPutTo c.loop-p.p o c.loop-p.outs.items w.put_to.new.outs.items) w.in_ok-body.ensures.message_is w.in_ok-put_to.ensures.put in
           subst (ArePutBefore c.args.me (c.loop-p.p + 1) message c.args.outs.now.items) (ap (λ v. v.items) (sym w.outs-is))
-          (posted-next c.args.me c.loop-p.p message c.args.outs.now.items c.loop-p.outs.items w.put_to.new.outs.items c.loop-p.invariant put)
+          (posted-next c.args.me c.loop-p.p message c.args.outs.now.items c.loop-p.outs.items w.put_to.new.outs.items c.loop-p.invariant (grind (arith, nat_tests, w.if-p-from.true, c.from.ensures)) put)
       | else-p-from w ↦
           subst (ArePutBefore c.args.me (c.loop-p.p + 1) message c.args.outs.now.items) (ap (λ v. v.items) (sym w.outs-is))
           (posted-past c.args.me c.loop-p.p message c.args.outs.now.items c.loop-p.outs.items c.loop-p.invariant (grind (arith, nat_tests, w.if-p-from.false, c.from.ensures)))

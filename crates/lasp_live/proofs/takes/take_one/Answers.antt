@@ -39,6 +39,10 @@ returns-in-Letter-clause-more g c =
     let came = c.in_ok-deliver-in-Letter.ensures.delivered in
     more-letter (g.F.Feeder.seen c.args.f.now) (g.F.Feeder.seen c.deliver.new.f) came.2.0 (first_number c.args.q + c.in-Some.item.number) c.in-Letter.letter.0 came.2.1
 
+pub returns-in-Letter-clause-may : goal.returns-in-Letter-clause-may
+returns-in-Letter-clause-may g c =
+    may-taken (setting (arc_value c.args.graph.now) (arc_value c.args.script.now) c.args.me) c.args.boxes.now c.args.ins.now.items c.take_from.new.ins.items c.args.q c.in-Some.item c.requires.may c.in-Some.ensures.some
+
 pub returns-clause-may : goal.returns-clause-may
 returns-clause-may g c =
     may-taken (setting (arc_value c.args.graph.now) (arc_value c.args.script.now) c.args.me) c.args.boxes.now c.args.ins.now.items c.take_from.new.ins.items c.args.q c.in-Some.item c.requires.may c.in-Some.ensures.some
