@@ -7,6 +7,7 @@ pub mod PostLaws
 pub mod OwnStepLaws
 pub mod AtLaws
 pub mod SettledLaws
+pub mod RefusalLaws
 pub mod LearnLaws
 pub mod CommandLaws
 pub mod FeedLaws

@@ -39,8 +39,12 @@ Delivers {A} X i m old (Err why) new = Learns old new × IsDelivered {A = A} X.n
 abbrev pub AreEvaluated : Frame → List Entry → Type 0
 AreEvaluated X entries = vals X entries ≡ eval (graph X entries) (sources X entries)
 
+-- nor does it make a variable too large
+abbrev pub AreSmall : Frame → List Entry → Type 0
+AreSmall X entries = first_large 0 (eval (graph X entries) (sources X entries)) ≡ None
+
 -- all was settled, and no variable is too large; or this one is the first that is; or memory was wanting
 abbrev pub Settles : Frame → List Entry → Result ℕ Settle → Type 0
-Settles X entries (Ok n) = AreEvaluated X entries × (first_large 0 (eval (graph X entries) (sources X entries)) ≡ None)
+Settles X entries (Ok n) = AreEvaluated X entries × AreSmall X entries
 Settles X entries (Err (settle.TooLarge x)) = first_large 0 (eval (graph X entries) (sources X entries)) ≡ Some x
 Settles X entries (Err settle.Memory) = Unit {0}

@@ -9,7 +9,7 @@ ghost use Rattle.model_live.specs.Steps.{Does, Updates, Sends, Prints, Waits};
 ghost use Rattle.model_world.specs.World as world;
 ghost use Rattle.lasp_live.specs.Did.{HasAsked, HasDone, HasPassed, HasSettled, HasWaited, IsStepAt};
 ghost use Rattle.model_journal.specs.Journal.{declared};
-ghost use Rattle.lasp_live.specs.Prelude.{arc_value, AreMadeByTheirCallers, IsAt, IsLegal, frame_in, op_of, threshold_of, until_of};
+ghost use Rattle.lasp_live.specs.Prelude.{arc_value, AreMadeByTheirCallers, AreSmall, IsAt, IsLegal, frame_in, op_of, threshold_of, until_of};
 ghost use Rattle.lasp_live.specs.Steady.{MayFeed, setting};
 
 use crate::diary::Noted;
@@ -21,6 +21,7 @@ use crate::rest::Rest;
 use crate::signal::Signal;
 use crate::step::{Step, step_of};
 use crate::takes::take_round;
+use lasp_core::Settle;
 use lasp_graph::Graph;
 use lasp_mail::{Inlet, Mailbox, Outlet};
 use lasp_script::{Script, Until};
@@ -124,15 +125,20 @@ fn print<F: Feeder>(
     log.diary.note(place, Noted::Print(x, state))
 }
 
-/// Settles the node.
+/// Settles the node, of which no variable comes to be too large: only memory may be wanting.
 fn settle<F: Feeder>(f: &mut F) -> Result<(), AllocError>
+    requires small { AreSmall (F.frame f.old) (F.seen f.old) }
     ensures place { F.place f.new ≡ F.place f.old }
     ensures frame { F.frame f.new ≡ F.frame f.old }
     ensures settled { HasSettled (F.frame f.old) (F.seen f.old) result (F.seen f.new) }
 {
     match f.settle_all() {
         Ok(_) => Ok(()),
-        Err(_) => Err(AllocError),
+        Err(Settle::Memory) => Err(AllocError),
+        Err(Settle::TooLarge(_)) => {
+            f.recall();
+            unreachable!()
+        }
     }
 }
 
@@ -162,6 +168,7 @@ fn threshold(alloc: Global, until: &Until) -> Result<Threshold, AllocError>
 
 /// Whether a variable is at the threshold, as the node is settled.
 fn is_at<F: Feeder>(f: &mut F, x: u8, threshold: &Threshold) -> Result<bool, AllocError>
+    requires small { AreSmall (F.frame f.old) (F.seen f.old) }
     requires undeclared { declared (F.seen f.old) ≡ [] }
     requires var { x < length (F.frame f.old).opening }
     requires suits { IsTrue (suits (threshold_of threshold.now) (shape_of (F.frame f.old).nodes (kind_at (F.frame f.old).opening x))) }

@@ -2,9 +2,17 @@ use Rattle.std.proofs.Common.{◌<◌, length, sym, subst, ◌∙◌}
 use Rattle.std.specs.Arc.{arc_value}
 use Rattle.model_journal.specs.Entry.{Frame}
 use Rattle.model_journal.specs.Journal.{graph}
+use Rattle.lasp_live.specs.Own.{total_in}
 use Rattle.lasp_live.specs.Steady.{setting}
 use Rattle.lasp_live.proofs.LearnLaws.{done-printed, opened-var}
+use Rattle.lasp_live.proofs.RefusalLaws.{small-known}
 use Rattle.lasp_live.proofs.commands.print.Goals as goal
+
+pub settle-requires : goal.settle-requires
+settle-requires g c = record {
+  small = small-known (arc_value c.args.graph.now) (arc_value c.args.script.now) c.args.me c.args.log.now.own.updates (total_in c.args.log.now.own) (g.F.Feeder.frame c.args.f.now) (g.F.Feeder.seen c.args.f.now) c.requires.frame
+      c.requires.may.small c.requires.at.hears.knows;
+}
 
 pub look-requires : goal.look-requires
 look-requires g c =

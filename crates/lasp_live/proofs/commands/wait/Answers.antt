@@ -7,11 +7,18 @@ use Rattle.model_states.specs.Threshold.{meets}
 use Rattle.lasp_script.specs.Command.{until_of}
 use Rattle.lasp_state.specs.Threshold.{threshold_of}
 use Rattle.lasp_live.specs.Fed.{Setting, Hears, IsAt, has_ended}
+use Rattle.lasp_live.specs.Own.{total_in}
 use Rattle.lasp_live.specs.Steady.{setting}
 use Rattle.lasp_live.proofs.AtLaws.{at-hears, at-learned, at-met, at-unmet}
 use Rattle.lasp_live.proofs.FeedLaws.{may-heard}
+use Rattle.lasp_live.proofs.RefusalLaws.{small-known}
 use Rattle.lasp_live.proofs.commands.wait.Goals as goal
 use Rattle.lasp_live.proofs.commands.wait.Goals.{then-is_new+in_ok-is_at+else-branch+else-have_all_ended, else-is_new}
+
+pub is_at-requires-clause-small : goal.is_at-requires-clause-small
+is_at-requires-clause-small g c =
+    small-known (arc_value c.args.graph.now) (arc_value c.args.script.now) c.args.me c.loop.log.own.updates (total_in c.loop.log.own) (g.F.Feeder.frame c.loop.f) (g.F.Feeder.seen c.loop.f) (c.loop.invariant.frame ∙ c.requires.frame)
+    c.loop.invariant.may.small c.loop.invariant.at.hears.knows
 
 pub returns-then-branch-clause-waited : goal.returns-then-branch-clause-waited
 returns-then-branch-clause-waited g c =
