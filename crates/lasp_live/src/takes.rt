@@ -1,7 +1,8 @@
 //! Taking from the mailboxes of a node.
 
-ghost use Rattle.std.specs.Prelude.{◌≡◌, ◌+◌, ◌*◌, ◌<◌, ◌≤◌, OnOk, IfSome, IfNone, Some, length, slice_get};
-ghost use Rattle.lasp_live.specs.Prelude.{arc_value, AreMadeByTheirCallers, HaveEnded, Hears, HearsMore, In, IsLegal, IsSealed, IsTakenFrom, frame_in};
+ghost use Rattle.std.specs.Prelude.{◌≡◌, ◌+◌, ◌*◌, ◌<◌, ◌≤◌, OnOk, IfSome, IfNone, None, Some, length, slice_get};
+ghost use Rattle.lasp_live.specs.Prelude.{arc_value, AreMadeByTheirCallers, HaveEnded, Hears, HearsMore, In, IsLegal, IsSealed, IsTakenFrom, frame_in, frame_of, too_large, total_in};
+ghost use Rattle.model_live.specs.Knows.{Knows};
 ghost use Rattle.lasp_live.specs.Steady.{MayHear, HasDelivered, setting};
 
 use crate::feeder::Feeder;
@@ -10,6 +11,7 @@ use crate::mail::{Letter, Mail};
 use crate::own::Own;
 use crate::rest::Rest;
 use crate::signal::Signal;
+use lasp_core::DeliverRefused;
 use lasp_graph::Graph;
 use lasp_mail::{Inlet, Item, Mailbox};
 use lasp_script::Script;
@@ -19,7 +21,7 @@ use std::sync::{Arc, Wait};
 /// The numbers of one node's messages.
 const NUMBERS_OF_ONE: u32 = 100_000;
 
-/// Delivers a letter of node q that came as the item with this number. It is refused where it tells this node of what it didn't do, or has too great a number: in a run no such letter comes, but the mailboxes don't tell so.
+/// Delivers a letter of node q that came as the item with this number, unless memory is wanting. It is refused, too, where it tells this node of what it didn't do, or has too great a number: in a run no such letter comes, but the mailboxes don't tell so.
 #[tactic(auto, using(crate::proofs::TakeLaws::learnings))]
 fn deliver<F: Feeder>(
     f: &mut F,
@@ -34,6 +36,9 @@ fn deliver<F: Feeder>(
     requires frame { (F.frame f.old).replica ≡ me }
     requires member { (me < (F.frame f.old).nodes) × ((F.frame f.old).nodes ≤ 8) × (q < (F.frame f.old).nodes) }
     requires size { length own.now.totals.items ≡ length graph.now }
+    requires whole { F.frame f.old ≡ frame_of letter.now.1.0 letter.now.1.1.nodes me }
+    requires small { too_large letter.now.1.0 letter.now.1.1 ≡ None }
+    requires knows { Knows letter.now.1.0 letter.now.1.1 me own.now.updates (total_in own.now) (F.seen f.old) }
     ensures place { F.place f.new ≡ F.place f.old }
     ensures frame { F.frame f.new ≡ F.frame f.old }
     ensures letter { IsSealed letter.now }
@@ -56,7 +61,15 @@ fn deliver<F: Feeder>(
             f.recall();
             Ok(())
         }
-        Err(_) => Err(AllocError),
+        Err(DeliverRefused::Memory) => Err(AllocError),
+        Err(DeliverRefused::WrongGraph) => {
+            f.recall();
+            unreachable!()
+        }
+        Err(DeliverRefused::TooManyRows(_)) => {
+            f.recall();
+            unreachable!()
+        }
     }
 }
 

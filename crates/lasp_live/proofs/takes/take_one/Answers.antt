@@ -1,21 +1,47 @@
 use Rattle.std.proofs.Common.{rules, ◌≡◌, ◌+◌, ℕ, List, get_or, true, false, sym, ap, subst, ◌∙◌, arith}
-use Rattle.std.specs.Prelude.{slice_set}
+use Rattle.std.specs.Prelude.{None, slice_set}
 use Rattle.std.specs.Arc.{arc_value}
 use Rattle.std.proofs.lemmas.List.{get_or_read}
 use Rattle.model_graph.specs.Graph.{Decl}
 use Rattle.model_journal.specs.Entry.{Frame}
 use Rattle.model_journal.specs.Legal.{IsLegal}
+use Rattle.model_runs.specs.Calls.{frame_of}
+use Rattle.model_live.specs.Knows.{Knows}
 use Rattle.model_live.specs.Letter.{IsNews}
 use Rattle.model_live.specs.Lived.{first_number}
+use Rattle.model_live.specs.Together.{too_large}
 use Rattle.lasp_live.specs.Fed.{Setting, has_ended, Hears}
 use Rattle.lasp_live.specs.Mail.{message_in, plan_of}
 use Rattle.lasp_live.specs.Own.{total_in}
+use Rattle.lasp_live.specs.Sealed.{Plan}
 use Rattle.lasp_live.specs.Steady.{setting}
-use Rattle.lasp_live.proofs.TakeLaws.{may-taken, more-letter, takes-end, takes-letter}
+use Rattle.lasp_live.proofs.TakeLaws.{may-taken, more-letter, plan-taken, takes-end, takes-letter}
 use Rattle.lasp_live.proofs.takes.take_one.Goals as goal
 
 pub take_from-requires-clause-few : goal.take_from-requires-clause-few
 take_from-requires-clause-few g c = omega (arith, c.requires.may.many.1, c.requires.may.limits.nodes)
+
+-- the letter is of the run's graph and script
+pub deliver-requires-clause-whole : goal.deliver-requires-clause-whole
+deliver-requires-clause-whole g c =
+    let s : Setting = setting (arc_value c.args.graph.now) (arc_value c.args.script.now) c.args.me in
+    let plan = ap plan_of c.in-Letter.is in
+    let same = sym (plan-taken s c.args.boxes.now c.args.ins.now.items c.take_from.new.ins.items c.args.q c.in-Some.item c.requires.may c.in-Some.ensures.some) ∙ plan in
+    c.requires.frame ∙ ap (λ (p : Plan). frame_of p.0 p.1.nodes c.args.me) same
+
+pub deliver-requires-clause-small : goal.deliver-requires-clause-small
+deliver-requires-clause-small g c =
+    let s : Setting = setting (arc_value c.args.graph.now) (arc_value c.args.script.now) c.args.me in
+    let plan = ap plan_of c.in-Letter.is in
+    let same = sym (plan-taken s c.args.boxes.now c.args.ins.now.items c.take_from.new.ins.items c.args.q c.in-Some.item c.requires.may c.in-Some.ensures.some) ∙ plan in
+    subst (λ (p : Plan). too_large p.0 p.1 ≡ None) same c.requires.may.small
+
+pub deliver-requires-clause-knows : goal.deliver-requires-clause-knows
+deliver-requires-clause-knows g c =
+    let s : Setting = setting (arc_value c.args.graph.now) (arc_value c.args.script.now) c.args.me in
+    let plan = ap plan_of c.in-Letter.is in
+    let same = sym (plan-taken s c.args.boxes.now c.args.ins.now.items c.take_from.new.ins.items c.args.q c.in-Some.item c.requires.may c.in-Some.ensures.some) ∙ plan in
+    subst (λ (p : Plan). Knows p.0 p.1 c.args.me c.args.own.now.updates (total_in c.args.own.now) (g.F.Feeder.seen c.args.f.now)) same c.requires.hears.knows
 
 pub returns-in-Letter-clause-hears : goal.returns-in-Letter-clause-hears
 returns-in-Letter-clause-hears g c =
