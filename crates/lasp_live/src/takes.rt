@@ -32,11 +32,10 @@ fn deliver<F: Feeder>(
     number: u64,
     letter: &Letter,
 ) -> Result<(), AllocError>
-    requires letter { (letter.now.1.0 ≡ graph.now) × (letter.now.1.1.nodes ≡ (F.frame f.old).nodes) }
-    requires frame { (F.frame f.old).replica ≡ me }
-    requires member { (me < (F.frame f.old).nodes) × ((F.frame f.old).nodes ≤ 8) × (q < (F.frame f.old).nodes) }
+    requires letter { letter.now.1.0 ≡ graph.now }
+    requires member { (me < letter.now.1.1.nodes) × (letter.now.1.1.nodes ≤ 8) × (q < letter.now.1.1.nodes) }
     requires size { length own.now.totals.items ≡ length graph.now }
-    requires whole { F.frame f.old ≡ frame_of letter.now.1.0 letter.now.1.1.nodes me }
+    requires frame { F.frame f.old ≡ frame_of letter.now.1.0 letter.now.1.1.nodes me }
     requires small { too_large letter.now.1.0 letter.now.1.1 ≡ None }
     requires knows { Knows letter.now.1.0 letter.now.1.1 me own.now.updates (total_in own.now) (F.seen f.old) }
     ensures place { F.place f.new ≡ F.place f.old }

@@ -17,7 +17,7 @@ unreachable-requires g c =
     let answer = c.in-Err-WrongGraph.ensures.answer in
     let wrong = subst (λ why. IsDelivered {A = Unit {0}} X.nodes (graph X new) (vals X new) m (Err why)) c.in-Err-WrongGraph.field-0-is answer.1 in
     never-wrong plan.0 plan.1 c.args.me c.args.own.now.updates (total_in c.args.own.now) X (g.F.Feeder.frame c.deliver.new.self) (g.F.Feeder.seen c.args.f.now) new m
-    c.requires.whole c.deliver.ensures.frame c.requires.knows answer.0 c.recall-in-Err-WrongGraph.ensures.legal c.recall-in-Err-WrongGraph.ensures.made letter wrong
+    c.requires.frame c.deliver.ensures.frame c.requires.knows answer.0 c.recall-in-Err-WrongGraph.ensures.legal c.recall-in-Err-WrongGraph.ensures.made letter wrong
 
 pub unreachable-requires-in-Err-TooManyRows : goal.unreachable-requires-in-Err-TooManyRows
 unreachable-requires-in-Err-TooManyRows g c =
@@ -29,4 +29,4 @@ unreachable-requires-in-Err-TooManyRows g c =
     let answer = c.in-Err-TooManyRows.ensures.answer in
     let full = subst (λ why. IsDelivered {A = Unit {0}} X.nodes (graph X new) (vals X new) m (Err why)) c.in-Err-TooManyRows.field-0-is answer.1 in
     never-full plan.0 plan.1 c.args.me c.args.own.now.updates (total_in c.args.own.now) X (g.F.Feeder.frame c.deliver.new.self) (g.F.Feeder.seen c.args.f.now) new m
-    c.requires.whole c.deliver.ensures.frame c.requires.knows answer.0 c.recall-in-Err-TooManyRows.ensures.legal c.recall-in-Err-TooManyRows.ensures.made letter c.requires.small c.in-Err-TooManyRows.field-0-0 full.1
+    c.requires.frame c.deliver.ensures.frame c.requires.knows answer.0 c.recall-in-Err-TooManyRows.ensures.legal c.recall-in-Err-TooManyRows.ensures.made letter c.requires.small c.in-Err-TooManyRows.field-0-0 full.1

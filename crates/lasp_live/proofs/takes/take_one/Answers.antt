@@ -22,8 +22,8 @@ pub take_from-requires-clause-few : goal.take_from-requires-clause-few
 take_from-requires-clause-few g c = omega (arith, c.requires.may.many.1, c.requires.may.limits.nodes)
 
 -- the letter is of the run's graph and script
-pub deliver-requires-clause-whole : goal.deliver-requires-clause-whole
-deliver-requires-clause-whole g c =
+pub deliver-requires-clause-frame : goal.deliver-requires-clause-frame
+deliver-requires-clause-frame g c =
     let s : Setting = setting (arc_value c.args.graph.now) (arc_value c.args.script.now) c.args.me in
     let plan = ap plan_of c.in-Letter.is in
     let same = sym (plan-taken s c.args.boxes.now c.args.ins.now.items c.take_from.new.ins.items c.args.q c.in-Some.item c.requires.may c.in-Some.ensures.some) ∙ plan in
