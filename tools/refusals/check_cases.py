@@ -109,6 +109,7 @@ REFUSALS = {
         (f'{NODES}["sync"],\n["deliver",1,2]]', "script 2 NotSent", '["deliver",1,2]'),
         (f"{NODES}{MARKS}]", "script 1001 TooMany", "line 1002"),
         (f'{NODES}["add",1,"a",1],\n["mark",1,"a","m"]]', "script 2 NotDots", '["mark",1,"a","m"]'),
+        (f'{NODES}["add",1,"a",1],\n["sync"]]', "script 2 NotLive", '["sync"]'),
         (f'{NODES}["add",0,"a",1],\n["add",1,"a",1]]', "script 2 NotLocal", '["add",1,"a",1]'),
     ),
 }
