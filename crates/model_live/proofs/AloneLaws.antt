@@ -183,7 +183,7 @@ unfolding together
 together-length g script [] = map-length (λ (d : Decl). least_of script.nodes d.kind) g
 together-length g script (p ∷ ps) = gained-length (λ x. Some (content_at (alone g script p).contents x)) 0 (together g script ps) ∙ together-length g script ps
 
-joined-at : (others contents : List Content) (x : ℕ) → x < length contents → content_at (joined others contents) x ≡ join_contents (content_at contents x) (content_at others x)
+pub joined-at : (others contents : List Content) (x : ℕ) → x < length contents → content_at (joined others contents) x ≡ join_contents (content_at contents x) (content_at others x)
 joined-at others contents x low =
     gained-at (λ y. Some (content_at others y)) 0 contents x low ∙ ap (λ (n : ℕ). join_contents (content_at contents x) (content_at others n)) (let here : 0 + x ≡ x = omega arith in here)
 

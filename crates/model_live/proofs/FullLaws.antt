@@ -24,7 +24,7 @@ sorted-dead : (s : List Row) → is_sorted key_cmp (map dead_row s) ≡ is_sorte
 sorted-dead [] = refl
 sorted-dead (r ∷ s) = λ i. below-dead r.0 s i && sorted-dead s i
 
-dead-ordered : (s : Content) → IsOrdered s → IsOrdered (all_dead s)
+pub dead-ordered : (s : Content) → IsOrdered s → IsOrdered (all_dead s)
 dead-ordered s h = record { rows = sorted-dead s.rows ∙ h.rows; values = h.values }
 
 pub dead-at : (contents : List Content) (x : ℕ) → content_at (map all_dead contents) x ≡ all_dead (content_at contents x)
@@ -33,7 +33,7 @@ dead-at [] (suc x) = refl
 dead-at (s ∷ contents) zero = refl
 dead-at (s ∷ contents) (suc x) = dead-at contents x
 
-fresh-ordered : (nodes : ℕ) (g : List Decl) (x : ℕ) → IsOrdered (content_at (map (λ (d : Decl). least_of nodes d.kind) g) x)
+pub fresh-ordered : (nodes : ℕ) (g : List Decl) (x : ℕ) → IsOrdered (content_at (map (λ (d : Decl). least_of nodes d.kind) g) x)
 fresh-ordered nodes [] zero = ordered-least
 fresh-ordered nodes [] (suc x) = ordered-least
 fresh-ordered nodes (d ∷ g) zero = least_of-ordered nodes d.kind

@@ -8,5 +8,6 @@ pub mod AloneLaws
 pub mod WithinLaws
 pub mod HearLaws
 pub mod KnowLaws
+pub mod LargeLaws
 pub mod StepLaws
 pub mod UpdateLaws

@@ -96,7 +96,7 @@ dead-most (r ∷ s) v t h = choose (below-or-not 0 first) (below-or-not 0 rest) 
   choose (inr a) (inl b) later = let high = later b in omega (arith, high)
   choose (inr a) (inr b) later = absurd (omega (arith, a, b, h))
 
-all-above : (s : Content) → IsContentAtMost s (all_dead s)
+pub all-above : (s : Content) → IsContentAtMost s (all_dead s)
 all-above s (at_row v t) = dead-above s.rows v t
 all-above s (at_value v) = omega arith
 all-above s (at_count q) = omega arith
@@ -105,7 +105,7 @@ all-above s (at_top n) = omega arith
 -- ---- what an update joins in
 
 -- a remove brings rows that the node holds, dead as they are in what all come to
-remove-below : (v : Val) (s : Content) (p k : ℕ) (all : Content) → IsContentAtMost s (all_dead all) → IsContentAtMost (delta (op.Remove v) s p k) (all_dead all)
+pub remove-below : (v : Val) (s : Content) (p k : ℕ) (all : Content) → IsContentAtMost s (all_dead all) → IsContentAtMost (delta (op.Remove v) s p k) (all_dead all)
 remove-below v s p k all within (at_row u t) = choose (below-or-not 0 (mark (delta (op.Remove v) s p k).rows u t)) where
   choose : (0 < mark (delta (op.Remove v) s p k).rows u t) ⊎ (mark (delta (op.Remove v) s p k).rows u t ≤ 0) → mark (delta (op.Remove v) s p k).rows u t ≤ mark (map dead_row all.rows) u t
   choose (inl some) =

@@ -1,11 +1,12 @@
 -- What all updates of a script come to together, as if every row were removed: no node ever holds more, whatever comes when.
-use Rattle.std.specs.Prelude.{ℕ, ◌<◌, true, List, [], ◌∷◌, length, map, Option, Some}
+use Rattle.std.specs.Prelude.{ℕ, ◌<◌, ◌≤◌, true, List, [], ◌∷◌, length, map, Option, Some}
 use Rattle.std.specs.List.{range_with_len}
 use Rattle.model_values.specs.Row.{Row}
-use Rattle.model_states.specs.Content.{Content, IsContentAtMost}
+use Rattle.model_states.specs.Content.{Content, IsContentAtMost, row_limit, size_of}
 use Rattle.model_states.specs.Counts.{count_at}
 use Rattle.model_graph.specs.Graph.{Decl}
 use Rattle.model_graph.specs.Evaluation.{content_at, eval, first_large}
+use Rattle.model_graph.specs.Lawful.{IsDerived}
 use Rattle.model_graph.specs.Message.{gained}
 use Rattle.model_world.specs.Command.{Script}
 use Rattle.model_world.specs.World.{Peer, fresh_peer, updated}
@@ -53,6 +54,12 @@ own_updates g script q = count_at (alone g script q).counts q
 -- the first variable that comes to too many rows when all is known everywhere. How many rows a set has doesn't hang on which of them are dead
 abbrev pub too_large : List Decl → Script → Option ℕ
 too_large g script = first_large 0 (eval g (full g script))
+
+-- the derived variable has more rows than the limit, and no derived one before it does
+pub record IsFirstLargeDerived (g : List Decl) (contents : List Content) (x : ℕ) : Type 0 where
+  pub derived : IsDerived g x
+  pub large : row_limit < size_of (content_at contents x)
+  pub before : (y : ℕ) → y < x → IsDerived g y → size_of (content_at contents y) ≤ row_limit
 
 -- contents of all variables of a node, no more than all updates together come to
 abbrev pub AreWithin : List Decl → Script → List Content → Type 0

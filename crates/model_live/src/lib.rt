@@ -2,6 +2,7 @@
 #![tactic(auto)]
 
 mod hearings;
+mod large;
 mod letters;
 mod numbers;
 mod steps;
@@ -12,6 +13,7 @@ mod words;
 pub use hearings::{
     news_leave_a_nodes_own_counts, nodes_hear_letters, nodes_know_as_their_journals_go_on,
 };
+pub use large::what_is_too_large_is_derived;
 pub use letters::{letters_are_refused_for_want_of_memory_alone, nodes_stay_within_what_all_do};
 pub use numbers::numbers_tell_the_sender;
 pub use steps::steps_go_on_by_commands;
