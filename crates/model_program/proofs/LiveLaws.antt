@@ -6,6 +6,7 @@ use Rattle.model_functions.specs.Library.{Library}
 use Rattle.model_graph.specs.Graph.{Decl, name_at}
 use Rattle.model_live.specs.Together.{too_large}
 use Rattle.model_live.specs.Words.{first_other}
+use Rattle.model_live.proofs.LargeLaws.{large-derived}
 use Rattle.model_live.proofs.WordLaws.{other-told, other-is, none-known, known-none}
 use Rattle.model_values.specs.Faults.{Rose}
 use Rattle.model_world.specs.Command.{Script}
@@ -32,7 +33,9 @@ module _ (lib : Library) (content : List ℕ → Option (List ℕ)) (words : Lis
   Found = (b : Answer) × HasLiveCause lib content words failed b
 
   small-found : (g : List Decl) (s : Script) → IsGraphTold lib content words g → IsScriptTold lib content words g s → first_other 1 s.commands ≡ None → (o : Option ℕ) → too_large g s ≡ o → Found
-  small-found g s graph script live (Some x) e = (small_or g s failed (Some x), too_many graph script (none-known 1 s.commands live) e)
+  small-found g s graph script live (Some x) e =
+      let known = none-known 1 s.commands live in
+      (small_or g s failed (Some x), too_many graph script known ((large-derived g s x known).0 e))
   small-found g s graph script live None e = (small_or g s failed None, lived graph script (none-known 1 s.commands live) e)
 
   word-found : (g : List Decl) (s : Script) → IsGraphTold lib content words g → IsScriptTold lib content words g s → (o : Option ℕ) → first_other 1 s.commands ≡ o → Found
@@ -65,7 +68,7 @@ module _ (lib : Library) (content : List ℕ → Option (List ℕ)) (words : Lis
   live-caused _ (graph_refused {x = x} h) = graph-told lib content words (λ g. living_script lib failed g) x h
   live-caused _ (script_refused {g = g} {x = x} graph h) = opening-read lib content words (λ h. living_script lib failed h) g graph ∙ script-told lib content words g (λ s. Says (live_answer failed g s)) x h
   live-caused _ (other_word {g = g} {s = s} {place = place} graph script first) = live-told g s graph script ∙ ap (λ (w : Option ℕ). Some (live_or g s failed w)) (other-is 1 place s.commands first)
-  live-caused _ (too_many {g = g} {s = s} {x = x} graph script live e) = live-small g s (Some x) graph script (known-none 1 s.commands live) e
+  live-caused _ (too_many {g = g} {s = s} {x = x} graph script live first) = live-small g s (Some x) graph script (known-none 1 s.commands live) ((large-derived g s x live).1 first)
   live-caused _ (lived {g = g} {s = s} graph script live e) = live-small g s None graph script (known-none 1 s.commands live) e
 
   -- an answer has its cause

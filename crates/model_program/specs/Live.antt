@@ -1,8 +1,9 @@
 -- `live`: the nodes of a script run beside each other. Its plan, what its calls come to, how they end, and all that is promised of them.
 use Rattle.std.specs.Prelude.{◌≡◌, ◌≢◌, ◌⊎◌, ℕ, ◌+◌, List, [], ◌∷◌, codes, length, Option, Some, None, Result, Ok, Err}
 use Rattle.model_functions.specs.Library.{Library}
+use Rattle.model_graph.specs.Evaluation.{eval}
 use Rattle.model_graph.specs.Graph.{Decl, name_at}
-use Rattle.model_live.specs.Together.{too_large}
+use Rattle.model_live.specs.Together.{full, too_large, IsFirstLargeDerived}
 use Rattle.model_live.specs.Words.{AreLive, IsFirstOther, first_other}
 use Rattle.model_values.specs.Faults.{Rose}
 use Rattle.model_values.specs.Told.{Appends, AppendsPrefix}
@@ -83,7 +84,7 @@ pub data HasLiveCause (lib : Library) (content : List ℕ → Option (List ℕ))
   script_refused : {g : List Decl} {x : Refusal} → IsGraphTold lib content words g → IsScriptRefused lib content words g x → HasLiveCause lib content words failed (Err x)
   other_word : {g : List Decl} {s : Script} {place : ℕ} → IsGraphTold lib content words g → IsScriptTold lib content words g s → IsFirstOther 1 s.commands place
       → HasLiveCause lib content words failed (Err (refusal.NotLive (1 + place)))
-  too_many : {g : List Decl} {s : Script} {x : ℕ} → IsGraphTold lib content words g → IsScriptTold lib content words g s → AreLive s.commands → too_large g s ≡ Some x
+  too_many : {g : List Decl} {s : Script} {x : ℕ} → IsGraphTold lib content words g → IsScriptTold lib content words g s → AreLive s.commands → IsFirstLargeDerived g (eval g (full g s)) x
       → HasLiveCause lib content words failed (Err (refusal.TooLarge (length s.commands + 1) 0 (name_at g x)))
   lived : {g : List Decl} {s : Script} → IsGraphTold lib content words g → IsScriptTold lib content words g s → AreLive s.commands → too_large g s ≡ None → HasLiveCause lib content words failed (Ok (Lived g s failed))
 
