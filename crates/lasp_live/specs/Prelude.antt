@@ -3,7 +3,7 @@ pub use Rattle.std.specs.Arc.{arc_value}
 pub use Rattle.model_journal.specs.Entry.{Entry, Frame}
 pub use Rattle.model_journal.specs.Journal.{graph, vals}
 pub use Rattle.model_journal.specs.Legal.{IsLegal}
-pub use Rattle.model_journal.specs.Callers.{AreMadeByTheirCallers}
+pub use Rattle.model_journal.specs.Callers.{AreMadeByTheirCallers, made_by}
 pub use Rattle.model_world.specs.Lawful.{IsLawful}
 pub use Rattle.model_world.specs.World.{message_at}
 pub use Rattle.model_core.specs.Peer.{peer_of}
@@ -26,4 +26,4 @@ pub use Rattle.lasp_live.specs.Mail.{mails, message_in, plan_of, letters_and_end
 pub use Rattle.lasp_live.specs.Own.{CountsOwn, steps_before, total_in}
 pub use Rattle.lasp_live.specs.Taken.{IsTakenFrom}
 pub use Rattle.lasp_live.specs.Sealed.{IsSealed, Plan, Sealed, coded_sealed}
-pub use Rattle.lasp_live.specs.Turns.{AreEvaluated, AreSmall, Delivers, Feeds, Learns, Settles, Updates}
+pub use Rattle.lasp_live.specs.Turns.{Adds, AreEvaluated, AreSmall, Delivers, Feeds, IsFoundBehind, Learns, Settles, Updates}

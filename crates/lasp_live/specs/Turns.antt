@@ -1,5 +1,5 @@
 -- What one call of a feeder makes of the journal that it has seen, whatever others add to it meanwhile.
-use Rattle.std.specs.Prelude.{◌≡◌, ℕ, List, [], ◌∷◌, ◌++◌, Some, None, Result, Ok, Err}
+use Rattle.std.specs.Prelude.{◌≡◌, ℕ, ◌+◌, List, [], ◌∷◌, ◌++◌, Some, None, Result, Ok, Err}
 use Rattle.model_graph.specs.Evaluation.{eval, first_large}
 use Rattle.model_journal.specs.Entry as model
 use Rattle.model_journal.specs.Entry.{Act, Entry, Frame}
@@ -34,6 +34,16 @@ Updates {A} X x op old (Err why) new = Learns old new × IsAnswered {A = A} (upd
 abbrev pub Delivers : {A : Type 0} → Frame → ℕ → Message → List Entry → Result A DeliverRefused → List Entry → Type 0
 Delivers {A} X i m old (Ok a) new = (found : List Entry) × Feeds (model.Deliver i m) found old new × IsDelivered X.nodes (graph X found) (vals X found) m (Ok a)
 Delivers {A} X i m old (Err why) new = Learns old new × IsDelivered {A = A} X.nodes (graph X new) (vals X new) m (Err why)
+
+-- the feeder's own entries go on by this act where the call was done, and stay where it was refused
+abbrev pub Adds : {A E : Type 0} → Act → List Entry → Result A E → List Entry → Type 0
+Adds a old (Ok done) new = new ≡ old ++ fed a ∷ []
+Adds a old (Err why) new = new ≡ old
+
+-- the call found so many entries: all that there are behind it but that which it added
+abbrev pub IsFoundBehind : {A E : Type 0} → Result A E → ℕ → ℕ → Type 0
+IsFoundBehind (Ok done) found many = many ≡ found + 1
+IsFoundBehind (Err why) found many = many ≡ found
 
 -- what plain evaluation gives of the sources
 abbrev pub AreEvaluated : Frame → List Entry → Type 0

@@ -1,12 +1,11 @@
 -- What the calls of a store make of the journal that its feed has seen.
-use Rattle.std.proofs.Common.{◌≡◌, ℕ, ◌+◌, List, [], ◌∷◌, ◌++◌, length, cond, not, Option, Result, Ok, Err, None, refl, sym, ap, subst, ◌∙◌, append-nil, append_assoc, arith}
-use Rattle.std.specs.Prelude.{All, OnErr, OnOk, false}
+use Rattle.std.proofs.Common.{◌≡◌, ℕ, ◌+◌, ◌≤◌, List, [], ◌∷◌, ◌++◌, length, cond, not, Option, Result, Ok, Err, None, refl, sym, ap, subst, ◌∙◌, append-nil, arith}
+use Rattle.std.specs.Prelude.{All, OnErr, OnOk}
 use Rattle.std.proofs.lemmas.List.{length-append}
 use Rattle.std.proofs.lemmas.List.Elements.{All-head, All-tail, filter-append}
-use Rattle.model_journal.specs.Callers.{AreMadeByTheirCallers, MayMake}
+use Rattle.model_journal.specs.Callers.{AreMadeByTheirCallers, MayMake, made_by}
 use Rattle.model_journal.specs.Entry.{Act, Update, Deliver, Bind, Extend, Entry, Frame, entry}
 use Rattle.model_graph.specs.Message.{Message}
-use Rattle.model_graph.specs.Graph.{Decl}
 use Rattle.model_journal.specs.Journal.{counts, declared, declared_by, graph, vals}
 use Rattle.model_live.proofs.EndLaws.{result-of}
 use Rattle.model_live.proofs.StoryLaws.{graph-stays}
@@ -27,7 +26,7 @@ use Rattle.lasp_histlock.specs.Names.{LockId}
 use Rattle.lasp_store.specs.Turn.{Knows, HadTurn, IsSeated, frame_of, graph_at, graph_seen, looked_at, vals_at}
 use Rattle.lasp_store_node.proofs.FeedLaws.{calls-after}
 use Rattle.lasp_store_node.specs.View.{IsFeed, place_of}
-use Rattle.lasp_live.specs.Turns.{Delivers, Feeds, Learns, Settles, Updates}
+use Rattle.lasp_live.specs.Turns.{Adds, Delivers, Feeds, IsFoundBehind, Learns, Settles, Updates}
 
 -- the calls of two lists in turn
 unbound-append : (h k : List Entry) → unbound (h ++ k) ≡ unbound h ++ unbound k
@@ -137,6 +136,42 @@ pub delivers-by : {A : Type 0} (r : Result A DeliverRefused) (n : ℕ) (m : Mess
     → IsDelivered (frame_of new).nodes (graph_at new) (vals_at new) m r → Delivers (frame_of old) n m old.seen r new.seen
 delivers-by (Ok a) n m old new own-old own-new first ok err answer = deliver-done n m old new a own-old own-new first ok answer
 delivers-by {A} (Err why) n m old new own-old own-new first ok err answer = deliver-not A n m old new why own-old own-new first err answer
+
+-- ---- what the feed's own entries are, and how many it was told of
+
+adds-turn : (more : List Entry) (old new : Knows) → HadTurn more old new → new.own ≡ old.own ++ more
+adds-turn more old new t = ap (λ (p : Knows). p.own) t.pass
+
+pub own-stays : (old new : Knows) → HadTurn [] old new → new.own ≡ old.own
+own-stays old new t = adds-turn [] old new t ∙ append-nil old.own
+
+pub own-by : {A E : Type 0} (a : Act) (r : Result A E) (old new : Knows) → OnOk r (HadTurn (entry 0 a ∷ []) old new) → OnErr r (HadTurn [] old new) → Adds a old.own r new.own
+own-by a (Ok done) old new ok err = adds-turn (entry 0 a ∷ []) old new ok
+own-by a (Err why) old new ok err = own-stays old new err
+
+pub told-by : {A E : Type 0} (more : List Entry) (r : Result A E) (old new : Knows) → OnOk r (HadTurn more old new) → OnErr r (HadTurn [] old new) → old.told ≤ new.told
+told-by more (Ok done) old new ok err = ok.told
+told-by more (Err why) old new ok err = err.told
+
+-- a turn found so many entries, and those that it added stand behind them
+found-turn : (more : List Entry) (old new : Knows) → HadTurn more old new → length new.seen ≡ new.told + length more
+found-turn more old new t =
+    let seen : length new.seen ≡ length (looked_at new ++ more) = ap (λ (p : Knows). length p.seen) t.pass in
+    let told : new.told ≡ length (looked_at new) = ap (λ (p : Knows). p.told) t.pass in
+    omega (arith, seen, told, length-append (looked_at new) more)
+
+pub found-all : (old new : Knows) → HadTurn [] old new → new.told ≡ length new.seen
+found-all old new t = omega (arith, found-turn [] old new t)
+
+pub found-by : {A E : Type 0} (a : Act) (r : Result A E) (old new : Knows) → OnOk r (HadTurn (entry 0 a ∷ []) old new) → OnErr r (HadTurn [] old new) → IsFoundBehind r new.told (length new.seen)
+found-by a (Ok done) old new ok err = found-turn (entry 0 a ∷ []) old new ok
+found-by a (Err why) old new ok err = omega (arith, found-turn [] old new err)
+
+pub settled-own : (old new : Knows) → HasSettled old new → Learns old.own new.own
+settled-own old new s = record { more = s.own.0; is = s.own.1; results = binds-results s.own.0 s.own.2 }
+
+pub own-made : (p : Knows) → p.number ≡ 0 → KnowsOwn p → p.own ≡ made_by 0 p.seen
+own-made p first knows = knows.own ∙ ap (λ (n : ℕ). made_by n p.seen) first
 
 -- ---- what a call leaves of the feed
 

@@ -138,6 +138,10 @@ impl<R: Wait, T, S: Settles<T>> Feeder for StoreFeeder<'_, R, T, S> {
 
     ghost seen = { λ f. f.seen };
 
+    ghost own = { λ f. f.own };
+
+    ghost told = { λ f. f.told };
+
     fn recall(&self) {
         self.feed.known();
     }

@@ -1,8 +1,8 @@
-use Rattle.std.proofs.Common.{◌≡◌, subst}
+use Rattle.std.proofs.Common.{◌≡◌, ◌≤◌, subst}
 use Rattle.lasp_live.specs.Turns.{Learns}
 use Rattle.lasp_store.specs.Turn.{Knows, frame_of}
 use Rattle.lasp_store_node.specs.View.{place_of}
-use Rattle.lasp_live_run.proofs.FeederLaws.{settled-stays, settled-learned, settles-by}
+use Rattle.lasp_live_run.proofs.FeederLaws.{settled-stays, settled-learned, settles-by, settled-own}
 use Rattle.lasp_live_run.proofs.feeder.StoreFeederFeeder.settle_all.Goals as goal
 
 pub returns-clause-place : goal.returns-clause-place
@@ -17,6 +17,12 @@ returns-clause-learns g c =
 
 pub returns-clause-settles : goal.returns-clause-settles
 returns-clause-settles g c = settles-by c.settle-settled.result (frame_of c.settle-settled.new.f) c.settle-settled.new.f.seen c.settle-settled.ensures.settled c.settle-settled.ensures.done
+
+pub returns-clause-own : goal.returns-clause-own
+returns-clause-own g c = subst (λ (p : Knows). Learns p.own c.settle-settled.new.f.own) c.self.view_is (settled-own c.self.inside.feed c.settle-settled.new.f c.settle-settled.ensures.pass)
+
+pub returns-clause-told : goal.returns-clause-told
+returns-clause-told g c = subst (λ (p : Knows). p.told ≤ c.settle-settled.new.f.told) c.self.view_is c.settle-settled.ensures.pass.told
 
 pub invariant_of-self : goal.invariant_of-self
 invariant_of-self g c = let held = (settled-stays (g.S.Settles.library c.self.inside.lib.now) c.self.inside.store.now c.self.inside.feed c.settle-settled.new.f (record { feed = c.self.invariant.0; fits = c.self.invariant.1 }) c.settle-settled.ensures.seated c.settle-settled.ensures.graph c.settle-settled.ensures.pass).held in (held.feed, held.fits)
