@@ -1,14 +1,11 @@
 -- Desks that are taken and given back, one after the other.
 use Rattle.std.proofs.Common.{◌≡◌, ℕ, ◌+◌, ◌<◌, ◌≤◌, ◌⊎◌, inl, inr, List, [], ◌∷◌, ◌++◌, length, map, take, drop, Option, Some, None, refl, sym, ap, subst, ◌∙◌, append-nil, append_assoc, arith}
 use Rattle.std.specs.Prelude.{All, slice_get, slice_index_or}
-use Rattle.std.specs.declared.alloc.Global.{Global}
-use Rattle.std.specs.declared.vec.Vec.{Vec}
 use Rattle.std.proofs.lemmas.List.{drop_all, length-append, length-map, map-append}
 use Rattle.std.proofs.lemmas.List.Elements.{All-push}
 use Rattle.std.proofs.lemmas.Option.{get_or_from_slice_get, slice_get_within}
 use Rattle.model_live.specs.Lived.{lesser}
 use Rattle.model_values.proofs.ListLaws.{drop-at}
-use Rattle.lasp_live.specs.Ends.{In, Out}
 use Rattle.lasp_live.specs.declared.diary.Diary.{Diary}
 use Rattle.lasp_live_run.specs.Posts.{Ins, Outs}
 use Rattle.lasp_live_run.specs.Run.{AreSeated, IsBack, failed_of}

@@ -1,11 +1,11 @@
 -- What one node heard of another, when both were fed and the mailbox between them is closed.
-use Rattle.std.proofs.Common.{◌≡◌, ℕ, Bool, true, List, [], ◌∷◌, ◌++◌, Some, refl, sym, ap, subst, ◌∙◌, append-nil, cond, not}
+use Rattle.std.proofs.Common.{◌≡◌, ℕ, List, [], ◌∷◌, ◌++◌, Some, refl, sym, ap, ◌∙◌, append-nil}
 use Rattle.std.specs.Prelude.{◌≢◌, slice_get}
 use mathlib.Core.List.{IsPrefix}
 use Rattle.model_graph.specs.Graph.{Decl}
-use Rattle.model_journal.specs.Entry.{Act, Update, Deliver, Bind, Extend, Entry, Frame}
+use Rattle.model_journal.specs.Entry.{Act, Entry, Frame}
 use Rattle.model_graph.specs.Message.{Message}
-use Rattle.model_runs.specs.Calls.{frame_of, is_bind, unbound}
+use Rattle.model_runs.specs.Calls.{frame_of, unbound}
 use Rattle.model_world.specs.Command.{Script}
 use Rattle.model_live.specs.Lived.{heard_by, heard_of, numbered, first_number}
 use Rattle.model_live.specs.Story.{letters}

@@ -8,7 +8,7 @@ use Rattle.std.proofs.lemmas.Option.{same_Some, slice_get_within}
 use mathlib.Core.List.{IsPrefix}
 use Rattle.model_graph.proofs.PlaceLaws.{below-or-not, set-length}
 use Rattle.lasp_drive.proofs.NodeLaws.{at-set}
-use Rattle.lasp_live.specs.Ends.{AreEnds, AreUnused, Box, In, Out}
+use Rattle.lasp_live.specs.Ends.{Box, In, Out}
 use Rattle.lasp_live.specs.Sealed.{Plan}
 use Rattle.lasp_live_run.specs.Posts.{AreAllEnds, AreFirstOf, AreFreshEnds, AreLeft, AreMade, AreRowsMade, HasNone, HaveBegun, HaveBegunFrom, Ins, IsBehind, IsColumn, IsPoppedFrom, IsPushedTo, IsRow, Outs}
 use Rattle.lasp_live_run.proofs.PlaceLaws.{found-at, get-before, get-behind, get-either, get-last, rows-below, rows-more}

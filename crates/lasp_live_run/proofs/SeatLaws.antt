@@ -1,5 +1,5 @@
 -- The desks of a run: before their nodes are fed, and when all were.
-use Rattle.std.proofs.Common.{◌≡◌, ℕ, zero, suc, ◌+◌, ◌*◌, ◌<◌, List, [], ◌∷◌, ◌++◌, length, map, Option, Some, None, refl, sym, ap, subst, ◌∙◌, arith}
+use Rattle.std.proofs.Common.{◌≡◌, ℕ, zero, suc, ◌+◌, ◌*◌, List, [], ◌∷◌, ◌++◌, length, map, Option, Some, None, refl, sym, ap, subst, ◌∙◌, arith}
 use Rattle.std.specs.Prelude.{All, slice_get, slice_index_or}
 use Rattle.std.specs.List.{AllZip}
 use Rattle.std.specs.declared.alloc.Global.{Global}
@@ -23,19 +23,18 @@ use Rattle.model_live.specs.Words.{AreLive}
 use Rattle.lasp_drive.proofs.NodeLaws.{mapped-at}
 use Rattle.lasp_histlock.specs.Names.{LockId}
 use Rattle.lasp_histlock.specs.Passes.{first_pass}
-use Rattle.lasp_live.specs.Ends.{AreEnds, AreUnused, Box, In, Out}
-use Rattle.lasp_live.specs.Fed.{HasFed, Setting}
+use Rattle.lasp_live.specs.Ends.{AreEnds, Box, In, Out}
 use Rattle.lasp_live.specs.Steady.{setting}
 use Rattle.lasp_live.specs.declared.diary.Diary.{Diary}
 use Rattle.lasp_live_run.specs.Posts.{AreAllEnds, AreFreshEnds, Ins, Outs}
-use Rattle.lasp_live_run.specs.Run.{AreSeated, AreUnfed, HaveServed, IsBack, seat_view}
+use Rattle.lasp_live_run.specs.Run.{AreSeated, AreUnfed, HaveServed, seat_view}
 use Rattle.lasp_live_run.specs.Seat.{HasTold, IsReady, IsServed, SeatView}
 use Rattle.lasp_live_run.specs.declared.run.Back.{Back}
 use Rattle.lasp_live_run.specs.declared.seat.Seat.{Seat}
 use Rattle.lasp_live_run.proofs.FeederLaws.{binds-results, results-declare}
 use Rattle.lasp_live_run.proofs.PlaceLaws.{found-at}
 use Rattle.lasp_live_run.proofs.RunLaws.{AreEnded, IsEnded}
-use Rattle.lasp_store.specs.Settled.{AreBinds, GoesOnByBinds}
+use Rattle.lasp_store.specs.Settled.{GoesOnByBinds}
 use Rattle.lasp_store.specs.Turn.{Knows, frame_in, frame_of, graph_seen}
 use Rattle.lasp_store.proofs.SettleLaws.{goes-both}
 use Rattle.lasp_store_node.specs.View.{Place, place_of}

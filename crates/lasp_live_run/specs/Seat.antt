@@ -1,5 +1,5 @@
 -- A node that is fed on a thread of its own.
-use Rattle.std.specs.Prelude.{◌≡◌, ◌≢◌, ℕ, ◌<◌, List, [], length, Option, Some, None}
+use Rattle.std.specs.Prelude.{◌≡◌, ℕ, List, [], Option, Some, None}
 use Rattle.lasp_live.specs.Ends.{Box, Out, In, AreEnds, AreUnused}
 use Rattle.lasp_live.specs.Fed.{Setting, HasFed, frame_in}
 use Rattle.lasp_live.specs.Steady.{MayFeed}

@@ -1,11 +1,11 @@
-use Rattle.std.proofs.Common.{ℕ, ◌≡◌, ◌≤◌, List, length, sym, ap, subst, ◌∙◌, arith}
+use Rattle.std.proofs.Common.{ℕ, ◌≡◌, List, length, sym, ap, subst, ◌∙◌, arith}
 use Rattle.std.specs.Arc.{arc_value}
 use Rattle.model_core.specs.Core.{Core}
 use Rattle.model_graph.specs.Graph.{Decl}
 use Rattle.model_live.specs.Lived.{live_text}
 use Rattle.lasp_live.specs.Texts.{AreTellable, stories_of}
 use Rattle.lasp_live.specs.declared.diary.Diary.{Diary}
-use Rattle.lasp_live_run.specs.Run.{HaveLived, failed_of}
+use Rattle.lasp_live_run.specs.Run.{failed_of}
 use Rattle.lasp_live_run.proofs.RunLaws.{failed-told}
 use Rattle.lasp_live_run.proofs.run.live.Goals as goal
 

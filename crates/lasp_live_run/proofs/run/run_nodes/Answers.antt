@@ -1,5 +1,4 @@
-use Rattle.std.proofs.Common.{ℕ, ◌≡◌, ◌*◌, [], List, length, map, sym, ap, subst, ◌∙◌, arith}
-use Rattle.std.specs.Prelude.{All, Some, slice_get}
+use Rattle.std.proofs.Common.{◌≡◌, List, length, map, sym, ap, subst, ◌∙◌, arith}
 use Rattle.std.specs.Arc.{arc_value}
 use Rattle.lasp_crossing.proofs.Crossing.{crosses}
 use Rattle.lasp_drive.proofs.PlayLaws.{fits-so-far, graph-so-far}
@@ -11,10 +10,8 @@ use Rattle.lasp_live_run.specs.Posts.{AreAllEnds, AreFreshEnds}
 use Rattle.lasp_live_run.proofs.RunLaws.{lived}
 use Rattle.lasp_live_run.proofs.SeatLaws.{closable, kept-fits, served-ended, served-ends, served-feeds, served-placed, square-of, unfed-kept}
 use Rattle.lasp_live_run.proofs.run.run_nodes.Goals as goal
-use Rattle.lasp_store.specs.Turn.{Knows}
-use Rattle.lasp_threads.specs.Closed.{AreClosable}
 use Rattle.lasp_threads.specs.Spots.{AreAt, AreFeeds, AreKept, HaveOut, Spot, all_spots, spots_of}
-use Rattle.lasp_threads.specs.Stores.{AreBack, AreFirst}
+use Rattle.lasp_threads.specs.Stores.{AreBack}
 use Rattle.lasp_store_node.specs.View.{place_of}
 use Rattle.lasp_threads.proofs.StoreLaws.{all-back, first-feeds, first-made, first-out, placed-out}
 

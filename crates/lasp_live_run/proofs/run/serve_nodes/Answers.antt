@@ -1,4 +1,4 @@
-use Rattle.std.proofs.Common.{◌≡◌, List, length, sym, ap, ◌∙◌, arith}
+use Rattle.std.proofs.Common.{◌≡◌, length, sym, ◌∙◌, arith}
 use denote.Exit.{no}
 use denote.Param.Send.{arg_sync, param_sync}
 use Rattle.std.specs.Arc.{arc_value}
