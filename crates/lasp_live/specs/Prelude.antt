@@ -26,4 +26,4 @@ pub use Rattle.lasp_live.specs.Mail.{mails, message_in, plan_of, letters_and_end
 pub use Rattle.lasp_live.specs.Own.{CountsOwn, steps_before, total_in}
 pub use Rattle.lasp_live.specs.Taken.{IsTakenFrom}
 pub use Rattle.lasp_live.specs.Sealed.{IsSealed, Plan, Sealed, coded_sealed}
-pub use Rattle.lasp_live.specs.Turns.{Adds, AreEvaluated, AreSmall, Delivers, Feeds, IsFoundBehind, Learns, Settles, Updates}
+pub use Rattle.lasp_live.specs.Turns.{Adds, AreEvaluated, AreSmall, Delivers, Feeds, IsFoundBehind, Learns, PassesOnce, Settles, Updates}

@@ -1,13 +1,15 @@
 -- What one call of a feeder makes of the journal that it has seen, whatever others add to it meanwhile.
-use Rattle.std.specs.Prelude.{◌≡◌, ℕ, ◌+◌, List, [], ◌∷◌, ◌++◌, Some, None, Result, Ok, Err}
+use Rattle.std.specs.Prelude.{◌≡◌, ℕ, ◌+◌, ◌<◌, ◌≤◌, List, [], ◌∷◌, ◌++◌, length, Some, None, Result, Ok, Err}
 use Rattle.model_graph.specs.Evaluation.{eval, first_large}
 use Rattle.model_journal.specs.Entry as model
 use Rattle.model_journal.specs.Entry.{Act, Entry, Frame}
 use Rattle.model_journal.specs.Journal.{graph, vals, counts, sources}
 use Rattle.model_graph.specs.Message.{Message}
 use Rattle.model_runs.specs.Calls.{fed, unbound}
+use Rattle.lasp_core.specs.Listed.{GoesOn}
 use Rattle.lasp_core.specs.declared.watched.Settle.{Settle}
 use Rattle.lasp_core.specs.declared.watched.Settle.TheVariants as settle
+use Rattle.lasp_replica.specs.Jobs.{IsUnclean}
 use Rattle.lasp_replica.specs.Replica.{IsAnswered, IsDelivered, update_refusal}
 use Rattle.lasp_replica.specs.declared.refused.DeliverRefused.{DeliverRefused}
 use Rattle.lasp_replica.specs.declared.refused.UpdateRefused.{UpdateRefused}
@@ -44,6 +46,28 @@ Adds a old (Err why) new = new ≡ old
 abbrev pub IsFoundBehind : {A E : Type 0} → Result A E → ℕ → ℕ → Type 0
 IsFoundBehind (Ok done) found many = many ≡ found + 1
 IsFoundBehind (Err why) found many = many ≡ found
+
+-- the entry is the feeder's own result of a variable from the first bound on and before the second, which had inputs to take in where its job was taken
+pub record IsOwnResult (X : Frame) (seen : List Entry) (from to : ℕ) (e : Entry) : Type 0 where
+  pub var : ℕ
+  -- the journal there
+  pub found : List Entry
+  pub begins : GoesOn found seen
+  pub is : e ≡ fed (model.Bind var (length found))
+  pub unclean : IsUnclean X found var
+  pub low : from ≤ var
+  pub high : var < to
+
+-- each entry is, and each is of a later variable than the one before it
+abbrev pub AreOwnResults : Frame → List Entry → ℕ → ℕ → List Entry → Type 0
+AreOwnResults X seen from to [] = Unit {0}
+AreOwnResults X seen from to (e ∷ mine) = (r : IsOwnResult X seen from to e) × AreOwnResults X seen (r.var + 1) to mine
+
+-- the feeder's own entries go on by its results, of each variable one at most
+pub record PassesOnce (X : Frame) (seen old new : List Entry) : Type 0 where
+  pub mine : List Entry
+  pub is : new ≡ old ++ mine
+  pub once : AreOwnResults X seen 0 (length (graph X seen)) mine
 
 -- what plain evaluation gives of the sources
 abbrev pub AreEvaluated : Frame → List Entry → Type 0

@@ -4,7 +4,7 @@ ghost use Rattle.std.specs.Prelude.{◌≡◌, ◌<◌, ◌≤◌, ℕ, List, If
 ghost use Rattle.std.specs.List.{AllByRecursion};
 ghost use Rattle.model_core.specs.Core.{is_met};
 ghost use Rattle.model_journal.specs.Entry as model;
-ghost use Rattle.lasp_live.specs.Prelude.{arc_value, Entry, Frame, graph, IsLegal, AreMadeByTheirCallers, message_at, peer_of, held_of, state_after, IsSmall, AreAscending, Learns, Updates, Delivers, Settles, Adds, IsFoundBehind, made_by, op_of};
+ghost use Rattle.lasp_live.specs.Prelude.{arc_value, Entry, Frame, graph, IsLegal, AreMadeByTheirCallers, message_at, peer_of, held_of, state_after, IsSmall, AreAscending, Learns, Updates, Delivers, Settles, Adds, IsFoundBehind, PassesOnce, made_by, op_of};
 
 use lasp_core::{DeliverRefused, Released, Settle, UpdateRefused};
 use lasp_state::{Op, State};
@@ -93,12 +93,12 @@ pub trait Feeder {
         ensures found { told self.new ≡ length (seen self.new) }
         ensures length { result ≡ length (seen self.new) };
 
-    /// Settles the replica, and tells how many entries the journal has.
+    /// Settles the replica, and tells how many entries the journal has. It hands in a result of each variable at most, in their order, and of none that had taken in its inputs as they are.
     fn settle_all(&mut self) -> Result<u64, Settle>
         ensures place { place self.new ≡ place self.old }
         ensures frame { frame self.new ≡ frame self.old }
         ensures learns { Learns (seen self.old) (seen self.new) }
-        ensures own { Learns (own self.old) (own self.new) }
+        ensures own { PassesOnce (frame self.new) (seen self.new) (own self.old) (own self.new) }
         ensures told { told self.old ≤ told self.new }
         ensures settles { Settles (frame self.new) (seen self.new) result }
         ensures length { IfOk result (λ n. n ≡ length (seen self.new)) };

@@ -20,13 +20,14 @@ use Rattle.lasp_state.specs.declared.op.Op.{Op}
 use Rattle.lasp_core.specs.declared.watched.Settle.{Settle}
 use Rattle.lasp_core.specs.declared.watched.Settle.TheVariants as settle
 use Rattle.model_graph.specs.Evaluation.{first_large}
+use Rattle.lasp_store.specs.Passed.{AreOnce, HasPassed, IsNeeded}
 use Rattle.lasp_store.specs.Settled as store
 use Rattle.lasp_store.specs.Settled.{AreBinds, IsBind, HasSettled, KnowsOwn, evaluation}
 use Rattle.lasp_histlock.specs.Names.{LockId}
 use Rattle.lasp_store.specs.Turn.{Knows, HadTurn, IsSeated, frame_of, graph_at, graph_seen, looked_at, vals_at}
 use Rattle.lasp_store_node.proofs.FeedLaws.{calls-after}
 use Rattle.lasp_store_node.specs.View.{IsFeed, place_of}
-use Rattle.lasp_live.specs.Turns.{Adds, Delivers, Feeds, IsFoundBehind, Learns, Settles, Updates}
+use Rattle.lasp_live.specs.Turns.{Adds, AreOwnResults, Delivers, Feeds, IsFoundBehind, IsOwnResult, Learns, PassesOnce, Settles, Updates}
 
 -- the calls of two lists in turn
 unbound-append : (h k : List Entry) → unbound (h ++ k) ≡ unbound h ++ unbound k
@@ -167,8 +168,16 @@ pub found-by : {A E : Type 0} (a : Act) (r : Result A E) (old new : Knows) → O
 found-by a (Ok done) old new ok err = found-turn (entry 0 a ∷ []) old new ok
 found-by a (Err why) old new ok err = omega (arith, found-turn [] old new err)
 
-pub settled-own : (old new : Knows) → HasSettled old new → Learns old.own new.own
-settled-own old new s = record { more = s.own.0; is = s.own.1; results = binds-results s.own.0 s.own.2 }
+own-result : (X : Frame) (seen : List Entry) (from to : ℕ) (e : Entry) → IsNeeded X seen from to e → IsOwnResult X seen from to e
+own-result X seen from to e n = record { var = n.var; found = n.at; begins = n.begins; is = n.result; unclean = n.unclean; low = n.low; high = n.high }
+
+own-results : (X : Frame) (seen : List Entry) (from to : ℕ) (mine : List Entry) → AreOnce X seen from to mine → AreOwnResults X seen from to mine
+unfolding own-result
+own-results X seen from to [] once = tt
+own-results X seen from to (e ∷ mine) once = (own-result X seen from to e once.0, own-results X seen (once.0.var + 1) to mine once.1)
+
+pub passed-own : (turns : ℕ) (old new : Knows) → HasPassed 0 (length (graph_seen new)) turns old new → PassesOnce (frame_of new) new.seen old.own new.own
+passed-own turns old new p = record { mine = p.mine; is = p.own; once = own-results (frame_of new) new.seen 0 (length (graph_seen new)) p.mine p.once }
 
 pub own-made : (p : Knows) → p.number ≡ 0 → KnowsOwn p → p.own ≡ made_by 0 p.seen
 own-made p first knows = knows.own ∙ ap (λ (n : ℕ). made_by n p.seen) first

@@ -1,10 +1,10 @@
 //! A store's feed as the feeder of a node.
 
-ghost use Rattle.std.specs.Prelude.{◌≡◌, false, IfOk, OnOk, length};
+ghost use Rattle.std.specs.Prelude.{◌≡◌, ◌+◌, false, IfOk, OnOk, length};
 ghost use Rattle.model_graph.specs.Evaluation.{first_large};
 ghost use Rattle.model_journal.specs.Journal.{vals};
 ghost use Rattle.model_readings.specs.Lawful.{FitsAll};
-ghost use Rattle.lasp_store.specs.Prelude.{evaluation, HasSettled, IsSeated, Settles, frame_of, graph_seen};
+ghost use Rattle.lasp_store.specs.Prelude.{evaluation, HasPassed, HasSettled, IsSeated, Settles, frame_of, graph_seen};
 ghost use Rattle.lasp_store_node.specs.View.{IsFeed};
 
 use lasp_core::{DeliverRefused, Released, Settle, UpdateRefused};
@@ -42,6 +42,7 @@ pub trait Settles<T> {
         ensures graph { graph_seen f.new ≡ graph_seen f.old }
         ensures length { IfOk result (λ n. n ≡ length f.new.seen) }
         ensures settled { OnOk result (vals (frame_of f.new) f.new.seen ≡ evaluation (frame_of f.new) f.new.seen) }
+        ensures once { HasPassed 0 (length (graph_seen f.new)) (length (graph_seen f.new) + 3) f.old f.new }
         ensures done { Settles (first_large 0 (evaluation (frame_of f.new) f.new.seen)) result };
 }
 

@@ -1,8 +1,8 @@
-use Rattle.std.proofs.Common.{◌≡◌, ◌≤◌, subst}
-use Rattle.lasp_live.specs.Turns.{Learns}
-use Rattle.lasp_store.specs.Turn.{Knows, frame_of}
+use Rattle.std.proofs.Common.{◌≡◌, ◌≤◌, ◌+◌, length, subst}
+use Rattle.lasp_live.specs.Turns.{Learns, PassesOnce}
+use Rattle.lasp_store.specs.Turn.{Knows, frame_of, graph_seen}
 use Rattle.lasp_store_node.specs.View.{place_of}
-use Rattle.lasp_live_run.proofs.FeederLaws.{settled-stays, settled-learned, settles-by, settled-own}
+use Rattle.lasp_live_run.proofs.FeederLaws.{settled-stays, settled-learned, settles-by, passed-own}
 use Rattle.lasp_live_run.proofs.feeder.StoreFeederFeeder.settle_all.Goals as goal
 
 pub returns-clause-place : goal.returns-clause-place
@@ -19,7 +19,7 @@ pub returns-clause-settles : goal.returns-clause-settles
 returns-clause-settles g c = settles-by c.settle-settled.result (frame_of c.settle-settled.new.f) c.settle-settled.new.f.seen c.settle-settled.ensures.settled c.settle-settled.ensures.done
 
 pub returns-clause-own : goal.returns-clause-own
-returns-clause-own g c = subst (λ (p : Knows). Learns p.own c.settle-settled.new.f.own) c.self.view_is (settled-own c.self.inside.feed c.settle-settled.new.f c.settle-settled.ensures.pass)
+returns-clause-own g c = subst (λ (p : Knows). PassesOnce (frame_of c.settle-settled.new.f) c.settle-settled.new.f.seen p.own c.settle-settled.new.f.own) c.self.view_is (passed-own (length (graph_seen c.settle-settled.new.f) + 3) c.self.inside.feed c.settle-settled.new.f c.settle-settled.ensures.once)
 
 pub returns-clause-told : goal.returns-clause-told
 returns-clause-told g c = subst (λ (p : Knows). p.told ≤ c.settle-settled.new.f.told) c.self.view_is c.settle-settled.ensures.pass.told
