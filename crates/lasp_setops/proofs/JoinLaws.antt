@@ -1,15 +1,15 @@
 -- How loops that join rows in go on.
-use Rattle.std.proofs.Common.{◌≡◌, ℕ, Bool, true, false, cond, if◌then◌else◌, ◌<◌, ◌≤◌, List, [], ◌∷◌, ◌++◌, map, flat_map, length, Result, Ok, Err, OnOk, IsErrAnd, append_assoc, refl, sym, ap, subst, ◌∙◌, arith}
+use Rattle.std.proofs.Common.{◌≡◌, ℕ, Bool, true, false, cond, if◌then◌else◌, ◌<◌, ◌≤◌, List, [], ◌∷◌, ◌++◌, map, flat_map, length, Result, Ok, Err, IsErrAnd, refl, sym, ap, subst, ◌∙◌, arith}
 use Rattle.model_values.specs.Value.{Val}
 use Rattle.model_values.specs.Row.{Row}
-use Rattle.model_sets.specs.Rows.{IsAscending, put, join, of_rows, is_of}
-use Rattle.model_sets.specs.Equations.{met, moved, filter_set}
+use Rattle.model_sets.specs.Rows.{IsAscending, put, join, of_rows}
+use Rattle.model_sets.specs.Equations.{moved, filter_set}
 use Rattle.model_sets.proofs.RowLaws.{ascending-put, ascending-join, ascending-of_rows, join-append, join-row, join-nothing, join-of_rows, join-associative, join-commutative, of_rows-ascending, mark-of_rows, same_from_mark}
 use Rattle.model_sets.proofs.EquationLaws.{filter-mark, filter-ascending}
 use Rattle.model_sets.proofs.LoopLaws.{length-join}
 use Rattle.lasp_setops.proofs.EntryLaws.{entries-mark}
 use Rattle.lasp_setops.specs.declared.refused.SetRefused.{SetRefused}
-use Rattle.lasp_setops.specs.Joined.{IsJoinedUpTo, meetings}
+use Rattle.lasp_setops.specs.Joined.{IsJoinedUpTo}
 
 -- one more row joined in
 pub joined-row : (s : List Row) (r : Row) (t w : List Row) → IsJoinedUpTo s (r ∷ t) w → IsJoinedUpTo (put r s) t w
@@ -35,13 +35,6 @@ length-grows s t up =
 -- what is too long so far is too long in the end
 pub joined-long : (n : ℕ) (s t w : List Row) → IsJoinedUpTo s t w → n < length s → n < length w
 joined-long n s t w h long = let same : length (join s t) ≡ length w = ap length h.all in omega (arith, same, length-grows s t h.ascends, long)
-
--- two rows met, where they have one value and where they haven't
-pub meet-one : (r q : Row) (s : List Row) → IsAscending s → is_of r.0.0 q ≡ true → put (met r q) s ≡ join s (meetings r q)
-meet-one r q s up same = sym (join-row s (met r q) up) ∙ (λ i. join s (if sym same i then met r q ∷ [] else []))
-
-pub meet-none : (r q : Row) (s : List Row) → IsAscending s → is_of r.0.0 q ≡ false → s ≡ join s (meetings r q)
-meet-none r q s up other = sym (join-nothing s up) ∙ (λ i. join s (if sym other i then met r q ∷ [] else []))
 
 -- ---- the same along a pass over rows
 
@@ -77,15 +70,6 @@ passed-on (Err y) e t h k = cc
 pub passed-on-set : {A : Type 0} (r : Result A SetRefused) (e t : SetRefused) → IsErrAnd r (λ x. x ≡ e) → r ≡ Err t → e ≡ t
 passed-on-set (Ok x) e t h k = cc
 passed-on-set (Err y) e t h k = cc
-
--- ---- rows that meet
-
-pub meet-new : (r q m : Row) (s t : List Row) (a : Result (Unit {0}) SetRefused) → IsAscending s → is_of r.0.0 q ≡ true → m ≡ met r q → OnOk a (t ≡ put m s) → OnOk a (t ≡ join s (meetings r q))
-meet-new r q m s t (Ok x) up same is h = h ∙ ap (λ (p : Row). put p s) is ∙ meet-one r q s up same
-meet-new r q m s t (Err e) up same is h = h
-
-pub meet-long : (n : ℕ) (r q m : Row) (s : List Row) → IsAscending s → is_of r.0.0 q ≡ true → m ≡ met r q → n < length (put m s) → n < length (join s (meetings r q))
-meet-long n r q m s up same is h = subst (λ (u : List Row). n < length u) (ap (λ (p : Row). put p s) is ∙ meet-one r q s up same) h
 
 pub moved-is : (f : Val → Val) (r : Row) (v w : Val) (q : Row) → v ≡ r.0.0 → w ≡ f v → q ≡ ((w, r.0.1), r.1) → q ≡ moved f r
 moved-is f r v w q is image new = new ∙ (λ i. (((image ∙ ap f is) i, r.0.1), r.1))

@@ -4,6 +4,7 @@ pub mod TickLaws
 pub mod SwapLaws
 pub mod WidthLaws
 pub mod GrownLaws
+pub mod PairLaws
 pub mod StepLaws
 pub mod TurnLaws
 pub mod PassLaws

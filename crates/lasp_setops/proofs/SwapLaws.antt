@@ -1,16 +1,16 @@
 -- Pairs of rows give the same whether the first list or the second is gone through first.
-use Rattle.std.proofs.Common.{◌≡◌, ℕ, max, Bool, true, false, cond, if◌then◌else◌, List, [], ◌∷◌, ◌++◌, map, filter, flat_map, refl, sym, ap, subst, ◌∙◌, arith}
+use Rattle.std.proofs.Common.{◌≡◌, max, Bool, true, false, cond, if◌then◌else◌, List, [], ◌∷◌, ◌++◌, map, filter, flat_map, refl, sym, ap, ◌∙◌, arith}
 use Rattle.std.specs.Ordering.{is_eq, ordering_reverse}
 use Rattle.std.specs.declared.cmp.Ordering.{Ordering}
 use Rattle.std.specs.declared.cmp.Ordering.TheVariants.{Less, Equal, Greater}
 use Rattle.model_values.specs.Value.{Val, val_cmp, val_total}
 use Rattle.model_values.specs.Token.{Tok}
 use Rattle.model_values.specs.Row.{Row}
-use Rattle.model_sets.specs.Rows.{mark, of_rows, join, is_of, IsAscending}
+use Rattle.model_sets.specs.Rows.{mark, of_rows, join, is_of}
 use Rattle.model_sets.specs.Rises.{AreApart}
-use Rattle.model_sets.specs.Equations.{paired, met, product_set, intersect_set}
-use Rattle.model_sets.proofs.RowLaws.{mark-append, mark-join, mark-of_rows, ascending-join, same_from_mark, join-of_rows}
-use Rattle.lasp_setops.proofs.EntryLaws.{map-flat, join-entries}
+use Rattle.model_sets.specs.Equations.{met}
+use Rattle.model_sets.proofs.RowLaws.{mark-append, mark-join, ascending-join, same_from_mark}
+use Rattle.lasp_setops.proofs.EntryLaws.{join-entries}
 use Rattle.lasp_setops.specs.Joined.{meetings}
 
 module _ (g : Row → Row → List Row) where
@@ -33,7 +33,7 @@ swap-mark : (g : Row → Row → List Row) (xs ys : List Row) (v : Val) (t : Tok
 swap-mark g xs [] v t = none-left g xs v t
 swap-mark g xs (q ∷ ys) v t = omega (arith, one-more g xs ys q v t, swap-mark g xs ys v t, mark-append (flat_map (λ r. g r q) xs) (by_second g xs ys) v t)
 
-swap-join : (g : Row → Row → List Row) (s xs ys : List Row) → join s (by_first g xs ys) ≡ join s (by_second g xs ys)
+pub swap-join : (g : Row → Row → List Row) (s xs ys : List Row) → join s (by_first g xs ys) ≡ join s (by_second g xs ys)
 swap-join g s xs ys = same_from_mark (join s (by_first g xs ys)) (join s (by_second g xs ys)) (ascending-join s (by_first g xs ys)) (ascending-join s (by_second g xs ys))
     (λ v t. omega (arith, mark-join s (by_first g xs ys) v t, mark-join s (by_second g xs ys) v t, swap-mark g xs ys v t))
 
@@ -45,26 +45,9 @@ kept-flat f p (q ∷ ys) = by (p q) (kept-flat f p ys) where
   by true rest = ap (λ (s : List Row). f q ∷ s) rest
   by false rest = rest
 
-abbrev pairings : Row → Row → List Row
-pairings r q = paired r q ∷ []
-
--- the product, row by row of the first set, and of the second
-pub product-by_first : (s x y : List Row) → join s (flat_map (λ r. map (paired r) y) x) ≡ join s (product_set x y)
-product-by_first s x y = sym (join-of_rows s (flat_map (λ r. map (paired r) y) x))
-
-pub product-by_second : (s x y : List Row) → join s (flat_map (λ q. map (λ r. paired r q) x) y) ≡ join s (product_set x y)
-product-by_second s x y =
-    (λ i. join s (flat_map (λ q. map-flat (λ r. paired r q) x i) y)) ∙ sym (swap-join pairings s x y) ∙ (λ i. join s (flat_map (λ r. sym (map-flat (paired r) y) i) x)) ∙ product-by_first s x y
-
--- the intersection likewise
+-- the meetings with the rows of a set are made of those of its value
 pub meetings-kept : (r : Row) (y : List Row) → flat_map (meetings r) y ≡ map (met r) (filter (is_of r.0.0) y)
 meetings-kept r y = sym (kept-flat (met r) (is_of r.0.0) y)
-
-pub intersect-by_first : (s x y : List Row) → join s (flat_map (λ r. flat_map (meetings r) y) x) ≡ join s (intersect_set x y)
-intersect-by_first s x y = (λ i. join s (flat_map (λ r. meetings-kept r y i) x)) ∙ sym (join-of_rows s (flat_map (λ r. map (met r) (filter (is_of r.0.0) y)) x))
-
-pub intersect-by_second : (s x y : List Row) → join s (flat_map (λ q. flat_map (λ r. meetings r q) x) y) ≡ join s (intersect_set x y)
-intersect-by_second s x y = sym (swap-join meetings s x y) ∙ intersect-by_first s x y
 
 -- the rows of a value are enough to find the meetings with one of its rows
 meetings-near : (r : Row) (near y : List Row) → filter (is_of r.0.0) near ≡ filter (is_of r.0.0) y → flat_map (meetings r) near ≡ flat_map (meetings r) y

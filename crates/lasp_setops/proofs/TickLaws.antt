@@ -1,5 +1,5 @@
 -- How many calls a pass over rows counts.
-use Rattle.std.proofs.Common.{◌≡◌, ℕ, ◌+◌, ◌-◌, ◌^◌, ◌≤◌, min, List, ◌∷◌, length, ap, arith}
+use Rattle.std.proofs.Common.{◌≡◌, ℕ, ◌+◌, ◌≤◌, List, ◌∷◌, length, ap, arith}
 use Rattle.model_values.specs.Row.{Row}
 use Rattle.lasp_fns.specs.Steps.{one_more}
 

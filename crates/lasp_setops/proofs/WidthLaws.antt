@@ -1,7 +1,7 @@
 -- How large the rows of results are.
-use Rattle.std.proofs.Common.{◌≡◌, ℕ, ◌+◌, ◌*◌, ◌≤◌, ◌<◌, max, ℤ, Bool, true, false, if◌then◌else◌, List, ◌∷◌, refl, ◌∙◌, subst, sym, ap, arith, ◌⊎◌, inl, inr}
+use Rattle.std.proofs.Common.{◌≡◌, ℕ, ◌+◌, ◌≤◌, ◌<◌, max, ℤ, Bool, true, false, if◌then◌else◌, List, ◌∷◌, refl, ◌∙◌, subst, sym, ap, arith, ◌⊎◌, inl, inr}
 use Rattle.std.specs.Ordering.{eq_by_cmp}
-use Rattle.model_values.specs.Value.{Val, int, pair}
+use Rattle.model_values.specs.Value.{Val, int}
 use Rattle.model_values.specs.Token.{Tok, single, both}
 use Rattle.model_values.specs.Row.{Key, Row, key_cmp, key_exact}
 use Rattle.model_values.specs.Size.{leaves, text_bytes, HasSmallInts, IsSized, IsOfWidth, IsTokenOfWidth}

@@ -1,5 +1,6 @@
 pub mod Grown
 pub mod Joined
+pub mod Pairs
 pub mod Width
 pub mod Group
 pub mod GroupLaws

@@ -1,12 +1,12 @@
 //! Each process after its inputs changed: from the result before, the changed rows, and for two inputs the sets as they are now. The cost is that of the changed rows and of the rows that they give, and a share of the log of the result: what a change gives is made apart and joined in at once.
 
 ghost use Rattle.std.specs.Prelude.{◌≡◌, ◌<◌, ◌≤◌, ◌+◌, Err, IfOk, List, length};
-ghost use Rattle.lasp_setops.specs.Prelude.{Row, mapped, passes, map_set, filter_set, union_set, product_set, intersect_set, row_limit, maps_of, predicates_of, map_ops_at, pred_ops_at, library_of, ticks_of, IsSetOfWidth, IsGrown};
+ghost use Rattle.lasp_setops.specs.Prelude.{Row, mapped, passes, map_set, filter_set, union_set, product_set, intersect_set, pair_set, row_limit, maps_of, predicates_of, map_ops_at, pred_ops_at, library_of, ticks_of, IsSetOfWidth, IsGrown};
 
 use crate::counted::{filter_counted, map_counted};
+use crate::pairs::{Pairing, Side};
 use crate::refused::SetRefused;
 use crate::union::{joined, union_sets};
-use crate::{intersection, product};
 use lasp_fns::StepLib;
 use lasp_logset::OrSet;
 use std::alloc::{AllocError, Global};
@@ -74,10 +74,7 @@ pub fn product_increment(
     ensures small { IfOk result (λ s. length s ≤ row_limit) }
     ensures too_many { result ≡ Err SetRefused.TooManyRows → (x_before y_before : List Row) → IsGrown x_before x_change.now x.now → IsGrown y_before y_change.now y.now → old.now ≡ product_set x_before y_before → row_limit < length (product_set x.now y.now) }
 {
-    let mut gain = old.empty();
-    product::add_first(alloc, &mut gain, x_change, y)?;
-    product::add_second(alloc, &mut gain, x, y_change)?;
-    union_sets(old, &gain)
+    pair_increment(alloc, Pairing::Product, old, x, x_change, y, y_change)
 }
 
 /// The intersection after changes of its inputs, from the intersection before. The sets are those after the changes.
@@ -93,8 +90,25 @@ pub fn intersect_increment(
     ensures small { IfOk result (λ s. length s ≤ row_limit) }
     ensures too_many { result ≡ Err SetRefused.TooManyRows → (x_before y_before : List Row) → IsGrown x_before x_change.now x.now → IsGrown y_before y_change.now y.now → old.now ≡ intersect_set x_before y_before → row_limit < length (intersect_set x.now y.now) }
 {
+    pair_increment(alloc, Pairing::Intersection, old, x, x_change, y, y_change)
+}
+
+/// The product or the intersection after changes, each row that changed with the rows that the other set has now.
+fn pair_increment(
+    alloc: Global,
+    pairing: Pairing,
+    old: &OrSet,
+    x: &OrSet,
+    x_change: &OrSet,
+    y: &OrSet,
+    y_change: &OrSet,
+) -> Result<OrSet, SetRefused>
+    ensures ok { IfOk result (λ s. (x_before y_before : List Row) → IsGrown x_before x_change.now x.now → IsGrown y_before y_change.now y.now → old.now ≡ pair_set pairing x_before y_before → s ≡ pair_set pairing x.now y.now) }
+    ensures small { IfOk result (λ s. length s ≤ row_limit) }
+    ensures too_many { result ≡ Err SetRefused.TooManyRows → (x_before y_before : List Row) → IsGrown x_before x_change.now x.now → IsGrown y_before y_change.now y.now → old.now ≡ pair_set pairing x_before y_before → row_limit < length (pair_set pairing x.now y.now) }
+{
     let mut gain = old.empty();
-    intersection::add_first(alloc, &mut gain, x_change, y)?;
-    intersection::add_second(alloc, &mut gain, x, y_change)?;
+    pairing.add(alloc, &mut gain, Side::First, x_change, y)?;
+    pairing.add(alloc, &mut gain, Side::Second, y_change, x)?;
     union_sets(old, &gain)
 }

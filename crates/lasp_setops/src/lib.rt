@@ -5,10 +5,9 @@ mod counted;
 mod filter;
 mod fold;
 mod increments;
-mod intersection;
 mod laws;
 mod map;
-mod product;
+mod pairs;
 mod refused;
 mod row;
 mod union;
@@ -19,9 +18,8 @@ pub use fold::{FoldGroup, Modulo, Sum, Xor, fold_all, fold_change, fold_counted,
 pub use increments::{
     filter_increment, intersect_increment, map_increment, product_increment, union_increment,
 };
-pub use intersection::intersect_sets;
 pub use laws::{processes_follow_any_change, processes_keep_widths};
 pub use map::map_set;
-pub use product::product_sets;
+pub use pairs::{intersect_sets, product_sets};
 pub use refused::SetRefused;
 pub use union::union_sets;
