@@ -65,6 +65,13 @@ tried_turn store old p new c more t e = record {
   unmissed = ap (λ (q : Knows). q.misses) e.pass ∙ t.unmissed;
 }
 
+-- the core that is lent out of the box is the one that was taken
+pub in-turn : (store : LockId) (p : Knows) (c k : Core) → k ≡ c → IsInTurn store p c → IsInTurn store p k
+in-turn store p c k same t = subst (λ (x : Core). IsInTurn store p x) (sym same) t
+
+pub core-same : (c k : Core) → k ≡ c → IsCore c → IsCore k
+core-same c k same is = subst (λ (x : Core). IsCore x) (sym same) is
+
 -- ---- the end of a turn
 
 drop-first : (h more : List Entry) → added h (h ++ more) ≡ more

@@ -17,15 +17,15 @@ impl Store {
     fn end_update(
         &self,
         f: &mut Feed,
-        mut core: Core,
+        mut core: Box<Core>,
         var: u8,
         op: &Op,
         is_known: bool,
     ) -> Result<Released, UpdateRefused>
-        requires turn { IsInTurn self.now f.old core }
+        requires turn { IsInTurn self.now f.old core.value }
         requires first { f.old.number ≡ 0 }
         requires small { IsSmall (frame_of f.old).nodes op.now }
-        requires known { IsTrue is_known → BringsNothing (val core.frame core.entries var) (counts core.frame core.entries) core.frame.replica (op_of op.now) }
+        requires known { IsTrue is_known → BringsNothing (val core.value.frame core.value.entries var) (counts core.value.frame core.value.entries) core.value.frame.replica (op_of op.now) }
         ensures ok { OnOk result (HasEnded (entry 0 (model.Update var (op_of op.now)) ∷ []) f.old f.new) }
         ensures err { OnErr result (HasEnded [] f.old f.new) }
         ensures answer { IsAnswered (update_refusal (frame_of f.new).nodes (frame_of f.new).replica (graph_at f.new) (vals_at f.new) (counts_at f.new) var op.now) result }
@@ -114,14 +114,14 @@ impl Store {
     fn end_deliver(
         &self,
         f: &mut Feed,
-        mut core: Core,
+        mut core: Box<Core>,
         number: u32,
         m: &Arc<Message>,
         part: &Message,
     ) -> Result<Released, DeliverRefused>
-        requires turn { IsInTurn self.now f.old core }
+        requires turn { IsInTurn self.now f.old core.value }
         requires first { f.old.number ≡ 0 }
-        requires part { BringsAsMuch (graph core.frame core.entries) (vals core.frame core.entries) (arc_value m.now) part.now }
+        requires part { BringsAsMuch (graph core.value.frame core.value.entries) (vals core.value.frame core.value.entries) (arc_value m.now) part.now }
         ensures ok { OnOk result (HasEnded (entry 0 (model.Deliver number (arc_value m.now)) ∷ []) f.old f.new) }
         ensures err { OnErr result (HasEnded [] f.old f.new) }
         ensures answer { IsDelivered (frame_of f.new).nodes (graph_at f.new) (vals_at f.new) (arc_value m.now) result }
@@ -208,8 +208,8 @@ impl Store {
         }
     }
 
-    fn end_extend(&self, f: &mut Feed, mut core: Core, d: &Decl) -> Result<(), AllocError>
-        requires turn { IsInTurn self.now f.old core }
+    fn end_extend(&self, f: &mut Feed, mut core: Box<Core>, d: &Decl) -> Result<(), AllocError>
+        requires turn { IsInTurn self.now f.old core.value }
         requires first { f.old.number ≡ 0 }
         requires room { length (graph_seen f.old) < variable_limit }
         requires next { MayFollow (graph_seen f.old) (decl_of d.now) }

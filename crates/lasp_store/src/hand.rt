@@ -14,8 +14,8 @@ use std::alloc::AllocError;
 use std::sync::{Arc, Wait};
 
 impl Store {
-    fn end_look(&self, h: &mut Hand, core: Core, var: u8) -> Result<Arc<State>, AllocError>
-        requires turn { IsInTurn self.now h.old core }
+    fn end_look(&self, h: &mut Hand, core: Box<Core>, var: u8) -> Result<Arc<State>, AllocError>
+        requires turn { IsInTurn self.now h.old core.value }
         requires var { var < length (graph_seen h.old) }
         ensures turn { HasEnded [] h.old h.new }
         ensures state { IfOk result (λ s. held_of (arc_value s) ≡ state_after (frame_of h.new) h.new.seen var) }
@@ -61,8 +61,8 @@ impl Store {
         }
     }
 
-    fn end_take(&self, h: &mut Hand, mut core: Core) -> Result<Option<Job>, AllocError>
-        requires turn { IsInTurn self.now h.old core }
+    fn end_take(&self, h: &mut Hand, mut core: Box<Core>) -> Result<Option<Job>, AllocError>
+        requires turn { IsInTurn self.now h.old core.value }
         ensures turn { HasEnded [] h.old h.new }
         ensures none { IfOk result (λ found. IfNone found (AreClean (frame_of h.new) h.new.seen)) }
         ensures unclean { IfOk result (λ found. IfSome found (λ job. IsUnclean (frame_of h.new) h.new.seen job.var)) }
@@ -91,11 +91,11 @@ impl Store {
     fn end_finish(
         &self,
         h: &mut Hand,
-        mut core: Core,
+        mut core: Box<Core>,
         job: Job,
         state: State,
     ) -> Result<Released, (Job, AllocError)>
-        requires turn { IsInTurn self.now h.old core }
+        requires turn { IsInTurn self.now h.old core.value }
         requires job { IsJobOf (frame_of h.old) h.old.seen job }
         requires result { IsResultOf (frame_of h.old) h.old.seen job state }
         ensures ok { OnOk result (HasEnded (entry h.old.number (model.Bind job.var job.n) ∷ []) h.old h.new) }
@@ -134,8 +134,8 @@ impl Store {
         self.end_finish(h, core, job, state)
     }
 
-    fn end_back(&self, h: &mut Hand, mut core: Core, job: Job)
-        requires turn { IsInTurn self.now h.old core }
+    fn end_back(&self, h: &mut Hand, mut core: Box<Core>, job: Job)
+        requires turn { IsInTurn self.now h.old core.value }
         requires derived { IsDerived (graph_seen h.old) job.var }
         ensures { HasEnded [] h.old h.new }
     {
@@ -157,8 +157,8 @@ impl Store {
         self.end_back(h, core, job)
     }
 
-    fn end_check(&self, h: &mut Hand, core: Core) -> Result<u64, NotYet>
-        requires turn { IsInTurn self.now h.old core }
+    fn end_check(&self, h: &mut Hand, core: Box<Core>) -> Result<u64, NotYet>
+        requires turn { IsInTurn self.now h.old core.value }
         ensures turn { HasEnded [] h.old h.new }
         ensures settled { OnOk result (AreClean (frame_of h.new) h.new.seen) }
         ensures evaluated { OnOk result (vals (frame_of h.new) h.new.seen ≡ evaluation (frame_of h.new) h.new.seen) }

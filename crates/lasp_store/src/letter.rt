@@ -51,11 +51,11 @@ impl Store {
         &self,
         alloc: Global,
         f: &mut Feed,
-        core: Core,
+        core: Box<Core>,
         since: Option<u64>,
     ) -> Result<Sent, AllocError>
-        requires turn { IsInTurn self.now f.old core }
-        requires early { IfSome since (λ n. n ≤ length core.entries) }
+        requires turn { IsInTurn self.now f.old core.value }
+        requires early { IfSome since (λ n. n ≤ length core.value.entries) }
         ensures turn { HasEnded [] f.old f.new }
         ensures sent { IfOk result (IsSent (frame_of f.new) f.new.seen since) }
     {

@@ -16,6 +16,7 @@
 
 mod feed;
 mod hand;
+mod kept;
 mod laws;
 mod letter;
 mod message;
@@ -31,6 +32,7 @@ mod store;
 mod tests;
 mod turn;
 
+pub use kept::KeptCore;
 pub use laws::{feeds_tell_the_graph, feeds_tell_the_sources, shelves_stay, turns_go_on};
 pub use letter::Sent;
 pub use seated::Seated;

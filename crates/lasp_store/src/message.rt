@@ -21,8 +21,13 @@ pub(crate) fn message_of(alloc: Global, core: &Core) -> Result<Message, AllocErr
 }
 
 impl Store {
-    fn end_message(&self, alloc: Global, f: &mut Feed, core: Core) -> Result<Message, AllocError>
-        requires turn { IsInTurn self.now f.old core }
+    fn end_message(
+        &self,
+        alloc: Global,
+        f: &mut Feed,
+        core: Box<Core>,
+    ) -> Result<Message, AllocError>
+        requires turn { IsInTurn self.now f.old core.value }
         ensures turn { HasEnded [] f.old f.new }
         ensures message { IfOk result (λ m. m ≡ message_at (graph_seen f.new) (peer_of (frame_of f.new) f.new.seen)) }
     {

@@ -21,8 +21,8 @@ fn order_each(core: &mut Core, vars: &[bool])
 }
 
 impl Store {
-    fn end_order(&self, h: &mut Hand, mut core: Core, vars: &[bool])
-        requires turn { IsInTurn self.now h.old core }
+    fn end_order(&self, h: &mut Hand, mut core: Box<Core>, vars: &[bool])
+        requires turn { IsInTurn self.now h.old core.value }
         ensures { HasEnded [] h.old h.new }
     {
         core.recall();

@@ -26,12 +26,12 @@ impl Store {
     fn end_open(
         &self,
         h: &mut Hand,
-        mut core: Core,
+        mut core: Box<Core>,
         var: u8,
         threshold: Threshold,
         is_known: bool,
     ) -> Result<ReadNo, AllocError>
-        requires turn { IsInTurn self.now h.old core }
+        requires turn { IsInTurn self.now h.old core.value }
         requires open { IsOpen (frame_of h.old) h.old.seen (record { number = 0; var = var; threshold = threshold_of threshold }) }
         requires known { IsTrue is_known → HasLeast (threshold_of threshold) (val (frame_of h.old) h.old.seen var) }
         ensures turn { HasEnded [] h.old h.new }
@@ -128,8 +128,8 @@ impl Store {
         }
     }
 
-    fn end_close(&self, h: &mut Hand, mut core: Core, r: &ReadNo)
-        requires turn { IsInTurn self.now h.old core }
+    fn end_close(&self, h: &mut Hand, mut core: Box<Core>, r: &ReadNo)
+        requires turn { IsInTurn self.now h.old core.value }
         ensures { HasEnded [] h.old h.new }
     {
         core.recall();

@@ -35,8 +35,8 @@ fn unclean_job(core: &mut Core, var: u8) -> Result<Option<Job>, AllocError>
 }
 
 impl Store {
-    fn end_count(&self, f: &mut Feed, core: Core) -> u8
-        requires turn { IsInTurn self.now f.old core }
+    fn end_count(&self, f: &mut Feed, core: Box<Core>) -> u8
+        requires turn { IsInTurn self.now f.old core.value }
         ensures turn { HasEnded [] f.old f.new }
         ensures many { result ≡ length (graph_seen f.new) }
     {
@@ -64,8 +64,8 @@ impl Store {
         many
     }
 
-    fn end_length(&self, f: &mut Feed, core: Core) -> u64
-        requires turn { IsInTurn self.now f.old core }
+    fn end_length(&self, f: &mut Feed, core: Box<Core>) -> u64
+        requires turn { IsInTurn self.now f.old core.value }
         ensures turn { HasEnded [] f.old f.new }
         ensures length { result ≡ length f.new.seen }
     {
@@ -91,8 +91,13 @@ impl Store {
         length
     }
 
-    fn end_unclean(&self, f: &mut Feed, mut core: Core, var: u8) -> Result<Option<Job>, AllocError>
-        requires turn { IsInTurn self.now f.old core }
+    fn end_unclean(
+        &self,
+        f: &mut Feed,
+        mut core: Box<Core>,
+        var: u8,
+    ) -> Result<Option<Job>, AllocError>
+        requires turn { IsInTurn self.now f.old core.value }
         requires var { var < length (graph_seen f.old) }
         ensures turn { HasEnded [] f.old f.new }
         ensures none { IfOk result (λ found. IfNone found (IsDone (frame_of f.new) f.new.seen var)) }

@@ -22,11 +22,17 @@ fn version_of(alloc: Global, core: &Core) -> Result<Version, AllocError>
 }
 
 impl Store {
-    fn end_version(&self, alloc: Global, f: &mut Feed, core: Core) -> Result<Version, AllocError>
-        requires turn { IsInTurn self.now f.old core }
+    fn end_version(
+        &self,
+        alloc: Global,
+        f: &mut Feed,
+        core: Box<Core>,
+    ) -> Result<Version, AllocError>
+        requires turn { IsInTurn self.now f.old core.value }
         ensures turn { HasEnded [] f.old f.new }
         ensures version { IfOk result (IsVersionAt (frame_of f.new) f.new.seen) }
     {
+        core.recall();
         let version = version_of(alloc, &core);
         self.end(f, core);
         version

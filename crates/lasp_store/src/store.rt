@@ -4,6 +4,7 @@ ghost use Rattle.std.specs.Prelude.{◌≡◌, ◌≢◌, ◌⊎◌, ◌<◌, �
 ghost use Rattle.lasp_store.specs.Prelude.{arc_value, MayMake, made_by, added, SomeOut, peer_of, first_pass, new_pass, after_look, after_split, after_rejoin, IsSeated, frame_of, graph_seen};
 ghost use mathlib.Core.List.{IsPrefix};
 
+use crate::kept::KeptCore;
 use lasp_core::Core;
 use lasp_graph::Graph;
 use lasp_histlock::{HistLock, Pass};
@@ -12,15 +13,15 @@ use std::marker::Model;
 use std::sync::Arc;
 
 /// What one caller knows of one store, and with which it makes every call there.
-pub type Hand = Pass<Core>;
+pub type Hand = Pass<KeptCore>;
 
 /// The pass that comes with a store, with number 0. With it alone are entries made that aren't results of jobs.
-pub type Feed = Pass<Core>;
+pub type Feed = Pass<KeptCore>;
 
 /// A replica core that several threads change, one at a time. Contracts see it as which lock it is.
 #[derive(Drop)]
 pub struct Store {
-    pub(crate) lock: HistLock<Core>,
+    pub(crate) lock: HistLock<KeptCore>,
 }
 
 impl Model for Store {
@@ -46,7 +47,8 @@ impl Store {
     {
         let core = Core::new(alloc, graph, me, nodes)?;
         core.recall();
-        let (lock, feed) = HistLock::new(alloc, core)?;
+        let core = Box::new(alloc, core)?;
+        let (lock, feed) = HistLock::new(alloc, KeptCore { core })?;
         Ok((Store { lock }, feed))
     }
 
@@ -102,6 +104,7 @@ impl Store {
         ensures allowed { IfSome result (λ core. All (λ e. MayMake e.by e.act) core.entries) }
         ensures frame { IfSome result (λ core. Some core.frame ≡ f.frame) }
     {
-        self.lock.close(f)
+        let KeptCore { core } = self.lock.close(f)?;
+        Some(Box::into_inner(core))
     }
 }

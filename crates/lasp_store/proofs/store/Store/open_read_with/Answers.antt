@@ -14,14 +14,14 @@ pub end_open-requires-clause-open : goal.end_open-requires-clause-open
 end_open-requires-clause-open g c =
     let h = c.args.h.now in
     let r : Read = record { number = 0; var = c.args.var; threshold = threshold_of c.args.threshold } in
-    begun-at (λ (X : Frame) (L : List Entry). IsOpen X L r) c.args.self.now h c.begin-core.new.h c.begin-core.result c.begin-core.ensures
+    begun-at (λ (X : Frame) (L : List Entry). IsOpen X L r) c.args.self.now h c.begin-core.new.h c.begin-core.result.value c.begin-core.ensures
     (λ more. c.reads_stay_open.ensures (frame_of h) h.seen more r c.requires.open)
 
 pub end_open-requires-clause-known : goal.end_open-requires-clause-known
 end_open-requires-clause-known g c is_known =
     let h = c.args.h.now in
     let t = threshold_of c.args.threshold in
-    begun-at (λ (X : Frame) (L : List Entry). HasLeast t (val X L c.args.var)) c.args.self.now h c.begin-core.new.h c.begin-core.result c.begin-core.ensures
+    begun-at (λ (X : Frame) (L : List Entry). HasLeast t (val X L c.args.var)) c.args.self.now h c.begin-core.new.h c.begin-core.result.value c.begin-core.ensures
     (λ more. least-later (frame_of h) h.seen more c.args.var t (c.requires.known is_known))
 
 pub returns-clause-open : goal.returns-clause-open
@@ -31,6 +31,6 @@ returns-clause-open g c =
     let r : Read = record { number = 0; var = c.args.var; threshold = threshold_of c.args.threshold } in
     read-open c.end_open.result (frame_of new) new.seen c.args.var (threshold_of c.args.threshold)
     (turn-at (λ (X : Frame) (L : List Entry). IsOpen X L r) [] h new
-    (had_turn c.args.self.now h c.begin-core.new.h new c.begin-core.result [] c.begin-core.ensures c.end_open.ensures.turn)
+    (had_turn c.args.self.now h c.begin-core.new.h new c.begin-core.result.value [] c.begin-core.ensures c.end_open.ensures.turn)
     (λ more. c.reads_stay_open.ensures (frame_of h) h.seen more r c.requires.open))
     c.end_open.ensures.read

@@ -8,4 +8,4 @@ returns-clause-pass g c =
     let old = c.args.f.now in
     let new = c.end_unclean-found.new.f in
     turn-settles old new [] (record { own = c.known.ensures.own; allowed = c.known.ensures.allowed }) (record { own = c.known-2.ensures.own; allowed = c.known-2.ensures.allowed }) c.requires.first c.requires.seated.idle tt
-    (had_turn c.args.self.now old c.begin-core.new.h new c.begin-core.result [] c.begin-core.ensures c.end_unclean-found.ensures.turn)
+    (had_turn c.args.self.now old c.begin-core.new.h new c.begin-core.result.value [] c.begin-core.ensures c.end_unclean-found.ensures.turn)
