@@ -41,6 +41,7 @@ use Rattle.lasp_replica.proofs.PartLaws.{held-val}
 use Rattle.lasp_graph.specs.Evaluated.{number_by}
 use Rattle.lasp_graph.specs.declared.inputs.EvalRefused.{EvalRefused}
 use Rattle.lasp_core.specs.Reads.{read_of}
+use Rattle.lasp_core.specs.Lacking.{IsWaiting, WasWaiting}
 use Rattle.lasp_replica.specs.Entries.{entry_of}
 use Rattle.lasp_replica.specs.Replica.{frame_of, entries_of, parts_of, IsReplica, Grows, Stays}
 use Rattle.lasp_replica.specs.Jobs.{HasBound, counted_up}
@@ -50,6 +51,7 @@ use Rattle.lasp_core.specs.declared.read.ReadNo.{ReadNo}
 use Rattle.lasp_replica.specs.declared.replica.Replica.{Replica}
 use Rattle.lasp_core.proofs.OrderLaws.{order-kept, order-opened, order-pushed}
 use Rattle.lasp_core.proofs.ParkedLaws.{graph-length, state-shape, state-content}
+use Rattle.lasp_core.proofs.LackLaws.{waiting-still}
 use Rattle.lasp_graph.proofs.SourceLists.{held_found}
 
 -- ---- facts of a frame and entries, along equations of them
@@ -131,6 +133,29 @@ all-watched old new reads opened more n sound is frames entries many =
     subst (λ (m : ℕ). AllByRecursion (IsWatched new m) (map read_of reads)) (sym many)
     (each-weaker (IsParked (frame_of old) (entries_of old)) (IsWatched new (length (entries_of old))) (λ r p. watched new (frame_of old) (entries_of old) more is frames entries r p) (map read_of reads) sound.parked)
 
+-- what holds of each and of what is seen of each
+each-both : {A B : Type 0} (f : A → B) (P : B → Type 0) (Q R : A → Type 0) → ((x : A) → P (f x) → Q x → R x) → (xs : List A) → AllByRecursion P (map f xs) → AllByRecursion Q xs → AllByRecursion R xs
+each-both f P Q R then [] h g = tt
+each-both f P Q R then (x ∷ xs) h g = (then x h.0 g.0, each-both f P Q R then xs h.1 g.1)
+
+-- and what they were known to lack was lacking before it
+pub all-waiting : (old new : Replica) (reads : List ReadNo) (opened : ℕ) (more : List Entry) (n : ℕ) → IsSound old reads opened → IsReplica new → frame_of new ≡ frame_of old → entries_of new ≡ entries_of old ++ more → n ≡ length (entries_of old)
+    → AllByRecursion (WasWaiting new n) reads
+all-waiting old new reads opened more n sound is frames entries many =
+    each-both read_of (IsWatched new n) (IsWaiting (frame_of old) (entries_of old)) (WasWaiting new n) (λ r watches waits. record {
+      declared = watches.declared;
+      waits = waiting-still (frame_of old) (frame_of new) (entries_of old) (take n (entries_of new)) r (λ i. val (sym frames i) (before i) (read_of r).var) waits;
+    }) reads (all-watched old new reads opened more n sound is frames entries many) sound.waiting where
+      before : entries_of old ≡ take n (entries_of new)
+      before = sym (ap (λ (k : List Entry). take n k) entries ∙ take_at (entries_of old) more n (sym many))
+
+-- the entries before are among all
+pub entries-within : (old new : Replica) (more : List Entry) (n : ℕ) → entries_of new ≡ entries_of old ++ more → n ≡ length (entries_of old) → n ≤ length (entries_of new)
+entries-within old new more n entries many = omega (arith, many, ap (λ (k : List Entry). length k) entries, longer (entries_of old) more) where
+  longer : (xs ys : List Entry) → length xs ≤ length (xs ++ ys)
+  longer [] ys = omega arith
+  longer (x ∷ xs) ys = omega (arith, longer xs ys)
+
 -- ---- the core after an entry
 
 abbrev pub Remain : Replica → List ReadNo → List ReadNo → Type 0
@@ -155,14 +180,16 @@ pub released-is : (old new : Replica) (e : Entry) (reads out : List ReadNo) (ope
     → map read_of out ≡ filter (λ r. is_met (frame_of new) (entries_of new) r) (map read_of reads) → map read_of out ≡ released e (core_of old reads opened owed)
 released-is old new e reads out opened owed frames entries met = met ∙ (λ i. filter (λ r. is_met (frames i) (entries i) r) (map read_of reads))
 
-pub entered-sound : (old new : Replica) (e : Entry) (reads rest : List ReadNo) (opened : ℕ) → IsSound old reads opened → IsReplica new → frame_of new ≡ frame_of old → entries_of new ≡ entries_of old ++ e ∷ [] → Remain new reads rest → IsSound new rest opened
-entered-sound old new e reads rest opened sound is frames entries left = record {
+pub entered-sound : (old new : Replica) (e : Entry) (reads rest : List ReadNo) (opened : ℕ) → IsSound old reads opened → IsReplica new → frame_of new ≡ frame_of old → entries_of new ≡ entries_of old ++ e ∷ [] → Remain new reads rest
+    → AllByRecursion (IsWaiting (frame_of new) (entries_of new)) rest → IsSound new rest opened
+entered-sound old new e reads rest opened sound is frames entries left waits = record {
   replica = is;
   parked = subst (λ (rs : List Read). AllByRecursion (IsParked (frame_of new) (entries_of new)) rs) (sym (remain-is old new e reads rest frames entries left))
       (along (λ (Z : Frame) (k : List Entry). AllByRecursion (IsParked Z k) c.parked) (frame_of old) (frame_of new) h (entries_of new) frames entries
       (entered-core (core_of old reads opened 0) e (sound-core old reads opened 0 sound)
       (back (λ (Z : Frame) (k : List Entry). IsLegal Z k) (frame_of old) (frame_of new) h (entries_of new) frames entries is.legal)
       (back (λ (Z : Frame) (k : List Entry). IsHeld Z.nodes (graph Z k) (peer_of Z k)) (frame_of old) (frame_of new) h (entries_of new) frames entries (held-here new is))).parked);
+  waiting = waits;
   order = subst (AreInOrder opened) (sym left) (order-kept opened (λ r. not (is_met (frame_of new) (entries_of new) r)) (map read_of reads) sound.order);
 } where
   h : List Entry
@@ -178,6 +205,7 @@ pub same-sound : (old new : Replica) (reads : List ReadNo) (opened : ℕ) → Is
 same-sound old new reads opened sound is frames entries = record {
   replica = is;
   parked = along (λ (Z : Frame) (k : List Entry). AllByRecursion (IsParked Z k) (map read_of reads)) (frame_of old) (frame_of new) (entries_of old) (entries_of new) frames entries sound.parked;
+  waiting = along (λ (Z : Frame) (k : List Entry). AllByRecursion (IsWaiting Z k) reads) (frame_of old) (frame_of new) (entries_of old) (entries_of new) frames entries sound.waiting;
   order = sound.order;
 }
 
@@ -203,6 +231,10 @@ declared-sound old new e d reads opened act sound grows = record {
   parked = along (λ (Z : Frame) (k : List Entry). AllByRecursion (IsParked Z k) (map read_of reads)) (frame_of old) (frame_of new) (entries_of old ++ e ∷ []) (entries_of new) grows.frame grows.entries
       (each-weaker (IsParked (frame_of old) (entries_of old)) (IsParked (frame_of old) (entries_of old ++ e ∷ []))
       (λ r p. parked-extended (frame_of old) (entries_of old) sound.replica.legal e d act r p) (map read_of reads) sound.parked);
+  waiting = along (λ (Z : Frame) (k : List Entry). AllByRecursion (IsWaiting Z k) reads) (frame_of old) (frame_of new) (entries_of old ++ e ∷ []) (entries_of new) grows.frame grows.entries
+      (each-both read_of (IsParked (frame_of old) (entries_of old)) (IsWaiting (frame_of old) (entries_of old)) (IsWaiting (frame_of old) (entries_of old ++ e ∷ []))
+      (λ r p. waiting-still (frame_of old) (frame_of old) (entries_of old) (entries_of old ++ e ∷ []) r (sym (extend-keeps (frame_of old) (entries_of old) sound.replica.legal e d act (read_of r).var p.declared)))
+      reads sound.parked sound.waiting);
   order = sound.order;
 }
 
@@ -214,10 +246,12 @@ pushed-reads (r ∷ reads) read = ap (λ rest. read_of r ∷ rest) (pushed-reads
 
 -- a read was opened that isn't met, and is parked behind the others
 pub parked-sound : (r : Replica) (reads rest : List ReadNo) (opened owed next : ℕ) (c : Core) (read : ReadNo) (x : ℕ) (t : Threshold) → core_of r reads opened owed ≡ c → IsSound r reads opened → next ≡ counted_up opened 1
-    → IsOpen c.frame c.entries (opened_read c x t) → IsFalse (is_met c.frame c.entries (opened_read c x t)) → read_of read ≡ opened_read c x t → rest ≡ reads ++ read ∷ [] → IsSound r rest next
-parked-sound r reads rest opened owed next c read x t view sound counted may unmet is grown = record {
+    → IsOpen c.frame c.entries (opened_read c x t) → IsFalse (is_met c.frame c.entries (opened_read c x t)) → read_of read ≡ opened_read c x t → IsFalse read.is_lacking → rest ≡ reads ++ read ∷ [] → IsSound r rest next
+parked-sound r reads rest opened owed next c read x t view sound counted may unmet is unknown grown = record {
   replica = sound.replica;
   parked = subst (λ (rs : List Read). AllByRecursion (IsParked (frame_of r) (entries_of r)) rs) (sym list) (each-append (IsParked (frame_of r) (entries_of r)) (map read_of reads) (opened_read c x t ∷ []) sound.parked (waits, tt));
+  waiting = subst (λ (rs : List ReadNo). AllByRecursion (IsWaiting (frame_of r) (entries_of r)) rs) (sym grown)
+      (each-append (IsWaiting (frame_of r) (entries_of r)) reads (read ∷ []) sound.waiting (λ lacking. absurd (let wrong : true ≡ false = sym lacking ∙ unknown in cc), tt));
   order = subst (AreInOrder next) (sym list) (subst (λ (n : ℕ). AreInOrder n (map read_of reads ++ opened_read c x t ∷ [])) (sym counted) (order-pushed opened (map read_of reads) (opened_read c x t) (ap (λ (s : Core). s.opened) (sym view)) sound.order));
 } where
   list : map read_of rest ≡ map read_of reads ++ opened_read c x t ∷ []
@@ -231,20 +265,23 @@ pub counted-sound : (r : Replica) (reads : List ReadNo) (opened next : ℕ) → 
 counted-sound r reads opened next sound counted = record {
   replica = sound.replica;
   parked = sound.parked;
+  waiting = sound.waiting;
   order = subst (λ (n : ℕ). AreInOrder n (map read_of reads)) (sym counted) (order-opened opened (map read_of reads) sound.order);
 }
 
 -- ---- closed reads
 
 abbrev pub Closed : ℕ → List ReadNo → List ReadNo → Type 0
-Closed number reads rest = map read_of rest ≡ filter (λ r. not (r.number == number)) (map read_of reads)
+Closed number reads rest = (map read_of rest ≡ filter (λ r. not (r.number == number)) (map read_of reads)) × (rest ≡ filter (λ r. not (r.number == number)) reads)
 
 pub closed-sound : (r : Replica) (number : ℕ) (reads rest : List ReadNo) (opened : ℕ) → IsSound r reads opened → Closed number reads rest → IsSound r rest opened
 closed-sound r number reads rest opened sound closes = record {
   replica = sound.replica;
-  parked = subst (λ (rs : List Read). AllByRecursion (IsParked (frame_of r) (entries_of r)) rs) (sym closes)
+  parked = subst (λ (rs : List Read). AllByRecursion (IsParked (frame_of r) (entries_of r)) rs) (sym closes.0)
       (each-kept (IsParked (frame_of r) (entries_of r)) (IsParked (frame_of r) (entries_of r)) (λ x. not (x.number == number)) (λ x e p. p) (map read_of reads) sound.parked);
-  order = subst (AreInOrder opened) (sym closes) (order-kept opened (λ x. not (x.number == number)) (map read_of reads) sound.order);
+  waiting = subst (λ (rs : List ReadNo). AllByRecursion (IsWaiting (frame_of r) (entries_of r)) rs) (sym closes.1)
+      (each-kept (IsWaiting (frame_of r) (entries_of r)) (IsWaiting (frame_of r) (entries_of r)) (λ x. not (x.number == number)) (λ x e p. p) reads sound.waiting);
+  order = subst (AreInOrder opened) (sym closes.0) (order-kept opened (λ x. not (x.number == number)) (map read_of reads) sound.order);
 }
 
 -- one was opened and closed again

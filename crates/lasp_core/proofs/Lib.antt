@@ -1,6 +1,7 @@
 pub mod OrderLaws
 pub mod ParkedLaws
 pub mod LookLaws
+pub mod LackLaws
 pub mod CoresLaws
 pub mod LaterLaws
 pub mod JobLaws

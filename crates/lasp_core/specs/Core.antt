@@ -15,6 +15,7 @@ use Rattle.lasp_graph.specs.States.{Held, held_at}
 use Rattle.lasp_graph.specs.Evaluated.{number_by}
 use Rattle.lasp_replica.specs.declared.job.Job.{Job}
 use Rattle.lasp_core.specs.Reads.{read_of}
+use Rattle.lasp_core.specs.Lacking.{IsWaiting}
 use Rattle.lasp_core.specs.Listed.{AreClean}
 use Rattle.lasp_replica.specs.Jobs.{greatest_count, counted_up}
 use Rattle.lasp_replica.specs.Replica.{frame_of, entries_of, busy_of, growths_at, IsReplica}
@@ -41,10 +42,11 @@ pub record AreInOrder (opened : ℕ) (reads : List Read) : Type 0 where
   pub before : AllByRecursion (λ r. IsBefore r.number opened) reads
   pub counted : opened ≤ greatest_count
 
--- the replica is what its journal says, no parked read's variable has come to its threshold, and the parked reads are in the order in which they were opened
+-- the replica is what its journal says, no parked read's variable has come to its threshold, what the parked reads are known to lack is lacking, and they are in the order in which they were opened
 pub record IsSound (r : Replica) (reads : List ReadNo) (opened : ℕ) : Type 0 where
   pub replica : IsReplica r
   pub parked : AllByRecursion (IsParked (frame_of r) (entries_of r)) (map read_of reads)
+  pub waiting : AllByRecursion (IsWaiting (frame_of r) (entries_of r)) reads
   pub order : AreInOrder opened (map read_of reads)
 
 -- a core to which nothing has happened

@@ -1,5 +1,6 @@
 pub mod Coded
 pub mod Reads
+pub mod Lacking
 pub mod Core
 pub mod Listed
 pub mod Evaluated

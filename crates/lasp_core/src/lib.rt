@@ -24,8 +24,10 @@
 mod jobs;
 mod journal;
 mod kept;
+mod lacking;
 mod laws;
 mod look;
+mod news;
 mod parked;
 mod read;
 mod replica_core;

@@ -18,6 +18,8 @@ pub struct ReadNo {
     pub(crate) threshold: Arc<Threshold>,
     /// Which value of several was lacking when it was looked for last.
     pub(crate) place: u64,
+    /// Whether that is known to be lacking after the last entry.
+    pub(crate) is_lacking: bool,
 }
 
 impl ReadNo {
@@ -54,13 +56,15 @@ impl ReadNo {
 
     /// The same read, which shares the threshold.
     pub(crate) fn twin(&self) -> Result<ReadNo, AllocError>
-        ensures { IfOk result (λ r. read_of r ≡ read_of self.now) }
+        ensures read { IfOk result (λ r. read_of r ≡ read_of self.now) }
+        ensures lacking { IfOk result (λ r. r.is_lacking ≡ self.now.is_lacking) }
     {
         Ok(ReadNo {
             number: self.number,
             var: self.var,
             threshold: Arc::try_clone(&self.threshold)?,
             place: self.place,
+            is_lacking: self.is_lacking,
         })
     }
 }

@@ -307,6 +307,7 @@ impl Core {
             var,
             threshold: Arc::new(alloc, threshold)?,
             place: 0,
+            is_lacking: false,
         };
         ready_read(&mut self.replica, var, &read.threshold);
         if !is_met_by(&read.threshold, self.state(var), is_known) {

@@ -24,7 +24,11 @@ pub(crate) fn ready_read(replica: &mut Replica, var: u8, threshold: &Threshold)
 pub(crate) fn ready_reads(replica: &mut Replica, parked: &[ReadNo])
     ensures { replica.new ≡ replica.old }
 {
+    let mut last = None;
     for read in parked {
-        ready_read(replica, read.var, &read.threshold);
+        if last != Some(read.var) && asks_values(&read.threshold) {
+            replica.index_rows(read.var);
+            last = Some(read.var);
+        }
     }
 }

@@ -3,6 +3,8 @@ use Rattle.std.specs.Arc.{arc_value}
 use Rattle.lasp_graph.specs.States.{held_of}
 use Rattle.lasp_core.specs.Reads.{read_of}
 use Rattle.lasp_core.proofs.ParkedLaws.{state-there, state-suits, state-met}
+use Rattle.lasp_replica.specs.Replica.{frame_of, entries_of}
+use Rattle.lasp_core.proofs.LackLaws.{waiting-unmet}
 use Rattle.lasp_core.proofs.parked.is_met_since.Goals as goal
 
 pub at-state-requires : goal.at-state-requires
@@ -25,3 +27,6 @@ returns-else-not-lacks c =
     ap not c.if-not-lacks.false
     ∙ sym (c.lacks.ensures c.if-not-lacks.false)
     ∙ rw (c.deref.ensures, c.deref-2.ensures) (state-met c.args.replica.now c.requires.replica (read_of c.args.read.now) (arc_value c.at-state.result.now) at)
+
+pub returns-then-read : goal.returns-then-read
+returns-then-read c = sym (waiting-unmet (frame_of c.args.replica.now) (entries_of c.args.replica.now) c.args.read.now c.requires.waits c.if-read.true)

@@ -4,6 +4,7 @@ use Rattle.model_core.specs.Core.{is_met}
 use Rattle.lasp_core.specs.Reads.{read_of}
 use Rattle.lasp_replica.specs.Replica.{frame_of, entries_of}
 use Rattle.lasp_core.specs.Core.{IsWatched}
+use Rattle.lasp_core.specs.Lacking.{IsWaiting}
 use Rattle.lasp_core.proofs.parked.split_met.Given as goal
 
 abbrev pub invariant-loop-i : goal.invariant-loop-i
@@ -13,6 +14,7 @@ invariant-loop-i l = record {
   moved : map read_of l.released.items ++ filter (is_met (frame_of l.replica) (entries_of l.replica)) (map read_of (drop l.i l.parked.items))
       ≡ filter (is_met (frame_of l.replica) (entries_of l.replica)) (map read_of l.initial.parked.items);
   watched : AllByRecursion (IsWatched l.replica l.n) (map read_of (drop l.i l.parked.items));
+  waits : AllByRecursion (IsWaiting (frame_of l.replica) (entries_of l.replica)) l.parked.items;
   room : vec_len l.released + vec_len l.parked ≤ vec_capacity l.released;
 }
 

@@ -8,8 +8,14 @@ use Rattle.lasp_replica.specs.Replica.{frame_of, entries_of}
 use Rattle.lasp_replica.specs.Jobs.{HasBound}
 use Rattle.lasp_replica.specs.declared.replica.Replica.{Replica}
 use Rattle.lasp_core.proofs.OrderLaws.{passed-ascend}
-use Rattle.lasp_core.proofs.CoresLaws.{ready-sound, all-watched, entered-sound, entries-many, bound-is, released-is}
+use Rattle.lasp_core.proofs.CoresLaws.{ready-sound, all-watched, all-waiting, entries-within, entered-sound, entries-many, bound-is, released-is}
 use Rattle.lasp_core.proofs.replica_core.Core.finish.Goals as goal
+
+pub split_met-requires-clause-within : goal.split_met-requires-clause-within
+split_met-requires-clause-within c =
+    let bound = c.in_ok-finish-in-Ok.ensures.ok in
+    let e = entry c.args.by (model.Bind c.args.job.var c.args.job.n) in
+    entries-within c.ready_reads.new.replica c.finish.new.self (e ∷ []) c.len-n.result bound.entries (c.len-n.ensures ∙ entries-many c.ready_reads.new.replica)
 
 pub split_met-requires-clause-reads : goal.split_met-requires-clause-reads
 split_met-requires-clause-reads c =
@@ -17,11 +23,17 @@ split_met-requires-clause-reads c =
     let e = entry c.args.by (model.Bind c.args.job.var c.args.job.n) in
     all-watched c.ready_reads.new.replica c.finish.new.self c.self.inside.parked.items c.self.inside.opened (e ∷ []) c.len-n.result (ready-sound c.self.inside.replica c.ready_reads.new.replica c.self.inside.parked.items c.self.inside.opened c.ready_reads.ensures c.self.invariant) bound.sound bound.frame bound.entries (c.len-n.ensures ∙ entries-many c.ready_reads.new.replica)
 
+pub split_met-requires-clause-waits : goal.split_met-requires-clause-waits
+split_met-requires-clause-waits c =
+    let bound = c.in_ok-finish-in-Ok.ensures.ok in
+    let e = entry c.args.by (model.Bind c.args.job.var c.args.job.n) in
+    all-waiting c.ready_reads.new.replica c.finish.new.self c.self.inside.parked.items c.self.inside.opened (e ∷ []) c.len-n.result (ready-sound c.self.inside.replica c.ready_reads.new.replica c.self.inside.parked.items c.self.inside.opened c.ready_reads.ensures c.self.invariant) bound.sound bound.frame bound.entries (c.len-n.ensures ∙ entries-many c.ready_reads.new.replica)
+
 pub invariant_of-self-in-Ok : goal.invariant_of-self-in-Ok
 invariant_of-self-in-Ok c =
     let bound = c.in_ok-finish-in-Ok.ensures.ok in
     let e = entry c.args.by (model.Bind c.args.job.var c.args.job.n) in
-    entered-sound c.ready_reads.new.replica c.finish.new.self e c.self.inside.parked.items c.split_met.new.parked.items c.self.inside.opened (ready-sound c.self.inside.replica c.ready_reads.new.replica c.self.inside.parked.items c.self.inside.opened c.ready_reads.ensures c.self.invariant) bound.sound bound.frame bound.entries c.split_met.ensures.parked
+    entered-sound c.ready_reads.new.replica c.finish.new.self e c.self.inside.parked.items c.split_met.new.parked.items c.self.inside.opened (ready-sound c.self.inside.replica c.ready_reads.new.replica c.self.inside.parked.items c.self.inside.opened c.ready_reads.ensures c.self.invariant) bound.sound bound.frame bound.entries c.split_met.ensures.parked c.split_met.ensures.waits
 
 pub returns-in_ok-finish-in-Ok-clause-ok : goal.returns-in_ok-finish-in-Ok-clause-ok
 returns-in_ok-finish-in-Ok-clause-ok c =

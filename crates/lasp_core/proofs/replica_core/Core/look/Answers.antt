@@ -18,7 +18,7 @@ is_met_by-met-requires-clause-known c is_known =
 
 pub invariant_of-self-2 : goal.invariant_of-self-2
 invariant_of-self-2 c =
-    looked-sound c.self.inside.replica c.ready_read.new.replica c.self.inside.parked.items c.remove_read.new.reads.items c.self.inside.opened c.saturating_add-self-inside.result c.ready_read.ensures c.self.invariant c.remove_read.ensures c.saturating_add-self-inside.ensures
+    looked-sound c.self.inside.replica c.ready_read.new.replica c.self.inside.parked.items c.remove_read.new.reads.items c.self.inside.opened c.saturating_add-self-inside.result c.ready_read.ensures c.self.invariant (c.remove_read.ensures.reads, c.remove_read.ensures.items) c.saturating_add-self-inside.ensures
 
 pub returns-clause-met : goal.returns-clause-met
 returns-clause-met c =

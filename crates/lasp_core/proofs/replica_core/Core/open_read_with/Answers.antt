@@ -37,11 +37,11 @@ invariant_of-self-2 c =
     elim c.if-not-is_met_by.branch [
       | then-not-is_met_by+in_ok-twin+in_ok-push w ↦ (
           let read = w.in_ok-twin.field-0 in
-          let same : read_of read ≡ opened_read core c.args.var t = w.in_ok-twin.ensures ∙ (λ i. record { number = (c.self.view_is i).opened; var = c.args.var; threshold = threshold_of (c.in_ok-new.ensures.ok i) }) in
+          let same : read_of read ≡ opened_read core c.args.var t = w.in_ok-twin.ensures.read ∙ (λ i. record { number = (c.self.view_is i).opened; var = c.args.var; threshold = threshold_of (c.in_ok-new.ensures.ok i) }) in
           subst (λ (r : Replica). IsSound r new.parked.items next) (sym (ap (λ (s : Inside). s.replica) w.self-inside-is ∙ c.ready_read.ensures))
           (parked-sound old.replica old.parked.items new.parked.items old.opened old.owed next core read c.args.var t c.self.view_is c.self.invariant
           (c.saturating_add-self-inside.ensures ∙ ap (λ (s : Inside). counted_up s.opened 1) w.self-inside-is)
-          c.requires.open (sym met ∙ w.if-not-is_met_by.true) same
+          c.requires.open (sym met ∙ w.if-not-is_met_by.true) same w.in_ok-twin.ensures.lacking
           (ap (λ (s : Inside). s.parked.items) w.self-inside-is ∙ w.in_ok-push.ensures.items)))
       | else-not-is_met_by w ↦ subst (λ (s : Inside). IsSound s.replica s.parked.items next) (sym w.self-inside-is)
           (ready-sound old.replica c.ready_read.new.replica old.parked.items next c.ready_read.ensures

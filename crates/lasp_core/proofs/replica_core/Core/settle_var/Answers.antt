@@ -12,8 +12,15 @@ use Rattle.lasp_replica.specs.declared.replica.Replica.{Replica}
 use Rattle.lasp_core.specs.Core.{core_of}
 use Rattle.lasp_core.specs.Reads.{read_of}
 use Rattle.lasp_core.proofs.OrderLaws.{passed-ascend}
-use Rattle.lasp_core.proofs.CoresLaws.{ready-sound, all-watched, entered-sound, entries-many, equation-here, passed-refusal}
+use Rattle.lasp_core.proofs.CoresLaws.{ready-sound, all-watched, all-waiting, entries-within, entered-sound, entries-many, equation-here, passed-refusal}
 use Rattle.lasp_core.proofs.replica_core.Core.settle_var.Goals as goal
+
+pub split_met-requires-clause-within : goal.split_met-requires-clause-within
+split_met-requires-clause-within g c =
+    let goes = c.in_ok-settle_var.ensures.ok in
+    let r = c.ready_reads.new.replica in
+    let e = entry c.args.by (model.Bind c.args.var (length (entries_of r))) in
+    entries-within r c.settle_var.new.self (e ∷ []) c.len-n.result goes.entries (c.len-n.ensures ∙ entries-many r)
 
 pub split_met-requires-clause-reads : goal.split_met-requires-clause-reads
 split_met-requires-clause-reads g c =
@@ -22,12 +29,19 @@ split_met-requires-clause-reads g c =
     let e = entry c.args.by (model.Bind c.args.var (length (entries_of r))) in
     all-watched r c.settle_var.new.self c.self.inside.parked.items c.self.inside.opened (e ∷ []) c.len-n.result (ready-sound c.self.inside.replica r c.self.inside.parked.items c.self.inside.opened c.ready_reads.ensures c.self.invariant) goes.sound goes.frame goes.entries (c.len-n.ensures ∙ entries-many r)
 
+pub split_met-requires-clause-waits : goal.split_met-requires-clause-waits
+split_met-requires-clause-waits g c =
+    let goes = c.in_ok-settle_var.ensures.ok in
+    let r = c.ready_reads.new.replica in
+    let e = entry c.args.by (model.Bind c.args.var (length (entries_of r))) in
+    all-waiting r c.settle_var.new.self c.self.inside.parked.items c.self.inside.opened (e ∷ []) c.len-n.result (ready-sound c.self.inside.replica r c.self.inside.parked.items c.self.inside.opened c.ready_reads.ensures c.self.invariant) goes.sound goes.frame goes.entries (c.len-n.ensures ∙ entries-many r)
+
 pub invariant_of-self-2 : goal.invariant_of-self-2
 invariant_of-self-2 g c =
     let goes = c.in_ok-settle_var.ensures.ok in
     let r = c.ready_reads.new.replica in
     let e = entry c.args.by (model.Bind c.args.var (length (entries_of r))) in
-    entered-sound r c.settle_var.new.self e c.self.inside.parked.items c.split_met.new.parked.items c.self.inside.opened (ready-sound c.self.inside.replica r c.self.inside.parked.items c.self.inside.opened c.ready_reads.ensures c.self.invariant) goes.sound goes.frame goes.entries c.split_met.ensures.parked
+    entered-sound r c.settle_var.new.self e c.self.inside.parked.items c.split_met.new.parked.items c.self.inside.opened (ready-sound c.self.inside.replica r c.self.inside.parked.items c.self.inside.opened c.ready_reads.ensures c.self.invariant) goes.sound goes.frame goes.entries c.split_met.ensures.parked c.split_met.ensures.waits
 
 pub returns-clause-ascending : goal.returns-clause-ascending
 returns-clause-ascending g c =
