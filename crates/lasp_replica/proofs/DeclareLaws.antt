@@ -1,21 +1,19 @@
 -- What a replica keeps before the first entry, and after a declaration: what a declared variable starts with.
-use Rattle.std.proofs.Common.{◌≡◌, ℕ, pos, ◌<◌, Bool, true, false, if◌then◌else◌, List, [], ◌∷◌, ◌++◌, length, map, take, Some, None, refl, sym, ap, subst, ◌∙◌, arith}
+use Rattle.std.proofs.Common.{◌≡◌, ℕ, pos, ◌<◌, Bool, true, false, if◌then◌else◌, List, [], ◌∷◌, ◌++◌, length, map, Some, None, refl, sym, ap, subst, ◌∙◌, arith}
 use Rattle.std.proofs.lemmas.List.{get_or_push}
 use Rattle.model_states.specs.Counts.{zeros}
 use Rattle.model_states.specs.Content.{Content, least}
 use Rattle.model_states.specs.Threshold.{set}
-use Rattle.model_graph.specs.Graph.{Decl, Kind, IsInput, is_source, kind_at, decl_at, no_decl}
+use Rattle.model_graph.specs.Graph.{Decl, Kind, is_source, kind_at, decl_at, no_decl}
 use Rattle.model_graph.specs.Evaluation.{content_at, least_of}
 use Rattle.model_graph.specs.Lawful.{IsDerived, IsGraph, shape_of}
 use Rattle.model_graph.proofs.PlaceLaws.{at-append, at-last, at-map-low, map-length, length-push}
 use Rattle.model_journal.specs.Entry.{Extend, Entry, Frame}
-use Rattle.model_journal.specs.Journal.{Snapshot, journal, graph, vals, val}
+use Rattle.model_journal.specs.Journal.{graph, vals, val}
 use Rattle.model_journal.specs.Clean.{base}
 use Rattle.model_journal.specs.Legal.{IsLegal}
-use Rattle.model_journal.proofs.GraphLaws.{input-set}
-use Rattle.model_journal.proofs.GoodLaws.{set-bottom}
 use Rattle.model_journal.proofs.JournalLaws.{journal-good}
-use Rattle.model_journal.proofs.CleanLaws.{snapshot-take, vals-length}
+use Rattle.model_journal.proofs.CleanLaws.{vals-length}
 use Rattle.model_journal.proofs.EntryLaws.{extend-vals, extend-counts}
 use Rattle.model_core.proofs.PeerLaws.{graph-extended}
 use Rattle.model_core.proofs.BaseLaws.{base-extended}
@@ -24,36 +22,20 @@ use Rattle.lasp_replica.specs.History.{no_history, IsHistory}
 use Rattle.lasp_replica.proofs.HistoryLaws.{history-fresh, history-declared}
 use Rattle.lasp_graph.specs.States.{Held, held_at, contents_of}
 use Rattle.lasp_graph.specs.Evaluated.{number_by}
-use Rattle.lasp_replica.specs.Asked.{has_two}
-use Rattle.lasp_replica.specs.Parts.{Parts, IsBaseAt, base_at, history_at, first_input, second_input, no_set, fresh_base, fresh_state, IsKept}
-use Rattle.lasp_replica.proofs.KindLaws.{first-input, second-input, number-least}
+use Rattle.lasp_replica.specs.Parts.{Parts, IsBaseAt, base_at, history_at, fresh_base, fresh_state, IsKept}
+use Rattle.lasp_replica.proofs.KindLaws.{number-least}
 use Rattle.lasp_replica.proofs.PartLaws.{base-stays, history-alike, states-long}
 use Rattle.lasp_replica.proofs.OneLaws.{declared-there}
 use Rattle.lasp_graph.proofs.Evaluation.{contents-push}
 
 -- ---- a process that has read nothing
 
-fresh-input : (X : Frame) (h : List Entry) → IsLegal X h → (y : ℕ) (k : Kind) → kind_at (graph X h) y ≡ k → (x : ℕ) → IsInput k x → content_at (vals X (take 0 h)) x ≡ least
-fresh-input X h legal y k is x input =
-    ap (λ (s : Snapshot). content_at s.contents x) (sym (snapshot-take X h 0))
-    ∙ set-bottom X (journal X h) (journal-good X h legal) x (input-set (graph X h) (journal-good X h legal).graph y x (subst (λ (j : Kind). IsInput j x) (sym is) input))
-
 -- a variable without a bind has the base that stands for having read nothing
-pub fresh-base : (X : Frame) (h : List Entry) → IsLegal X h → (y : ℕ) (k : Kind) → kind_at (graph X h) y ≡ k → base X h y ≡ 0 → IsBaseAt X h k y (fresh_base k)
-fresh-base X h legal y k is unbound = choose (is_source k) refl where
-  choose : (b : Bool) → is_source k ≡ b → IsBaseAt X h k y (if b then None else Some (record { entries = 0; first = no_set; second = no_set; two = has_two k }))
+pub fresh-base : (X : Frame) (h : List Entry) (y : ℕ) (k : Kind) → base X h y ≡ 0 → IsBaseAt X h k y (fresh_base k)
+fresh-base X h y k unbound = choose (is_source k) refl where
+  choose : (b : Bool) → is_source k ≡ b → IsBaseAt X h k y (if b then None else Some (record { entries = 0; inputs = None }))
   choose true source = source
-  choose false derived = (
-    derived,
-    sym unbound,
-    record {
-      first = sym (fresh-input X h legal y k is (first_input k) (first-input k derived));
-      second = sym (fresh-input X h legal y k is (second_input k) (second-input k derived));
-      first_set = refl;
-      second_set = refl;
-      two = refl;
-    },
-  )
+  choose false derived = (derived, sym unbound, tt)
 
 -- ---- one place more
 
@@ -133,7 +115,7 @@ kept-extended X h legal e after d act p is = record {
   base-new : IsBaseAt X (h ++ e ∷ []) (kind_at (p.graph ++ d ∷ []) (length p.graph)) (length p.graph) (base_at (p.bases ++ fresh_base d.kind ∷ []) (length p.graph))
   base-new = subst (λ (c : Decl). IsBaseAt X (h ++ e ∷ []) c.kind (length p.graph) (base_at (p.bases ++ fresh_base d.kind ∷ []) (length p.graph))) (sym decl-new)
       (subst (IsBaseAt X (h ++ e ∷ []) d.kind (length p.graph)) (sym (get_or_push p.bases (fresh_base d.kind) None (length p.graph) is.bases_many))
-      (fresh-base X (h ++ e ∷ []) after (length p.graph) d.kind (ap (λ (g : List Decl). kind_at g (length p.graph)) (sym graphs) ∙ ap (λ (c : Decl). c.kind) decl-new) unbound))
+      (fresh-base X (h ++ e ∷ []) (length p.graph) d.kind unbound))
 
 -- ---- before the first entry
 
@@ -154,7 +136,7 @@ kept-fresh X lawful member = record {
   histories_many = map-length (λ (d : Decl). no_history) X.opening;
   histories = λ x low. subst (IsHistory X [] x) (sym (at-map-low (λ (d : Decl). no_history) X.opening x no_decl no_history low)) (history-fresh X x);
   bases_many = map-length (λ (d : Decl). fresh_base d.kind) X.opening;
-  bases = λ y low. subst (IsBaseAt X [] (kind_at X.opening y) y) (sym (at-map-low (λ (d : Decl). fresh_base d.kind) X.opening y no_decl None low)) (fresh-base X [] legal y (kind_at X.opening y) refl refl);
+  bases = λ y low. subst (IsBaseAt X [] (kind_at X.opening y) y) (sym (at-map-low (λ (d : Decl). fresh_base d.kind) X.opening y no_decl None low)) (fresh-base X [] y (kind_at X.opening y) refl);
 } where
   legal : IsLegal X []
   legal = record { opening = lawful; member = member; in_turn = tt }

@@ -38,9 +38,9 @@ use Rattle.lasp_replica.proofs.OneLaws.{kept-bound-late, kept-bound-still, kept-
 use Rattle.lasp_replica.proofs.ReadLaws.{news-by-gain, news-none, process-set}
 use Rattle.lasp_replica.specs.declared.process.Process.{Process}
 use Rattle.lasp_replica.specs.declared.replica.Replica.{Replica}
-use Rattle.lasp_replica.specs.Replica.{frame_of, entries_of, parts_of, told, seen_process, IsReplica, IsSuited, no_kept, kept_at}
+use Rattle.lasp_replica.specs.Replica.{base_on, frame_of, entries_of, parts_of, told, seen_process, IsReplica, IsSuited, no_kept, kept_at}
 use Rattle.lasp_replica.specs.Jobs.{IsJobOf, IsOwn, IsResultOf}
-use Rattle.lasp_replica.specs.Finish.{AreNewsOf, HasRoom, grown_at, base_on}
+use Rattle.lasp_replica.specs.Finish.{AreNewsOf, HasRoom, grown_at}
 use Rattle.lasp_replica.proofs.ReplicaLaws.{frame-same, replica-kept}
 use Rattle.lasp_replica.proofs.SuitLaws.{suited-more}
 use Rattle.lasp_replica.specs.declared.entry.Entry.{Entry}
@@ -353,7 +353,7 @@ bound-to old new by y n s b grows is may read early ready bound v items fits =
           b read.entries read.base (ready.still.0 none))
 
 job-base : (r : Replica) (job : Job) → IsReplica r → IsJobOf (frame_of r) (entries_of r) job → IsAsked (arc_value job.graph) job.var job.inputs job.base (arc_value job.before) job.first job.second
-    → IsBase (kind_at (arc_value r.graph) job.var) (vals (frame_of r) (take job.n (entries_of r))) (base_on job.n job.inputs)
+    → IsBase (kind_at (arc_value r.graph) job.var) (vals (frame_of r) (take job.n (entries_of r))) (base_on job.n (Some job.inputs))
 job-base r job is of asked = record {
   first = of.inputs.first ∙ ap (λ (k : Kind). content_at (vals (frame_of r) (take job.n (entries_of r))) (first_input k)) same;
   second = of.inputs.second ∙ ap (λ (k : Kind). content_at (vals (frame_of r) (take job.n (entries_of r))) (second_input k)) same;
@@ -366,10 +366,10 @@ job-base r job is of asked = record {
 
 pub bind-replica : (old new : Replica) (by : ℕ) (job : Job) (s : State) (grows : Bool) → IsReplica old → IsJobOf (frame_of old) (entries_of old) job → IsResultOf (frame_of old) (entries_of old) job s
     → IsAsked (arc_value job.graph) job.var job.inputs job.base (arc_value job.before) job.first job.second
-    → base (frame_of old) (entries_of old) job.var < job.n → HasRoom job.var s grows old → IsBound by job.var job.n (held_of s) (base_on job.n job.inputs) grows old new
+    → base (frame_of old) (entries_of old) job.var < job.n → HasRoom job.var s grows old → IsBound by job.var job.n (held_of s) (base_on job.n (Some job.inputs)) grows old new
     → (v : Entry) → new.journal.items ≡ old.journal.items ++ v ∷ [] → IsSuited (length old.counts) (arc_value old.graph) v → IsReplica new
 bind-replica old new by job s grows is of res asked later room bound v items fits =
-    bound-to old new by job.var job.n (held_of s) (base_on job.n job.inputs) grows is (may-job old job of (result-small old job s is of res)) (record {
+    bound-to old new by job.var job.n (held_of s) (base_on job.n (Some job.inputs)) grows is (may-job old job of (result-small old job s is of res)) (record {
       content = result-is old job s is of res;
       shape = result-shape old job s is of res;
       number = res.state_is.number ∙ ap (λ (k : Kind). number_by k (content_of s)) (kind-here old job is);

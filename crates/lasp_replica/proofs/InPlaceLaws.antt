@@ -29,12 +29,11 @@ use Rattle.lasp_graph.specs.Delta.{IsStateBefore}
 use Rattle.lasp_graph.specs.declared.inputs.Inputs.{Inputs}
 use Rattle.lasp_graph.proofs.SourceLists.{held-content}
 use Rattle.lasp_replica.specs.Asked.{has_two}
-use Rattle.lasp_replica.specs.Parts.{history_at, news_of, first_input, second_input}
+use Rattle.lasp_replica.specs.Parts.{IsBase, history_at, news_of, first_input, second_input}
 use Rattle.lasp_replica.specs.Reading.{HasChanged, IsEarlierInput, IsSmallSet, rows_since}
 use Rattle.lasp_replica.specs.Jobs.{AreShared, unread}
-use Rattle.lasp_replica.specs.Finish.{base_on}
 use Rattle.lasp_replica.specs.Update.{recorded}
-use Rattle.lasp_replica.specs.Replica.{frame_of, entries_of, parts_of, seen_process, jobs_of, told, IsReplica, Goes, Stays}
+use Rattle.lasp_replica.specs.Replica.{base_on, frame_of, entries_of, parts_of, seen_process, jobs_of, told, IsReplica, Goes, Stays}
 use Rattle.lasp_replica.specs.Unread.{second_rows, IsUnread, AreInputsNow, IsUpToDate, AreNew, IsTakenOn}
 use Rattle.lasp_replica.specs.declared.unread.Unread.{Unread}
 use Rattle.lasp_replica.specs.declared.entry.Act.TheVariants.{Bind}
@@ -243,7 +242,7 @@ told-of-fold h rows number none empty shape = empty ∙ news-of-other h.shape h.
 -- ---- the bind
 
 -- the replica after the bind is written down
-pub record IsWritten (by y n : ℕ) (grows : Bool) (inputs : Inputs) (taken new : Replica) : Type 0 where
+pub record IsWritten (by y n : ℕ) (grows : Bool) (inputs : Option Inputs) (taken new : Replica) : Type 0 where
   pub graph : arc_value new.graph ≡ arc_value taken.graph
   pub opening : new.opening ≡ taken.opening
   pub me : new.me ≡ taken.me
@@ -258,8 +257,8 @@ pub record IsWritten (by y n : ℕ) (grows : Bool) (inputs : Inputs) (taken new 
 abbrev before_it : Replica → Replica → Replica
 before_it old taken = record { graph = taken.graph; opening = taken.opening; me = taken.me; counts = taken.counts; states = old.states; histories = taken.histories; processes = taken.processes; journal = taken.journal }
 
-module _ (old taken new : Replica) (is : IsReplica old) (by y : ℕ) (d : IsDerived (arc_value old.graph) y) (s : Held) (inputs : Inputs) (grows : Bool) (n : ℕ) where
-  pub settled : s.shape ≡ (held_at old.states y).shape → IsUpToDate old y s → AreInputsNow old y inputs → IsTakenOn y s grows old taken → n ≡ length taken.journal.items → IsWritten by y n grows inputs taken new
+module _ (old taken new : Replica) (is : IsReplica old) (by y : ℕ) (d : IsDerived (arc_value old.graph) y) (s : Held) (inputs : Option Inputs) (grows : Bool) (n : ℕ) where
+  pub settled : s.shape ≡ (held_at old.states y).shape → IsUpToDate old y s → IfSome inputs (AreInputsNow old y) → IsTakenOn y s grows old taken → n ≡ length taken.journal.items → IsWritten by y n grows inputs taken new
       → Goes (model.entry by (model.Bind y (length (entries_of old)))) old new
   settled shape up now on many written = record {
     sound = bound-to mid new by y n s (base_on n inputs) grows kept.sound may read early (record { still = on.still; pending = on.pending }) bound _ written.journal tt;
@@ -319,21 +318,25 @@ module _ (old taken new : Replica) (is : IsReplica old) (by y : ℕ) (d : IsDeri
     both : IsEarlierInput (arc_value (before_it old taken).graph) y (first_input (kind_at (arc_value (before_it old taken).graph) y)) × IsEarlierInput (arc_value (before_it old taken).graph) y (second_input (kind_at (arc_value (before_it old taken).graph) y))
     both = kept-inputs X h kept.sound.legal (parts_of (before_it old taken)) kept.sound.kept y derived
 
+    keep : (o : Option Inputs) → IfSome o (AreInputsNow old y) → IsBase (kind_at (arc_value (before_it old taken).graph) y) (vals (frame_of (before_it old taken)) (take n (entries_of (before_it old taken)))) (base_on n o)
+    keep None none = tt
+    keep (Some here) same = record {
+      first = ap (λ (w : Held). w.content) same.first ∙ ap (λ (j : Kind). (held_at old.states (first_input j)).content) kinds ∙ at (first_input k);
+      second = ap (λ (w : Held). w.content) same.second ∙ ap (λ (j : Kind). (held_at old.states (second_input j)).content) kinds ∙ at (second_input k);
+      first_set = ap (λ (w : Held). w.shape) same.first ∙ ap (λ (j : Kind). (held_at old.states (first_input j)).shape) kinds
+          ∙ (kept-width X h kept.sound.legal (parts_of (before_it old taken)) kept.sound.kept (first_input k) both.0.declared both.0.set).shape;
+      second_set = ap (λ (w : Held). w.shape) same.second ∙ ap (λ (j : Kind). (held_at old.states (second_input j)).shape) kinds
+          ∙ (kept-width X h kept.sound.legal (parts_of (before_it old taken)) kept.sound.kept (second_input k) both.1.declared both.1.set).shape;
+      two = same.two ∙ ap has_two kinds;
+    }
+
     read : IsReadTo (before_it old taken) y n s (base_on n inputs)
     read = record {
       content = content;
       shape = shape;
       number = up.number ∙ ap (λ (j : Kind). number_by j s.content) kinds;
       entries = refl;
-      base = record {
-        first = ap (λ (w : Held). w.content) now.first ∙ ap (λ (j : Kind). (held_at old.states (first_input j)).content) kinds ∙ at (first_input k);
-        second = ap (λ (w : Held). w.content) now.second ∙ ap (λ (j : Kind). (held_at old.states (second_input j)).content) kinds ∙ at (second_input k);
-        first_set = ap (λ (w : Held). w.shape) now.first ∙ ap (λ (j : Kind). (held_at old.states (first_input j)).shape) kinds
-            ∙ (kept-width X h kept.sound.legal (parts_of (before_it old taken)) kept.sound.kept (first_input k) both.0.declared both.0.set).shape;
-        second_set = ap (λ (w : Held). w.shape) now.second ∙ ap (λ (j : Kind). (held_at old.states (second_input j)).shape) kinds
-            ∙ (kept-width X h kept.sound.legal (parts_of (before_it old taken)) kept.sound.kept (second_input k) both.1.declared both.1.set).shape;
-        two = now.two ∙ ap has_two kinds;
-      };
+      base = keep inputs now;
     }
 
     early : base (frame_of (before_it old taken)) (entries_of (before_it old taken)) y ≤ n

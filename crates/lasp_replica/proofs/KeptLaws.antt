@@ -2,7 +2,7 @@
 use Rattle.std.proofs.Common.{◌≡◌, ℕ, zero, suc, ◌+◌, ◌-◌, ◌≤◌, ◌<◌, max, Bool, true, false, if◌then◌else◌, nat_lt, IsTrue, List, [], ◌∷◌, ◌++◌, length, take, drop, append-nil, append_assoc, ◌==◌, slice_index_or, slice_get, Option, Some, None, Result, Ok, Err, IsOk, is_ok, ◌↔◌, refl, sym, ap, subst, ◌∙◌, arith}
 use Rattle.std.proofs.lemmas.Bool.Decides.{nat_tests}
 use Rattle.std.proofs.lemmas.List.{drop_all, length-drop, take_all}
-use Rattle.std.proofs.Math.Seq.{take-append_seam, drop-append_seam, drop-append-add}
+use Rattle.std.proofs.Math.Seq.{take-append_seam, take-append-add, drop-append_seam, drop-append-add}
 use Rattle.model_values.specs.Row.{Row}
 use Rattle.model_sets.specs.Rows.{IsAscending, of_rows, join}
 use Rattle.model_sets.specs.Rises.{AreApart}
@@ -226,11 +226,6 @@ taken-first rows more news is none up = subst (λ (all : List Row). (of_rows all
   whole : rows ++ more ≡ news
   whole = (λ i. is i ++ none i) ∙ append-nil news
 
--- all rows, where there was one growth at most
-pub first-all : (first log : List Row) → length log ≡ 0 → IsAscending first → first ≡ of_rows (first ++ log)
-first-all first [] none up = sym (ap of_rows (append-nil first) ∙ of_rows-ascending first up)
-first-all first (r ∷ log) none up = absurd (omega (arith, none))
-
 -- all rows: the first growth's, and those behind
 pub all-joined : (first log : List Row) → IsAscending first → join first (of_rows log) ≡ of_rows (first ++ log)
 all-joined first log up =
@@ -240,6 +235,12 @@ all-joined first log up =
 
       rests : of_rows log ≡ of_rows (drop (length first) (first ++ log))
       rests = ap of_rows (sym (drop-append_seam first log))
+
+-- the rows by entries at which the variable grew: the first growth's, and those of a part of the list
+pub joined-before : (first log all : List Row) (n m : ℕ) → all ≡ log → length first ≤ n → m ≡ n - length first → IsAscending first → join first (of_rows (take m (drop 0 all))) ≡ of_rows (take n (first ++ log))
+joined-before first log all n m same low is up =
+    let whole : length first + m ≡ n = omega (arith, low, is) in
+    ap (λ (rows : List Row). join first (of_rows (take m rows))) (drop-none all ∙ same) ∙ all-joined first (take m log) up ∙ ap of_rows (sym (take-append-add first log m) ∙ ap (λ (k : ℕ). take k (first ++ log)) whole)
 
 -- the rows behind entries at which the variable grew are those of a part of the list
 pub behind-first : (first log all : List Row) (n m : ℕ) → all ≡ log → length first ≤ n → m ≡ n - length first → take (length all - m) (drop m all) ≡ drop n (first ++ log)

@@ -7,27 +7,31 @@ use Rattle.model_sets.specs.Rows.{mark, IsAscending, of_rows, join, IsAtMost}
 use Rattle.model_sets.specs.Equations.{changed}
 use Rattle.model_sets.proofs.RowLaws.{same_from_mark, mark-join}
 use Rattle.model_sets.proofs.EquationLaws.{changed-mark, ascending-changed}
-use Rattle.model_states.specs.Content.{Content, of_set, IsContentAtMost, at_row, at_value, at_count, at_top, size_of, row_limit}
+use Rattle.model_states.specs.Threshold.{Shape}
+use Rattle.model_states.specs.Shape.{HasShape}
+use Rattle.model_states.specs.Content.{Content, least, of_set, IsContentAtMost, at_row, at_value, at_count, at_top, size_of, row_limit}
 use Rattle.model_graph.specs.Graph.{Decl, Kind, OrSet, GSet, Counter, MaxReg, Union, Product, Intersection, Map, Filter, Fold, IsInput, is_set, kind_at}
-use Rattle.model_graph.specs.Evaluation.{content_at, equation}
+use Rattle.model_graph.specs.Evaluation.{equation}
 use Rattle.model_graph.specs.Lawful.{IsDerived, IsGraph}
 use Rattle.model_graph.specs.Width.{HasWidth}
+use Rattle.model_graph.proofs.PlaceLaws.{below-or-not, at-past}
 use Rattle.model_journal.specs.Entry.{Entry, Frame}
 use Rattle.model_journal.specs.Journal.{graph, vals, val}
 use Rattle.model_journal.specs.Clean.{version, applied, base, IsClean}
 use Rattle.model_journal.specs.Legal.{IsLegal}
 use Rattle.model_journal.proofs.GraphLaws.{input-set}
 use Rattle.model_journal.proofs.JournalLaws.{journal-graph}
-use Rattle.model_journal.proofs.CleanLaws.{val-based}
+use Rattle.model_journal.proofs.LegalLaws.{legal-take}
+use Rattle.model_journal.proofs.CleanLaws.{val-based, vals-length}
 use Rattle.model_journal.proofs.WordLaws.{applied-base}
-use Rattle.model_core.proofs.BaseLaws.{base-within, vals-take}
-use Rattle.model_core.proofs.ValidLaws.{val-width, val-small}
+use Rattle.model_core.proofs.BaseLaws.{base-within, vals-take, kind-take}
+use Rattle.model_core.proofs.ValidLaws.{val-width, val-small, was-shape}
 use Rattle.lasp_replica.specs.History.{version_before, rows_before}
 use Rattle.model_sets.proofs.RiseLaws.{nothing-changed}
 use Rattle.lasp_replica.proofs.HistoryLaws.{history-version, history-rows, history-changed, history-change}
 use Rattle.lasp_graph.specs.States.{held_at}
 use Rattle.lasp_graph.specs.Evaluated.{process}
-use Rattle.lasp_replica.specs.Parts.{Base, Parts, IsBase, IsBaseAt, base_at, history_at, first_input, second_input, IsKept}
+use Rattle.lasp_replica.specs.Parts.{Read, Base, Parts, IsRead, IsBase, IsBaseAt, base_at, history_at, first_input, second_input, IsKept}
 use Rattle.lasp_replica.specs.Reading.{IsEarlierInput, IsStill, rows_since, HasChanged, IsOfItsKind, IsSmallSet}
 use Rattle.lasp_replica.proofs.KindLaws.{first-input, second-input, input-only, equation-process, shape-derived, shape-set}
 use Rattle.lasp_replica.proofs.PartLaws.{held-val}
@@ -133,22 +137,40 @@ kept-changed X h p is x low flat n within = subst (λ (s : Content). HasChanged 
   there = subst (λ (g : List Decl). IsTrue (is_set (kind_at g x))) is.graph flat
 
 -- of the first input
-pub kept-change-first : (X : Frame) (h : List Entry) → IsLegal X h → (p : Parts) → IsKept X h p → (y : ℕ) → IsDerived p.graph y → (b : Base) → base_at p.bases y ≡ Some b
-    → HasChanged b.first.content (held_at p.states (first_input (kind_at p.graph y))).content (rows_since (history_at p.histories (first_input (kind_at p.graph y))) b.entries)
-kept-change-first X h legal p is y d b at =
+pub kept-change-first : (X : Frame) (h : List Entry) → IsLegal X h → (p : Parts) → IsKept X h p → (y : ℕ) → IsDerived p.graph y → (b : Base) → base_at p.bases y ≡ Some b → (r : Read) → IsRead (kind_at p.graph y) (vals X (take b.entries h)) r
+    → HasChanged r.first.content (held_at p.states (first_input (kind_at p.graph y))).content (rows_since (history_at p.histories (first_input (kind_at p.graph y))) b.entries)
+kept-change-first X h legal p is y d b at r read =
     let x = first_input (kind_at p.graph y) in
     let input = (kept-inputs X h legal p is y d).0 in
-    subst (λ (s : Content). HasChanged s (held_at p.states x).content (rows_since (history_at p.histories x) b.entries)) (sym (kept-read X h p is y d.declared b at).first)
+    subst (λ (s : Content). HasChanged s (held_at p.states x).content (rows_since (history_at p.histories x) b.entries)) (sym read.first)
     (kept-changed X h p is x input.declared input.set b.entries (kept-within X h legal p is y d.declared b at))
 
 -- of the second input
-pub kept-change-second : (X : Frame) (h : List Entry) → IsLegal X h → (p : Parts) → IsKept X h p → (y : ℕ) → IsDerived p.graph y → (b : Base) → base_at p.bases y ≡ Some b
-    → HasChanged b.second.content (held_at p.states (second_input (kind_at p.graph y))).content (rows_since (history_at p.histories (second_input (kind_at p.graph y))) b.entries)
-kept-change-second X h legal p is y d b at =
+pub kept-change-second : (X : Frame) (h : List Entry) → IsLegal X h → (p : Parts) → IsKept X h p → (y : ℕ) → IsDerived p.graph y → (b : Base) → base_at p.bases y ≡ Some b → (r : Read) → IsRead (kind_at p.graph y) (vals X (take b.entries h)) r
+    → HasChanged r.second.content (held_at p.states (second_input (kind_at p.graph y))).content (rows_since (history_at p.histories (second_input (kind_at p.graph y))) b.entries)
+kept-change-second X h legal p is y d b at r read =
     let x = second_input (kind_at p.graph y) in
     let input = (kept-inputs X h legal p is y d).1 in
-    subst (λ (s : Content). HasChanged s (held_at p.states x).content (rows_since (history_at p.histories x) b.entries)) (sym (kept-read X h p is y d.declared b at).second)
+    subst (λ (s : Content). HasChanged s (held_at p.states x).content (rows_since (history_at p.histories x) b.entries)) (sym read.second)
     (kept-changed X h p is x input.declared input.set b.entries (kept-within X h legal p is y d.declared b at))
+
+-- a set has rows alone, at each time
+was-flat : (X : Frame) (h : List Entry) → IsLegal X h → (n x : ℕ) → IsTrue (is_set (kind_at (graph X h) x)) → val X (take n h) x ≡ of_set (val X (take n h) x).rows
+was-flat X h legal n x flat = choose (below-or-not x (length (graph X (take n h)))) where
+  choose : (x < length (graph X (take n h))) ⊎ (length (graph X (take n h)) ≤ x) → val X (take n h) x ≡ of_set (val X (take n h) x).rows
+  choose (inl low) =
+      let kind : IsTrue (is_set (kind_at (graph X (take n h)) x)) = subst (λ (k : Kind). IsTrue (is_set k)) (kind-take X h n x low) flat in
+      subst (λ (s : Shape). HasShape s (val X (take n h) x)) (shape-set X.nodes (kind_at (graph X (take n h)) x) kind) (was-shape X h legal n x)
+  choose (inr past) =
+      let none : val X (take n h) x ≡ least = at-past (vals X (take n h)) x least (omega (arith, vals-length X (take n h) (legal-take X h n legal), past)) in
+      none ∙ ap (λ (s : Content). of_set s.rows) (sym none)
+
+-- the rows of its log by then
+pub kept-was : (X : Frame) (h : List Entry) → IsLegal X h → (p : Parts) → IsKept X h p → (x : ℕ) → x < length p.graph → IsTrue (is_set (kind_at p.graph x)) → (n : ℕ) → n ≤ length h
+    → val X (take n h) x ≡ of_set (of_rows (take (rows_before (history_at p.histories x).growths n) (history_at p.histories x).log))
+kept-was X h legal p is x low flat n within =
+    let there : IsTrue (is_set (kind_at (graph X h) x)) = subst (λ (g : List Decl). IsTrue (is_set (kind_at g x))) is.graph flat in
+    was-flat X h legal n x there ∙ ap of_set ((is.histories x low).rows there n within)
 
 -- all rows of a set are those of its log
 pub kept-rows : (X : Frame) (h : List Entry) (p : Parts) → IsKept X h p → (x : ℕ) → x < length p.graph → IsTrue (is_set (kind_at p.graph x)) → (held_at p.states x).content.rows ≡ of_rows (history_at p.histories x).log
@@ -165,14 +187,11 @@ kept-all X h p is x low flat n none =
 
 -- ---- what a process had then
 
-process-alike : (k : Kind) (x x' y y' : Content) → x ≡ x' → y ≡ y' → process k x y ≡ process k x' y'
-process-alike k x x' y y' first second = λ i. process k (first i) (second i)
-
 pub kept-old : (X : Frame) (h : List Entry) → IsLegal X h → (p : Parts) → IsKept X h p → (y : ℕ) → IsDerived p.graph y → (b : Base) → base_at p.bases y ≡ Some b
-    → IsOfItsKind (kind_at p.graph y) (vals X (take b.entries h)) b (held_at p.states y)
+    → IsOfItsKind (kind_at p.graph y) (vals X (take b.entries h)) (held_at p.states y)
 kept-old X h legal p is y d b at = record {
   equation_is = old;
-  process_is = old ∙ equation-process k before ∙ process-alike k (content_at before (first_input k)) b.first.content (content_at before (second_input k)) b.second.content (sym read.first) (sym read.second);
+  process_is = old ∙ equation-process k before;
   shape = is.shapes y d.declared ∙ shape-derived X.nodes k d.process;
   number = is.numbers y d;
 } where
@@ -181,9 +200,6 @@ kept-old X h legal p is y d b at = record {
 
   before : List Content
   before = vals X (take b.entries h)
-
-  read : IsBase k before b
-  read = kept-read X h p is y d.declared b at
 
   old : (held_at p.states y).content ≡ equation k before
   old =

@@ -1,5 +1,5 @@
 -- What a job of a variable has, and what a replica is once one is out or back.
-use Rattle.std.proofs.Common.{ℕ, pos, ◌≡◌, ◌<◌, ◌≤◌, ◌-◌, Bool, true, false, IsTrue, IsFalse, IfOk, Result, Ok, Err, List, length, map, take, get_or, Option, Some, None, is_some, refl, sym, ap, subst, ◌∙◌, arith, slice_set, vec_len}
+use Rattle.std.proofs.Common.{ℕ, pos, ◌≡◌, ◌<◌, ◌≤◌, ◌-◌, Bool, true, false, IsTrue, IsFalse, IfOk, Result, Ok, Err, List, length, map, take, get_or, Option, Some, None, IfSome, is_some, refl, sym, ap, subst, ◌∙◌, arith, slice_set, vec_len}
 use Rattle.std.specs.Option.{option_map}
 use Rattle.std.specs.Vec.{with_item}
 use Rattle.std.specs.Prelude.{slice_get}
@@ -8,7 +8,8 @@ use Rattle.std.proofs.lemmas.List.{length-map, map-set, take_all}
 use Rattle.std.proofs.lemmas.Option.{get_or_from_slice_get}
 use Rattle.std.proofs.Math.Seq.{map-set_same}
 use Rattle.model_values.specs.Row.{Row}
-use Rattle.model_states.specs.Content.{Content, least}
+use Rattle.model_sets.specs.Rows.{of_rows}
+use Rattle.model_states.specs.Content.{Content, least, of_set}
 use Rattle.model_states.specs.Threshold.{set}
 use Rattle.model_graph.specs.Graph.{Decl, Kind, OrSet, GSet, Counter, MaxReg, Union, Product, Intersection, Map, Filter, Fold, is_set, kind_at}
 use Rattle.model_graph.specs.Evaluation.{content_at}
@@ -29,15 +30,15 @@ use Rattle.lasp_replica.specs.History.{rows_before}
 use Rattle.lasp_replica.specs.Kept.{Kept}
 use Rattle.lasp_replica.specs.Asked.{IsReadable, IsAsked, has_two}
 use Rattle.lasp_replica.specs.declared.job.Job.{Job}
-use Rattle.lasp_replica.specs.Parts.{Base, Parts, IsKept, IsBaseAt, first_input, second_input, history_at}
+use Rattle.lasp_replica.specs.Parts.{Parts, IsKept, IsRead, first_input, second_input, history_at}
 use Rattle.lasp_replica.specs.Reading.{IsSmallSet, HasChanged, IsOfItsKind, rows_since}
 use Rattle.lasp_replica.proofs.PartLaws.{held-val, states-long}
-use Rattle.lasp_replica.proofs.ReadLaws.{kept-all, kept-width, kept-read, kept-old, kept-change-first, kept-change-second}
+use Rattle.lasp_replica.proofs.ReadLaws.{kept-all, kept-base, kept-width, kept-within, kept-read, kept-was, kept-old, kept-change-first, kept-change-second}
 use Rattle.lasp_replica.specs.declared.process.Process.{Process}
 use Rattle.lasp_replica.specs.declared.replica.Replica.{Replica}
 use Rattle.lasp_replica.specs.Entries.{entry_of}
-use Rattle.lasp_replica.specs.Replica.{base_of, jobs_of, frame_of, entries_of, busy_of, told, parts_of, IsReplica}
-use Rattle.lasp_replica.specs.Jobs.{counted_up, AreShared, AreInputsOf, IsOwn, IsJobNow, HasStarted, HasStopped}
+use Rattle.lasp_replica.specs.Replica.{read_of, base_of, jobs_of, frame_of, entries_of, busy_of, told, parts_of, IsReplica}
+use Rattle.lasp_replica.specs.Jobs.{counted_up, AreShared, AreInputsOf, IsOwn, IsJobNow, IsReadAt, IsSetAt, IsSetVar, HasStarted, HasStopped}
 use Rattle.lasp_replica.proofs.ReplicaLaws.{replica-kept}
 use Rattle.lasp_replica.proofs.SuitLaws.{suited-same}
 use Rattle.lasp_replica.proofs.SettledLaws.{base-found, jobs-found, process-derived, history-found, AreInputs}
@@ -178,7 +179,7 @@ pub record IsCopied (r : Replica) (y : ℕ) (p : Process) (x z : ℕ) (g : List 
   pub first_in : held_of (arc_value inputs.first) ≡ held_at r.states x
   pub second_in : held_of (second_of inputs) ≡ held_at r.states z
   pub two : is_some inputs.second ≡ has_two (kind_at (arc_value r.graph) y)
-  pub base_is : AreShared p.base base
+  pub base_is : IsReadAt r y p.n base
   pub old_is : held_of old ≡ held_at r.states y
   pub first_is : first ≡ rows_since (history_at (parts_of r).histories x) p.n
   pub second_is : second ≡ rows_since (history_at (parts_of r).histories z) p.n
@@ -206,6 +207,68 @@ second-held r y x z k inputs i e two one = choose (has_two k) refl where
   choose true t = two t
   choose false f = one f ∙ ap (held_at r.states) (one-alike r y x z k i e f)
 
+-- ---- what was read
+
+-- a process read when there were so many entries at most
+pub read-early : (r : Replica) → IsReplica r → (y : ℕ) (p : Process) → slice_get r.processes.items y ≡ Some (Some p) → p.n ≤ length (entries_of r)
+read-early r ok y p found = kept-within (frame_of r) (entries_of r) ok.legal (parts_of r) ok.kept y (process-derived r ok y p found).declared (base_of p) (base-found r y (Some p) found)
+
+-- a share of what it keeps
+kept-shared : (r : Replica) → IsReplica r → (y : ℕ) (p : Process) → slice_get r.processes.items y ≡ Some (Some p) → (kept copy : Inputs) → p.base ≡ Some kept → AreShared kept copy → IsReadAt r y p.n copy
+kept-shared r ok y p found kept copy is same =
+    let X = frame_of r in
+    let h = entries_of r in
+    let read : IsRead (kind_at (arc_value r.graph) y) (vals X (take p.n h)) (read_of kept) =
+    subst (λ (o : Option Inputs). IfSome (option_map read_of o) (IsRead (kind_at (arc_value r.graph) y) (vals X (take p.n h)))) is
+    (kept-read X h (parts_of r) ok.kept y (process-derived r ok y p found).declared (base_of p) (base-found r y (Some p) found)) in
+    record {
+      first = ap (λ (w : Held). w.content) same.first ∙ read.first;
+      second = ap (λ (w : Held). w.content) same.second ∙ read.second;
+      first_set = ap (λ (w : Held). w.shape) same.first ∙ read.first_set;
+      second_set = ap (λ (w : Held). w.shape) same.second ∙ read.second_set;
+      two = same.two ∙ read.two;
+    }
+
+pub shared-read : {E : Type 0} (o : Result Inputs E) (r : Replica) → IsReplica r → (y : ℕ) (p : Process) → slice_get r.processes.items y ≡ Some (Some p) → (kept : Inputs) → p.base ≡ Some kept → IfOk o (AreShared kept) → IfOk o (IsReadAt r y p.n)
+shared-read (Ok copy) r ok y p found kept is same = kept-shared r ok y p found kept copy is same
+shared-read (Err w) r ok y p found kept is same = tt
+
+-- a set of the rows that its history had by then
+pub set-at : (r : Replica) → IsReplica r → (x n : ℕ) → IsSetVar r x → n ≤ length (entries_of r) → (k : Kept) → x < length r.histories.items → k ≡ get_or r.histories.items x k
+    → (rows : List Row) → rows ≡ of_rows (take (rows_before k.history.growths n) k.history.log) → (s : State) → s ≡ state.Set rows → IsSetAt r n x s
+set-at r ok x n var within k there kept rows is s e =
+    let found = sym (history-found r x k there kept) in
+    record {
+      shape = ap shape_of e;
+      content = ap content_of e ∙ ap of_set (is ∙ (λ i. of_rows (take (rows_before (found i).growths n) (found i).log)))
+          ∙ sym (kept-was (frame_of r) (entries_of r) ok.legal (parts_of r) ok.kept x var.0 var.1 n within);
+    }
+
+-- sets as they were then
+sets-read : (r : Replica) (y x z n : ℕ) → AreInputs r y x z → (k : Kind) → kind_at (arc_value r.graph) y ≡ k → (inputs : Inputs) → IsSetAt r n x (arc_value inputs.first)
+    → (IsTrue (has_two k) → IsSetAt r n z (second_of inputs)) → (IsFalse (has_two k) → IsSetAt r n x (second_of inputs)) → is_some inputs.second ≡ has_two k → IsReadAt r y n inputs
+sets-read r y x z n i k e inputs first two one some = record {
+  first = first.content ∙ ap (content_at before) (sym i.first_is);
+  second = second.content ∙ ap (content_at before) (sym i.second_is);
+  first_set = first.shape;
+  second_set = second.shape;
+  two = some ∙ ap has_two (sym e);
+} where
+  before : List Content
+  before = vals (frame_of r) (take n (entries_of r))
+
+  choose : (b : Bool) → has_two k ≡ b → IsSetAt r n z (second_of inputs)
+  choose true t = two t
+  choose false f = subst (λ (w : ℕ). IsSetAt r n w (second_of inputs)) (one-alike r y x z k i e f) (one f)
+
+  second : IsSetAt r n z (second_of inputs)
+  second = choose (has_two k) refl
+
+pub made-read : {E : Type 0} (o : Result Inputs E) (r : Replica) (y x z n : ℕ) → AreInputs r y x z → (k : Kind) → kind_at (arc_value r.graph) y ≡ k → IfOk o (λ i. IsSetAt r n x (arc_value i.first))
+    → IfOk o (λ i. IsTrue (has_two k) → IsSetAt r n z (second_of i)) → IfOk o (λ i. IsFalse (has_two k) → IsSetAt r n x (second_of i)) → IfOk o (λ i. is_some i.second ≡ has_two k) → IfOk o (IsReadAt r y n)
+made-read (Ok made) r y x z n i k e first two one some = sets-read r y x z n i k e made first two one some
+made-read (Err w) r y x z n i k e first two one some = tt
+
 readable : (s : State) (h : Held) → held_of s ≡ h → IsSmallSet h → IsReadable s
 readable s h e small = let m = subst IsSmallSet (sym e) small in record { shape = m.shape; width = m.width; small = m.small }
 
@@ -213,27 +276,26 @@ readable s h e small = let m = subst IsSmallSet (sym e) small in record { shape 
 first-changed : (r : Replica) → IsReplica r → (y : ℕ) (p : Process) → slice_get r.processes.items y ≡ Some (Some p) → (x z : ℕ) → AreInputs r y x z → (g : List Decl) (inputs base : Inputs) (old : State) (first second : List Row) → IsCopied r y p x z g inputs base old first second
     → HasChanged (content_of (arc_value base.first)) (content_of (arc_value inputs.first)) first
 first-changed r ok y p found x z i g inputs base old first second c =
-    let change = subst (λ (w : ℕ). HasChanged (content_of (arc_value p.base.first)) (held_at r.states w).content (rows_since (history_at (parts_of r).histories w) p.n)) i.first_is
-    (kept-change-first (frame_of r) (entries_of r) ok.legal (parts_of r) ok.kept y (process-derived r ok y p found) (base_of p) (base-found r y (Some p) found)) in
+    let change = subst (λ (w : ℕ). HasChanged (content_of (arc_value base.first)) (held_at r.states w).content (rows_since (history_at (parts_of r).histories w) p.n)) i.first_is
+    (kept-change-first (frame_of r) (entries_of r) ok.legal (parts_of r) ok.kept y (process-derived r ok y p found) (base_of p) (base-found r y (Some p) found) (read_of base) c.base_is) in
     subst (λ (w : List Row). HasChanged (content_of (arc_value base.first)) (content_of (arc_value inputs.first)) w) (sym c.first_is)
-    (subst (λ (h : Held). HasChanged (content_of (arc_value base.first)) h.content (rows_since (history_at (parts_of r).histories x) p.n)) (sym c.first_in)
-    (subst (λ (h : Held). HasChanged h.content (held_at r.states x).content (rows_since (history_at (parts_of r).histories x) p.n)) (sym c.base_is.first) change))
+    (subst (λ (h : Held). HasChanged (content_of (arc_value base.first)) h.content (rows_since (history_at (parts_of r).histories x) p.n)) (sym c.first_in) change)
 
 second-changed : (r : Replica) → IsReplica r → (y : ℕ) (p : Process) → slice_get r.processes.items y ≡ Some (Some p) → (x z : ℕ) → AreInputs r y x z → (g : List Decl) (inputs base : Inputs) (old : State) (first second : List Row) → IsCopied r y p x z g inputs base old first second
     → HasChanged (content_of (second_of base)) (content_of (second_of inputs)) second
 second-changed r ok y p found x z i g inputs base old first second c =
-    let change = subst (λ (w : ℕ). HasChanged (content_of (second_of p.base)) (held_at r.states w).content (rows_since (history_at (parts_of r).histories w) p.n)) i.second_is
-    (kept-change-second (frame_of r) (entries_of r) ok.legal (parts_of r) ok.kept y (process-derived r ok y p found) (base_of p) (base-found r y (Some p) found)) in
+    let change = subst (λ (w : ℕ). HasChanged (content_of (second_of base)) (held_at r.states w).content (rows_since (history_at (parts_of r).histories w) p.n)) i.second_is
+    (kept-change-second (frame_of r) (entries_of r) ok.legal (parts_of r) ok.kept y (process-derived r ok y p found) (base_of p) (base-found r y (Some p) found) (read_of base) c.base_is) in
     subst (λ (w : List Row). HasChanged (content_of (second_of base)) (content_of (second_of inputs)) w) (sym c.second_is)
-    (subst (λ (h : Held). HasChanged (content_of (second_of base)) h.content (rows_since (history_at (parts_of r).histories z) p.n)) (sym c.second_in)
-    (subst (λ (h : Held). HasChanged h.content (held_at r.states z).content (rows_since (history_at (parts_of r).histories z) p.n)) (sym c.base_is.second) change))
+    (subst (λ (h : Held). HasChanged (content_of (second_of base)) h.content (rows_since (history_at (parts_of r).histories z) p.n)) (sym c.second_in) change)
 
-state-of : (k : Kind) (before : List Content) (b : Base) (s first second : State) (h : Held) → held_of s ≡ h → held_of first ≡ b.first → held_of second ≡ b.second → IsOfItsKind k before b h → IsStateOf k (content_of first) (content_of second) s
-state-of k before b s first second h e one two is =
-    let m = subst (IsOfItsKind k before b) (sym e) is in
+state-of : (k : Kind) (before : List Content) (s first second : State) (h : Held) → held_of s ≡ h → content_of first ≡ content_at before (first_input k) → content_of second ≡ content_at before (second_input k) → IsOfItsKind k before h
+    → IsStateOf k (content_of first) (content_of second) s
+state-of k before s first second h e one two is =
+    let m = subst (IsOfItsKind k before) (sym e) is in
     record {
       shape = m.shape;
-      content = m.process_is ∙ (λ i. process k (sym one i).content (sym two i).content);
+      content = m.process_is ∙ (λ i. process k (sym one i) (sym two i));
       number = m.number;
     }
 
@@ -244,20 +306,19 @@ asked r ok y p found x z i g inputs base old first second c =
     let h = entries_of r in
     let d = process-derived r ok y p found in
     let b = base-found r y (Some p) found in
-    let read = kept-read X h (parts_of r) ok.kept y d.declared (base_of p) b in
     let kind : kind_at (arc_value r.graph) y ≡ kind_at g y = ap (λ (l : List Decl). kind_at l y) (sym c.graph_is) in
     record {
       derived = subst (λ (l : List Decl). IsDerived l y) (sym c.graph_is) d;
       two = c.two ∙ ap has_two kind;
-      base_two = c.base_is.two ∙ read.two ∙ ap has_two kind;
+      base_two = c.base_is.two ∙ ap has_two kind;
       first_input = readable (arc_value inputs.first) (held_at r.states x) c.first_in (kept-width X h ok.legal (parts_of r) ok.kept x i.first_earlier.declared i.first_earlier.set);
       second_input = readable (second_of inputs) (held_at r.states z) c.second_in (kept-width X h ok.legal (parts_of r) ok.kept z i.second_earlier.declared i.second_earlier.set);
-      first_set = ap (λ (w : Held). w.shape) c.base_is.first ∙ read.first_set;
-      second_set = ap (λ (w : Held). w.shape) c.base_is.second ∙ read.second_set;
+      first_set = c.base_is.first_set;
+      second_set = c.base_is.second_set;
       first_change = (first-changed r ok y p found x z i g inputs base old first second c).change;
       second_change = (second-changed r ok y p found x z i g inputs base old first second c).change;
       state = subst (λ (k : Kind). IsStateOf k (content_of (arc_value base.first)) (content_of (second_of base)) old) kind
-          (state-of (kind_at (arc_value r.graph) y) (vals X (take p.n h)) (base_of p) old (arc_value base.first) (second_of base) (held_at r.states y) c.old_is c.base_is.first c.base_is.second
+          (state-of (kind_at (arc_value r.graph) y) (vals X (take p.n h)) old (arc_value base.first) (second_of base) (held_at r.states y) c.old_is c.base_is.first c.base_is.second
           (kept-old X h ok.legal (parts_of r) ok.kept y d (base_of p) b));
     }
 
@@ -284,16 +345,16 @@ made-copied r y p x z job n g inputs base old first second m c =
     (subst (λ (w : List Row). IsCopied r y p x z g inputs base old first w) (sym m.second_is) c)))))
 
 -- what the process last read are its inputs as they were there
-base-inputs : (r : Replica) → IsReplica r → (y : ℕ) (p : Process) → slice_get r.processes.items y ≡ Some (Some p) → (copy : Inputs) → AreShared p.base copy
+base-inputs : (r : Replica) → IsReplica r → (y : ℕ) (p : Process) → slice_get r.processes.items y ≡ Some (Some p) → (copy : Inputs) → IsReadAt r y p.n copy
     → AreInputsOf (kind_at (graph (frame_of r) (entries_of r)) y) (vals (frame_of r) (take (base (frame_of r) (entries_of r) y) (entries_of r))) copy
-base-inputs r ok y p found copy same =
+base-inputs r ok y p found copy read =
     let X = frame_of r in
     let h = entries_of r in
-    let read : IsBaseAt X h (kind_at (arc_value r.graph) y) y (Some (base_of p)) = subst (λ (o : Option Base). IsBaseAt X h (kind_at (arc_value r.graph) y) y o) (base-found r y (Some p) found) (ok.kept.bases y (process-derived r ok y p found).declared) in
+    let n : p.n ≡ base X h y = kept-base X h (parts_of r) ok.kept y (process-derived r ok y p found).declared (base_of p) (base-found r y (Some p) found) in
     record {
-      two = same.two ∙ read.2.two ∙ ap (λ (l : List Decl). has_two (kind_at l y)) ok.kept.graph;
-      first = ap (λ (w : Held). w.content) same.first ∙ read.2.first ∙ (λ i. content_at (vals X (take (read.1 i) h)) (first_input (kind_at (ok.kept.graph i) y)));
-      second = ap (λ (w : Held). w.content) same.second ∙ read.2.second ∙ (λ i. content_at (vals X (take (read.1 i) h)) (second_input (kind_at (ok.kept.graph i) y)));
+      two = read.two ∙ ap (λ (l : List Decl). has_two (kind_at l y)) ok.kept.graph;
+      first = read.first ∙ (λ i. content_at (vals X (take (n i) h)) (first_input (kind_at (ok.kept.graph i) y)));
+      second = read.second ∙ (λ i. content_at (vals X (take (n i) h)) (second_input (kind_at (ok.kept.graph i) y)));
     }
 
 pub taken : (r : Replica) → IsReplica r → (y : ℕ) (p : Process) → slice_get r.processes.items y ≡ Some (Some p) → (x z : ℕ) → AreInputs r y x z → (job : Job) (g : List Decl) (inputs base : Inputs) (old : State) (first second : List Row)

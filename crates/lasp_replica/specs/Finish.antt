@@ -1,16 +1,14 @@
 -- What is made ready for the result of a job, before anything changes.
-use Rattle.std.specs.Prelude.{◌≡◌, ℕ, ◌<◌, ◌↔◌, Bool, IsTrue, IsFalse, List, map, is_some, vec_len, vec_capacity}
+use Rattle.std.specs.Prelude.{◌≡◌, ℕ, ◌<◌, ◌↔◌, Bool, IsTrue, IsFalse, List, map, vec_len, vec_capacity}
 use Rattle.std.specs.Arc.{arc_value}
 use Rattle.model_values.specs.Row.{Row}
 use Rattle.model_states.specs.Content.{IsContentAtMost}
 use Rattle.lasp_state.specs.declared.state.State.{State}
 use Rattle.lasp_state.specs.State as state
-use Rattle.lasp_graph.specs.States.{Held, held_of, held_at}
-use Rattle.lasp_graph.specs.Evaluated.{second_of}
-use Rattle.lasp_graph.specs.declared.inputs.Inputs.{Inputs}
+use Rattle.lasp_graph.specs.States.{Held, held_at}
 use Rattle.lasp_replica.specs.History.{History, grown}
 use Rattle.lasp_replica.specs.Kept.{Kept}
-use Rattle.lasp_replica.specs.Parts.{Base, news_of, AreRowsOf}
+use Rattle.lasp_replica.specs.Parts.{news_of, AreRowsOf}
 use Rattle.lasp_replica.specs.Replica.{told, kept_at}
 use Rattle.lasp_replica.specs.declared.replica.Replica.{Replica}
 
@@ -22,10 +20,6 @@ pub record AreNewsOf (old : Held) (s : State) (grows : Bool) (rows : List Row) :
 -- a variable's history after the growth that it has made ready, at an entry
 abbrev pub grown_at : List Kept → ℕ → ℕ → History
 grown_at histories y entry = grown (kept_at histories y).history (kept_at histories y).pending entry
-
--- a process that read these inputs when so many entries stood
-abbrev pub base_on : ℕ → Inputs → Base
-base_on n inputs = record { entries = n; first = held_of (arc_value inputs.first); second = held_of (second_of inputs); two = is_some inputs.second }
 
 -- the replica as it was, but for memory that was made ready
 pub record IsAlike (old new : Replica) : Type 0 where

@@ -1,10 +1,11 @@
 -- Jobs of a replica: which variable's is next, what a job has, and when a result is a job's.
-use Rattle.std.specs.Prelude.{◌≡◌, ◌≢◌, ℕ, ◌+◌, ◌-◌, ◌^◌, ◌<◌, ◌≤◌, min, ◌⊎◌, if◌then◌else◌, List, [], ◌∷◌, ◌++◌, None, length, take, slice_set, slice_index_or, is_some, IsSome}
+use Rattle.std.specs.Prelude.{◌≡◌, ◌≢◌, ℕ, ◌+◌, ◌-◌, ◌^◌, ◌<◌, ◌≤◌, min, ◌⊎◌, if◌then◌else◌, List, [], ◌∷◌, ◌++◌, None, length, take, slice_set, slice_index_or, is_some, IsSome, IsTrue}
 use Rattle.std.specs.Arc.{arc_value}
 use Rattle.model_values.specs.Row.{Row}
 use Rattle.model_states.specs.Content.{Content, size_of, row_limit}
+use Rattle.model_states.specs.Threshold.{set}
 use Rattle.model_sets.specs.Equations.{changed}
-use Rattle.model_graph.specs.Graph.{Kind, kind_at}
+use Rattle.model_graph.specs.Graph.{Kind, is_set, kind_at}
 use Rattle.model_graph.specs.Evaluation.{content_at}
 use Rattle.model_graph.specs.Lawful.{IsDerived}
 use Rattle.model_journal.specs.Entry as model
@@ -19,8 +20,8 @@ use Rattle.lasp_graph.specs.Delta.{IsStateOf}
 use Rattle.lasp_graph.specs.declared.inputs.Inputs.{Inputs}
 use Rattle.lasp_replica.specs.declared.job.Job.{Job}
 use Rattle.lasp_replica.specs.Asked.{has_two}
-use Rattle.lasp_replica.specs.Parts.{first_input, second_input}
-use Rattle.lasp_replica.specs.Replica.{frame_of, entries_of, busy_of, IsReplica}
+use Rattle.lasp_replica.specs.Parts.{IsRead, first_input, second_input}
+use Rattle.lasp_replica.specs.Replica.{read_of, frame_of, entries_of, busy_of, IsReplica}
 use Rattle.lasp_replica.specs.declared.refused.NotYet.{NotYet}
 use Rattle.lasp_replica.specs.declared.replica.Replica.{Replica}
 
@@ -85,6 +86,19 @@ pub record AreInputsOf (k : Kind) (contents : List Content) (inputs : Inputs) : 
   pub two : is_some inputs.second ≡ has_two k
   pub first : state.content_of (arc_value inputs.first) ≡ content_at contents (first_input k)
   pub second : state.content_of (second_of inputs) ≡ content_at contents (second_input k)
+
+-- variable x is declared, and a set
+abbrev pub IsSetVar : Replica → ℕ → Type 0
+IsSetVar r x = (x < length (arc_value r.graph)) × IsTrue (is_set (kind_at (arc_value r.graph) x))
+
+-- the state is that of set x as it was after the first n entries
+pub record IsSetAt (r : Replica) (n x : ℕ) (s : State) : Type 0 where
+  pub shape : state.shape_of s ≡ set
+  pub content : state.content_of s ≡ content_at (vals (frame_of r) (take n (entries_of r))) x
+
+-- the inputs of variable y as they were after the first n entries
+abbrev pub IsReadAt : Replica → ℕ → ℕ → Inputs → Type 0
+IsReadAt r y n inputs = IsRead (kind_at (arc_value r.graph) y) (vals (frame_of r) (take n (entries_of r))) (read_of inputs)
 
 -- the rows by which variable x changed since variable y last read its inputs
 abbrev pub unread : Frame → List model.Entry → ℕ → ℕ → List Row

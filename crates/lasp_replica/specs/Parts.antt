@@ -1,10 +1,10 @@
 -- What a replica keeps beside its journal, as plain data, and when it is what the journal says.
-use Rattle.std.specs.Prelude.{◌≡◌, ℕ, pos, ◌<◌, if◌then◌else◌, Bool, List, [], length, take, slice_index_or, Option, Some, None, IsTrue, IsFalse}
+use Rattle.std.specs.Prelude.{◌≡◌, ℕ, pos, ◌<◌, if◌then◌else◌, Bool, List, [], length, take, slice_index_or, Option, Some, None, IfSome, IsTrue, IsFalse}
 use Rattle.model_values.specs.Row.{Row}
 use Rattle.model_sets.specs.Rows.{of_rows}
 use Rattle.model_sets.specs.Equations.{changed}
 use Rattle.model_sets.specs.Rises.{AreApart}
-use Rattle.model_states.specs.Content.{Content, least}
+use Rattle.model_states.specs.Content.{Content}
 use Rattle.model_states.specs.Threshold.{Shape, set}
 use Rattle.model_graph.specs.Graph.{Kind, Decl, is_source, kind_at}
 use Rattle.model_graph.specs.Evaluation.{content_at, least_of}
@@ -18,13 +18,17 @@ use Rattle.lasp_graph.specs.States.{Held, held_at, contents_of}
 use Rattle.lasp_graph.specs.Evaluated.{inputs_of, number_by}
 use Rattle.lasp_replica.specs.Asked.{has_two}
 
--- what a process last read: how many entries stood then, and its inputs as they were
-pub record Base : Type 0 where
-  pub entries : ℕ
+-- the inputs that a process read
+pub record Read : Type 0 where
   pub first : Held
   -- the second input; where the process has one alone, that one again
   pub second : Held
   pub two : Bool
+
+-- what a process last read: how many entries stood then, and its inputs as they were, where these are kept
+pub record Base : Type 0 where
+  pub entries : ℕ
+  pub inputs : Option Read
 
 -- what a replica keeps
 pub record Parts : Type 0 where
@@ -47,12 +51,16 @@ abbrev pub second_input : Kind → ℕ
 second_input k = (places_of (inputs_of k)).1
 
 -- the inputs of a process of this kind, as the contents have them
-pub record IsBase (k : Kind) (contents : List Content) (b : Base) : Type 0 where
-  pub first : b.first.content ≡ content_at contents (first_input k)
-  pub second : b.second.content ≡ content_at contents (second_input k)
-  pub first_set : b.first.shape ≡ set
-  pub second_set : b.second.shape ≡ set
-  pub two : b.two ≡ has_two k
+pub record IsRead (k : Kind) (contents : List Content) (r : Read) : Type 0 where
+  pub first : r.first.content ≡ content_at contents (first_input k)
+  pub second : r.second.content ≡ content_at contents (second_input k)
+  pub first_set : r.first.shape ≡ set
+  pub second_set : r.second.shape ≡ set
+  pub two : r.two ≡ has_two k
+
+-- what is kept of the inputs of a process of this kind is as the contents have them
+abbrev pub IsBase : Kind → List Content → Base → Type 0
+IsBase k contents b = IfSome b.inputs (IsRead k contents)
 
 -- what variable y last read, after the entries; nothing where it is a source
 abbrev pub IsBaseAt : Frame → List Entry → Kind → ℕ → Option Base → Type 0
@@ -65,13 +73,9 @@ history_at histories x = slice_index_or histories x no_history
 abbrev pub base_at : List (Option Base) → ℕ → Option Base
 base_at bases y = slice_index_or bases y None
 
--- what a process reads before anything happened
-abbrev pub no_set : Held
-no_set = record { shape = set; content = least; number = pos 0 }
-
 -- a process that has read nothing yet; nothing of a source
 abbrev pub fresh_base : Kind → Option Base
-fresh_base k = if is_source k then None else Some (record { entries = 0; first = no_set; second = no_set; two = has_two k })
+fresh_base k = if is_source k then None else Some (record { entries = 0; inputs = None })
 
 -- a variable before anything happened, among so many nodes
 abbrev pub fresh_state : ℕ → Decl → Held

@@ -26,11 +26,11 @@ pub use Rattle.lasp_graph.specs.Evaluated.{number_by, second_of}
 pub use Rattle.lasp_graph.specs.Kind.{kind_of}
 pub use Rattle.lasp_graph.specs.States.{AreJoinable, AreSourcesOfKind, HasRows, Held, contents_of, extended, held_at, held_of}
 pub use Rattle.lasp_replica.specs.Delivery.{AreJoined, AreRecordable, AreRecordedTo, AreSmall, IsLike, IsRefused, IsRefusedAt}
-pub use Rattle.lasp_replica.specs.Finish.{AreNewsOf, HasRoom, IsAlike, base_on}
-pub use Rattle.lasp_replica.specs.Jobs.{AreShared, HasBound, HasStarted, HasStopped, IsFirstFree, IsFirstUnclean, IsFreeAt, IsJobOf, IsLacking, IsNextVar, IsResultOf, IsUncleanAt}
-pub use Rattle.lasp_replica.specs.Parts.{AreRowsOf, Base, IsBase, IsKept, Parts, base_at, first_input, fresh_base, fresh_state, history_at, news_of, no_set, second_input}
+pub use Rattle.lasp_replica.specs.Finish.{AreNewsOf, HasRoom, IsAlike}
+pub use Rattle.lasp_replica.specs.Jobs.{AreShared, HasBound, HasStarted, HasStopped, IsFirstFree, IsFirstUnclean, IsFreeAt, IsJobOf, IsLacking, IsNextVar, IsReadAt, IsResultOf, IsSetAt, IsSetVar, IsUncleanAt}
+pub use Rattle.lasp_replica.specs.Parts.{AreRowsOf, Base, IsBase, IsKept, IsRead, Parts, Read, base_at, first_input, fresh_base, fresh_state, history_at, news_of, second_input}
 pub use Rattle.lasp_replica.specs.Reading.{HasChanged, IsOfItsKind, IsSmallSet, IsStill, rows_since}
-pub use Rattle.lasp_replica.specs.Replica.{Goes, Grows, IsAnswered, IsBeginning, IsDelivered, IsOfGraph, IsReplica, IsSmall, Stays, busy_of, entries_of, frame_of, growths_at, is_for, jobs_of, kept_at, log_at, refused, seen_process, shape_for, told, update_check, update_refusal}
+pub use Rattle.lasp_replica.specs.Replica.{Goes, Grows, IsAnswered, IsBeginning, IsDelivered, IsOfGraph, IsReplica, IsSmall, Stays, base_on, busy_of, entries_of, frame_of, growths_at, is_for, jobs_of, kept_at, log_at, read_of, refused, seen_process, shape_for, told, update_check, update_refusal}
 pub use Rattle.lasp_replica.specs.Since.{AreSince, IsSince}
 pub use Rattle.lasp_replica.specs.TakenIn.{IsInOrder, IsTakenIn}
 pub use Rattle.lasp_replica.specs.Update.{IsGain, IsInFormat, IsPrepared, recorded}

@@ -6,13 +6,13 @@ use Rattle.model_sets.specs.Equations.{changed}
 use Rattle.model_states.specs.Content.{Content, IsContentAtMost, size_of, row_limit}
 use Rattle.model_states.specs.Threshold.{set}
 use Rattle.model_graph.specs.Graph.{Decl, Kind, is_set, kind_at}
-use Rattle.model_graph.specs.Evaluation.{equation}
+use Rattle.model_graph.specs.Evaluation.{content_at, equation}
 use Rattle.model_graph.specs.Width.{HasWidth}
 use Rattle.model_graph.specs.Increment.{IsChange}
 use Rattle.lasp_replica.specs.History.{History, version_before, rows_before}
 use Rattle.lasp_graph.specs.States.{Held}
 use Rattle.lasp_graph.specs.Evaluated.{process, derived_shape, number_by}
-use Rattle.lasp_replica.specs.Parts.{Base, Parts, history_at}
+use Rattle.lasp_replica.specs.Parts.{Parts, first_input, second_input, history_at}
 
 -- an input of variable y of a graph: an earlier set
 pub record IsEarlierInput (g : List Decl) (y x : ℕ) : Type 0 where
@@ -35,9 +35,9 @@ pub record HasChanged (before now : Content) (rows : List Row) : Type 0 where
   pub more : IsContentAtMost before now
 
 -- a process is what its kind makes of the contents that it read
-pub record IsOfItsKind (k : Kind) (before : List Content) (b : Base) (s : Held) : Type 0 where
+pub record IsOfItsKind (k : Kind) (before : List Content) (s : Held) : Type 0 where
   pub equation_is : s.content ≡ equation k before
-  pub process_is : s.content ≡ process k b.first.content b.second.content
+  pub process_is : s.content ≡ process k (content_at before (first_input k)) (content_at before (second_input k))
   pub shape : s.shape ≡ derived_shape k
   pub number : s.number ≡ number_by k s.content
 

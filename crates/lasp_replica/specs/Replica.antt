@@ -26,11 +26,12 @@ use Rattle.lasp_state.specs.declared.op.Op.TheVariants as op
 use Rattle.lasp_state.specs.State as state
 use Rattle.lasp_graph.specs.States.{held_of}
 use Rattle.lasp_graph.specs.Evaluated.{second_of}
+use Rattle.lasp_graph.specs.declared.inputs.Inputs.{Inputs}
 use Rattle.lasp_wire.specs.Sent.{kind_of}
 use Rattle.lasp_replica.specs.History.{History, Growth}
 use Rattle.lasp_replica.specs.Kept as kept
 use Rattle.lasp_replica.specs.Entries.{entry_of}
-use Rattle.lasp_replica.specs.Parts.{Base, Parts, IsKept, history_at}
+use Rattle.lasp_replica.specs.Parts.{Read, Base, Parts, IsKept, history_at}
 use Rattle.lasp_replica.specs.declared.entry.Act.{Act}
 use Rattle.lasp_replica.specs.declared.entry.Act.TheVariants as act
 use Rattle.lasp_replica.specs.declared.entry.Entry.{Entry}
@@ -43,8 +44,15 @@ use Rattle.lasp_replica.specs.declared.refused.DeliverRefused.TheVariants as del
 
 -- ---- what a replica is seen as
 
+abbrev pub read_of : Inputs → Read
+read_of inputs = record { first = held_of (arc_value inputs.first); second = held_of (second_of inputs); two = is_some inputs.second }
+
+-- a process that last read when so many entries stood, with its inputs where they are kept
+abbrev pub base_on : ℕ → Option Inputs → Base
+base_on n inputs = record { entries = n; inputs = option_map read_of inputs }
+
 abbrev pub base_of : Process → Base
-base_of p = record { entries = p.n; first = held_of (arc_value p.base.first); second = held_of (second_of p.base); two = is_some p.base.second }
+base_of p = base_on p.n p.base
 
 -- how many jobs of a process are out; 0 of a source
 abbrev pub jobs_of : Option Process → ℕ

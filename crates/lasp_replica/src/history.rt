@@ -1,7 +1,7 @@
 //! The history of one variable: what it answers, and how it goes on.
 
-ghost use Rattle.std.specs.Prelude.{◌≡◌, ◌≤◌, ◌↔◌, [], if◌then◌else◌, Bool, true, false, IfOk, OnOk, OnErr, IsTrue, length, drop};
-ghost use Rattle.lasp_replica.specs.Prelude.{AreApart, of_rows, no_history, grown, version_before, rows_before, AreBelow};
+ghost use Rattle.std.specs.Prelude.{◌≡◌, ◌≤◌, ◌↔◌, [], if◌then◌else◌, Bool, true, false, IfOk, OnOk, OnErr, IsTrue, length, take, drop};
+ghost use Rattle.lasp_replica.specs.Prelude.{AreApart, join, of_rows, no_history, grown, version_before, rows_before, AreBelow};
 
 use super::growth::Growth;
 use super::news::rows_of;
@@ -97,13 +97,20 @@ impl History {
         ensures { IfOk result (λ s. s ≡ of_rows self.now.history.log) }
     {
         self.first.ascends();
-        let mut rows = self.first.past()?;
-        if self.log.is_empty() {
-            return Ok(rows);
+        joined(alloc, &self.first, &self.log)
+    }
+
+    /// The rows that had changed the variable by the first `n` entries, as a set. It costs an insertion for each of these rows but the first growth's, which are shared, and a look at each growth since.
+    pub fn before(&self, alloc: Global, n: u64) -> Result<OrSet, AllocError>
+        ensures { IfOk result (λ s. s ≡ of_rows (take (rows_before self.now.history.growths n) self.now.history.log)) }
+    {
+        let count = self.rows_before(n);
+        if count == 0 {
+            return Ok(OrSet::new(alloc));
         }
-        let later = OrSet::of_rows(alloc, &self.log)?;
-        rows.join_in(&later)?;
-        Ok(rows)
+        self.first.ascends();
+        let behind_first = (count - self.first.rows()) as usize;
+        joined(alloc, &self.first, &self.log[..behind_first])
     }
 
     /// The rows by which the variable changed since the first `n` entries, as a set. It costs an insertion for each of these rows but the first growth's, which are shared, and a look at each growth since.
@@ -174,6 +181,16 @@ impl History {
         let _ = self.growths.push(Growth::new(entry, rows));
         self.prepared = false;
     }
+}
+
+/// A set's rows and those of a list, as a set. It costs an insertion for each row of the list.
+fn joined(alloc: Global, first: &OrSet, later: &[Entry]) -> Result<OrSet, AllocError>
+    ensures { IfOk result (λ s. s ≡ join first.now (of_rows later.now)) }
+{
+    let mut rows = first.past()?;
+    let later = OrSet::of_rows(alloc, later)?;
+    rows.join_in(&later)?;
+    Ok(rows)
 }
 
 /// Puts the rows in place if they are the first growth's.

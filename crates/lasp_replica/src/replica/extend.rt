@@ -25,7 +25,7 @@ impl Replica {
         let own = decl.try_clone()?;
         let graph = Arc::new(alloc, self.graph.with(alloc, decl)?)?;
         let state = least_state(alloc, &graph, self.graph.len(), self.counts.len() as u8)?;
-        let process = fresh_process(alloc, &decl.kind)?;
+        let process = fresh_process(&decl.kind);
         self.histories.reserve(1)?;
         self.processes.reserve(1)?;
         self.journal.reserve(1)?;

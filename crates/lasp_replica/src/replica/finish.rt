@@ -69,8 +69,8 @@ struct Ready {
     base: Inputs,
 }
 
-/// The process of a derived variable has read these inputs.
-pub(super) fn rebase(processes: &mut Vec<Option<Process>>, var: u8, n: u64, inputs: Inputs)
+/// The process of a derived variable has read these inputs, which are kept, or has read when so many entries stood.
+pub(super) fn rebase(processes: &mut Vec<Option<Process>>, var: u8, n: u64, inputs: Option<Inputs>)
     requires within { var < length processes.old.items }
     requires derived { IsSome (slice_index_or processes.old.items var None) }
     ensures bases { map seen_process processes.new.items ≡ slice_set (map seen_process processes.old.items) var (Some (base_on n inputs)) }
@@ -191,7 +191,7 @@ impl Replica {
                 what: Act::Bind(var, n),
             },
         );
-        rebase(&mut self.processes, var, n, ready.base);
+        rebase(&mut self.processes, var, n, Some(ready.base));
         self.stop(var);
     }
 

@@ -1,12 +1,12 @@
 //! What a replica keeps before anything happened.
 
 ghost use Rattle.std.specs.Prelude.{◌≡◌, ◌<◌, IfOk, length, map};
-ghost use Rattle.lasp_replica.specs.Prelude.{arc_value, decl_at, held_of, kind_of, no_history, has_two, fresh_state, fresh_base, no_set, told, jobs_of, seen_process};
+ghost use Rattle.lasp_replica.specs.Prelude.{arc_value, decl_at, held_of, kind_of, no_history, has_two, fresh_state, fresh_base, told, jobs_of, seen_process};
 ghost use Rattle.model_states.specs.Counts as plain;
 
 use crate::History;
 use crate::process::Process;
-use lasp_graph::{Graph, Inputs, Kind, States};
+use lasp_graph::{Graph, Kind, States};
 use lasp_state::State;
 use lasp_wire::Counts;
 use std::alloc::{AllocError, Global};
@@ -60,34 +60,19 @@ pub(super) fn fresh_histories(alloc: Global, graph: &Graph) -> Result<Vec<Histor
     Ok(histories)
 }
 
-/// The least set, shared.
-fn no_rows(alloc: Global) -> Result<Arc<State>, AllocError>
-    ensures { IfOk result (λ state. held_of (arc_value state) ≡ no_set) }
-{
-    Ok(Arc::new(alloc, State::empty_set(alloc))?)
-}
-
 /// A process that has read nothing yet; none of a source.
-pub(super) fn fresh_process(alloc: Global, kind: &Kind) -> Result<Option<Process>, AllocError>
-    ensures base { IfOk result (λ process. seen_process process ≡ fresh_base (kind_of kind.now)) }
-    ensures busy { IfOk result (λ process. jobs_of process ≡ 0) }
+pub(super) fn fresh_process(kind: &Kind) -> Option<Process>
+    ensures base { seen_process result ≡ fresh_base (kind_of kind.now) }
+    ensures busy { jobs_of result ≡ 0 }
 {
     if kind.is_source() {
-        return Ok(None);
+        return None;
     }
-    let second = if has_two(kind) {
-        Some(no_rows(alloc)?)
-    } else {
-        None
-    };
-    Ok(Some(Process {
+    Some(Process {
         n: 0,
-        base: Inputs {
-            first: no_rows(alloc)?,
-            second,
-        },
+        base: None,
         busy: 0,
-    }))
+    })
 }
 
 /// Whether a process reads two variables.
@@ -110,7 +95,7 @@ pub(super) fn fresh_processes(
 {
     let mut processes = Vec::new(alloc);
     for x in 0..graph.len() {
-        processes.push(fresh_process(alloc, &graph.at(x).kind)?)?;
+        processes.push(fresh_process(&graph.at(x).kind))?;
     }
     Ok(processes)
 }

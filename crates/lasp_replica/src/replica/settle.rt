@@ -43,7 +43,9 @@ impl Replica {
     {
         self.ready_in_place(var);
         let unread = self.unread_ready(var)?;
-        self.close_inputs(var, unread.rows());
+        if self.keeps_inputs(var) {
+            self.close_inputs(var, unread.rows());
+        }
         Ok(unread)
     }
 
@@ -80,7 +82,7 @@ impl Replica {
     }
 
     /// Brings a derived variable up to its inputs, of which these rows changed: it is bound to them as they are. All memory is taken before anything changes.
-    /// It costs the changed rows and the rows that they give, and shares of the inputs' logs. It calls a stored function at most once for each changed row of the first input.
+    /// It costs the changed rows and the rows that they give, and shares of the inputs' logs where the result of a job of the variable was taken in before. It calls a stored function at most once for each changed row of the first input.
     pub fn settle_var(
         &mut self,
         by: u64,
@@ -99,7 +101,7 @@ impl Replica {
         ensures ticks { counted.ticks_of lib.new ≤ counted.ticks_of lib.old + length unread.now.first }
     {
         let gained = self.rows_gained(var, unread, lib)?;
-        let base = self.inputs_read(var)?;
+        let base = self.inputs_to_keep(var)?;
         let grows = self.take_on(var, &gained)?;
         let n = self.journal.len() as u64;
         record_growth(&mut self.histories, var, grows, n);
@@ -178,8 +180,31 @@ impl Replica {
         }
     }
 
-    /// The inputs of a derived variable as they are, to be kept while they go on growing.
-    fn inputs_read(&self, var: u8) -> Result<Inputs, AllocError>
+    /// Whether the process of a derived variable keeps the inputs that it read.
+    fn keeps_inputs(&self, var: u8) -> bool
+        requires replica { IsReplica self.now }
+        requires derived { IsDerived (arc_value self.now.graph) var }
+    {
+        match &self.processes[var as usize] {
+            None => false,
+            Some(process) => process.base.is_some(),
+        }
+    }
+
+    /// The inputs of a derived variable as they are, where its process keeps them while they go on growing.
+    fn inputs_to_keep(&self, var: u8) -> Result<Option<Inputs>, AllocError>
+        requires replica { IsReplica self.now }
+        requires derived { IsDerived (arc_value self.now.graph) var }
+        ensures { IfOk result (λ kept. IfSome kept (AreInputsNow self.now var)) }
+    {
+        if self.keeps_inputs(var) {
+            return Ok(Some(self.inputs_now(var)?));
+        }
+        Ok(None)
+    }
+
+    /// The inputs of a derived variable as they are, to be kept.
+    fn inputs_now(&self, var: u8) -> Result<Inputs, AllocError>
         requires replica { IsReplica self.now }
         requires derived { IsDerived (arc_value self.now.graph) var }
         ensures { IfOk result (AreInputsNow self.now var) }

@@ -1,7 +1,7 @@
 //! Jobs: what an evaluation of a derived variable needs, without the replica.
 
 ghost use Rattle.std.specs.Prelude.{◌≡◌, ◌<◌, ◌≤◌, IfOk, OnOk, OnErr, IsTrue, IsFalse, Some, length, slice_get, drop, is_some};
-ghost use Rattle.lasp_replica.specs.Prelude.{arc_value, of_rows, is_set, is_source, kind_at, IsDerived, rows_before, kind_of, held_of, held_at, second_of, has_two, first_input, second_input, entries_of, growths_at, log_at, IsReplica, HasStarted, HasStopped, AreShared};
+ghost use Rattle.lasp_replica.specs.Prelude.{arc_value, of_rows, is_set, is_source, kind_at, IsDerived, rows_before, kind_of, held_of, held_at, second_of, has_two, first_input, second_input, entries_of, growths_at, log_at, IsReplica, HasStarted, HasStopped, AreShared, IsReadAt, IsSetAt, IsSetVar};
 ghost use Rattle.lasp_replica.specs.Jobs.{IsTaken};
 
 use super::Replica;
@@ -64,6 +64,62 @@ impl Replica {
         Ok(Inputs { first, second })
     }
 
+    /// The inputs that a process last read: shared where they are kept, else made of the rows that had changed them by then, with an insertion for each.
+    fn inputs_read(&self, var: u8, process: &Process) -> Result<Inputs, AllocError>
+        requires replica { IsReplica self.now }
+        requires var { slice_get self.now.processes.items var ≡ Some (Some process.now) }
+        ensures { IfOk result (λ i. IsReadAt self.now var process.now.n i) }
+    {
+        match &process.base {
+            Some(kept) => shared(kept),
+            None => self.inputs_before(var, process),
+        }
+    }
+
+    /// The same, where they aren't kept.
+    fn inputs_before(&self, var: u8, process: &Process) -> Result<Inputs, AllocError>
+        requires replica { IsReplica self.now }
+        requires var { slice_get self.now.processes.items var ≡ Some (Some process.now) }
+        ensures { IfOk result (λ i. IsReadAt self.now var process.now.n i) }
+    {
+        let kind = &self.graph.at(u64::from(var)).kind;
+        match kind.inputs() {
+            None => unreachable!(),
+            Some((x, y)) => self.inputs_at(kind, x, y, process.n),
+        }
+    }
+
+    /// The inputs of a process of this kind as they were after the first n entries.
+    fn inputs_at(&self, kind: &Kind, x: u8, y: u8, n: u64) -> Result<Inputs, AllocError>
+        requires replica { IsReplica self.now }
+        requires early { n ≤ length (entries_of self.now) }
+        requires first { IsSetVar self.now x }
+        requires second { IsSetVar self.now y }
+        ensures first { IfOk result (λ i. IsSetAt self.now n x (arc_value i.first)) }
+        ensures second { IfOk result (λ i. IsTrue (has_two (kind_of kind.now)) → IsSetAt self.now n y (second_of i)) }
+        ensures one { IfOk result (λ i. IsFalse (has_two (kind_of kind.now)) → IsSetAt self.now n x (second_of i)) }
+        ensures two { IfOk result (λ i. is_some i.second ≡ has_two (kind_of kind.now)) }
+    {
+        let first = self.set_at(x, n)?;
+        let second = if has_two(kind) {
+            Some(self.set_at(y, n)?)
+        } else {
+            None
+        };
+        Ok(Inputs { first, second })
+    }
+
+    /// A set as it was after the first n entries. It costs an insertion for each row that it had.
+    fn set_at(&self, x: u8, n: u64) -> Result<Arc<State>, AllocError>
+        requires replica { IsReplica self.now }
+        requires early { n ≤ length (entries_of self.now) }
+        requires set { IsSetVar self.now x }
+        ensures { IfOk result (λ s. IsSetAt self.now n x (arc_value s)) }
+    {
+        let rows = self.histories[x as usize].before(self.allocator(), n)?;
+        Ok(Arc::new(self.allocator(), State::Set(rows))?)
+    }
+
     /// A job of a derived variable.
     fn job(&self, var: u8, process: &Process) -> Result<Job, AllocError>
         requires replica { IsReplica self.now }
@@ -85,7 +141,7 @@ impl Replica {
                     self.journal.len() as u64,
                     self.inputs(kind, x, y)?,
                     Arc::try_clone(&self.graph)?,
-                    shared(&process.base)?,
+                    self.inputs_read(var, process)?,
                     Arc::try_clone(self.states.at(u64::from(var)))?,
                     first,
                     second,
@@ -94,7 +150,7 @@ impl Replica {
         }
     }
 
-    /// A job of a derived variable, which is busy once more. Its inputs are first made cheap to share and to look up in.
+    /// A job of a derived variable, which is busy once more. Its inputs are first made cheap to share and to look up in. Where the variable was settled in place and the result of no job of it was taken in yet, it costs besides an insertion for each row that its inputs had then.
     pub fn take_var(&mut self, var: u8) -> Result<Job, AllocError>
         requires replica { IsReplica self.old }
         requires derived { IsDerived (arc_value self.old.graph) var }

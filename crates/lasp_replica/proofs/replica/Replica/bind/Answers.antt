@@ -7,9 +7,8 @@ use Rattle.lasp_replica.specs.History.{AreBelow}
 use Rattle.lasp_graph.specs.States.{Held, held_of}
 use Rattle.lasp_replica.specs.declared.replica.Replica.{Replica}
 use Rattle.lasp_replica.specs.Entries.{entry_of}
-use Rattle.lasp_replica.specs.Replica.{seen_process, kept_at}
+use Rattle.lasp_replica.specs.Replica.{base_on, seen_process, kept_at}
 use Rattle.lasp_replica.specs.Update.{recorded}
-use Rattle.lasp_replica.specs.Finish.{base_on}
 use Rattle.lasp_replica.proofs.FinishLaws.{IsBound, job-derived, state-there, process-some, growths-below, bind_entry, bind-replica}
 use Rattle.lasp_replica.proofs.replica.Replica.bind.Goals as goal
 
@@ -54,8 +53,8 @@ stop-requires-clause-replica c =
       processes = c.rebase.new.processes;
       journal = c.write_down.new.journal;
     } in
-    let base : base_on c.into_parts-parts.result.n c.args.ready.base ≡ base_on c.args.job.n c.args.job.inputs = λ i. record { entries = n i; first = shared.first i; second = shared.second i; two = shared.two i } in
-    let bound : IsBound c.args.by c.args.job.var c.args.job.n (held_of (arc_value c.args.ready.state)) (base_on c.args.job.n c.args.job.inputs) c.args.ready.grows r new = record {
+    let base : base_on c.into_parts-parts.result.n (Some c.args.ready.base) ≡ base_on c.args.job.n (Some c.args.job.inputs) = λ i. record { entries = n i; inputs = Some (record { first = shared.first i; second = shared.second i; two = shared.two i }) } in
+    let bound : IsBound c.args.by c.args.job.var c.args.job.n (held_of (arc_value c.args.ready.state)) (base_on c.args.job.n (Some c.args.job.inputs)) c.args.ready.grows r new = record {
       same = record { graph = refl; opening = refl; me = refl; counts = refl };
       states = c.gather_at.ensures ∙ c.replace.ensures ∙ ap (λ (i : ℕ). slice_set r.states i (held_of (arc_value c.args.ready.state))) (c.from.ensures ∙ v);
       grew = λ more. c.record_growth.ensures ∙ (λ i. recorded (more i) (v i) ((c.len-entry.ensures ∙ r.journal.ok.0) i) r.histories.items);

@@ -36,9 +36,9 @@ returns-clause-ok c =
       histories = pushed told c.push-2.result c.push-2.new.self.items c.reserve.new.self.items old.histories.items _ no_history
           (c.push-2.ensures.succeeds histories_fit) c.push-2.ensures.items c.in_ok-reserve.ensures.items c.new-2.ensures.history;
       bases = pushed seen_process c.push-6.result c.push-6.new.self.items c.reserve-2.new.self.items old.processes.items _ (fresh_base d.kind)
-          (c.push-6.ensures.succeeds processes_fit) c.push-6.ensures.items c.in_ok-reserve-2.ensures.items c.in_ok-process.ensures.base;
+          (c.push-6.ensures.succeeds processes_fit) c.push-6.ensures.items c.in_ok-reserve-2.ensures.items c.fresh_process-process.ensures.base;
       busy = pushed jobs_of c.push-6.result c.push-6.new.self.items c.reserve-2.new.self.items old.processes.items _ 0
-          (c.push-6.ensures.succeeds processes_fit) c.push-6.ensures.items c.in_ok-reserve-2.ensures.items c.in_ok-process.ensures.busy;
+          (c.push-6.ensures.succeeds processes_fit) c.push-6.ensures.items c.in_ok-reserve-2.ensures.items c.fresh_process-process.ensures.busy;
       entries = pushed entry_of c.push-7.result c.push-7.new.self.items c.reserve-3.new.self.items old.journal.items _ (entry c.args.by (model.Extend d))
           (c.push-7.ensures.succeeds journal_fits) c.push-7.ensures.items c.in_ok-reserve-3.ensures.items (ap (λ (a : Decl). entry c.args.by (model.Extend a)) c.in_ok-own.ensures);
     })
