@@ -180,6 +180,11 @@ module _ (first log later pending : List Row) (gs : List Growth) (sound : AreSou
       let some : 0 < length gs = grind (arith, nat_tests, sym is) in
       sym (append_assoc first log pending) ∙ ap (λ (rows : List Row). (first ++ log) ++ (rows ++ pending)) (sym (alone some))
 
+  -- nothing is prepared as a set then
+  pub put-none : (is_first : Bool) → is_first ≡ (length gs == 0) → (if is_first then first else later) ≡ []
+  put-none true is = (none-first first log gs sound (grind (arith, nat_tests, sym is))).0
+  put-none false is = alone (grind (arith, nat_tests, sym is))
+
   pub put-covers : (is_first : Bool) → is_first ≡ (length gs == 0) → (n rows : ℕ) → rows ≡ length (put is_first ++ (log ++ pending)) → CoversFirst (length (put is_first)) (gs ++ growth n rows ∷ [])
   put-covers true is n rows all =
       let none : length gs ≡ 0 = grind (arith, nat_tests, sym is) in

@@ -140,7 +140,6 @@ impl History {
         let pending = rows_of(alloc, news)?;
         self.log.reserve(pending.len())?;
         self.growths.reserve(1)?;
-        self.pending_first = OrSet::new(alloc);
         self.pending = pending;
         self.prepared = true;
         Ok(())
@@ -173,9 +172,7 @@ impl History {
         ensures prepared { self.new.prepared ≡ false }
     {
         let is_first = self.growths.is_empty();
-        let alloc = *self.log.allocator();
-        let rows = mem::replace(&mut self.pending_first, OrSet::new(alloc));
-        put_first(&mut self.first, is_first, rows);
+        put_first(&mut self.first, &mut self.pending_first, is_first);
         let _ = self.log.append(&mut self.pending);
         let rows = self.first.rows() + self.log.len() as u64;
         let _ = self.growths.push(Growth::new(entry, rows));
@@ -193,11 +190,12 @@ fn joined(alloc: Global, first: &OrSet, later: &[Entry]) -> Result<OrSet, AllocE
     Ok(rows)
 }
 
-/// Puts the rows in place if they are the first growth's.
-fn put_first(first: &mut OrSet, is_first: bool, rows: OrSet)
-    ensures { first.new ≡ (if is_first then rows else first.old) }
+/// Puts the rows that are prepared in place if they are the first growth's.
+fn put_first(first: &mut OrSet, prepared: &mut OrSet, is_first: bool)
+    ensures first { first.new ≡ (if is_first then prepared.old else first.old) }
+    ensures prepared { prepared.new ≡ (if is_first then first.old else prepared.old) }
 {
     if is_first {
-        *first = rows;
+        mem::swap(first, prepared);
     }
 }
