@@ -1,7 +1,6 @@
 //! What calls must not come to.
 
-use lasp_dots::DotRefused;
-use std::alloc::{AllocError, AllocFailed};
+use std::error::Error;
 
 /// What calls came to that they must not come to.
 #[derive(Clone, Copy, Debug)]
@@ -14,20 +13,8 @@ pub enum Wrong {
     Refused,
 }
 
-impl From<AllocError> for Wrong {
-    fn from(_e: AllocError) -> Wrong {
-        Wrong::Refused
-    }
-}
-
-impl<T: Drop> From<AllocFailed<T>> for Wrong {
-    fn from(_e: AllocFailed<T>) -> Wrong {
-        Wrong::Refused
-    }
-}
-
-impl From<DotRefused> for Wrong {
-    fn from(_e: DotRefused) -> Wrong {
+impl<E: Error> From<E> for Wrong {
+    fn from(_error: E) -> Wrong {
         Wrong::Refused
     }
 }
