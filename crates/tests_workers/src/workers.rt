@@ -23,7 +23,9 @@ fn settle<R: Wait>(
         return Err(Wrong);
     }
     let more = AtomicBool::new(false);
-    let finished = work(rt, alloc, 1, &mut replicas, steps, &NoGate, &more)?;
+    let Ok(finished) = work(rt, alloc, 1, &mut replicas, steps, &NoGate, &more) else {
+        return Err(Wrong);
+    };
     let (_, core) = replicas.pop().ok_or(Wrong)?;
     Ok((core, finished))
 }
