@@ -1,7 +1,8 @@
 -- Scripts as trees of numbers.
-use Rattle.std.specs.Prelude.{◌≡◌, ℕ, ℤ, pos, List, [], ◌∷◌, if◌then◌else◌, ◌==◌, slice_index_or, refl}
+use Rattle.std.specs.Prelude.{◌≡◌, ℕ, List, [], ◌∷◌, if◌then◌else◌, ◌==◌, slice_index_or, refl}
 use Rattle.std.specs.Coded.{Coded, code_by, coded×, coded_ℕ, coded_list}
-use Rattle.model_values.specs.Value.{Val, int, text, pair, coded_val}
+use Rattle.model_values.specs.Value.{Val, int, text, coded_val}
+use Rattle.model_functions.specs.Lift.{number_of}
 use Rattle.model_graph.specs.Graph.{OrSet, Decl}
 use Rattle.model_world.specs.Command.{Until, AtLeast, Above, Count, Added, Removed, Command, Add, Remove, Insert, Inc, Max, Mark, Bind, Send, Deliver, Sync, Settle, Print, Read, Await, Declare, Script}
 use Rattle.model_graph.specs.Coded.{coded_decls}
@@ -64,12 +65,6 @@ part p i = slice_index_or p.0 i 0
 abbrev pub value_in : List Val → Val
 value_in vs = slice_index_or vs 0 (text [])
 
--- the number that a value is
-abbrev pub number_in : Val → ℤ
-number_in (int n) = n
-number_in (text t) = pos 0
-number_in (pair a b) = pos 0
-
 -- the first declaration
 abbrev pub decl_in : List Decl → Decl
 decl_in ds = slice_index_or ds 0 (record { name = []; kind = OrSet })
@@ -80,7 +75,7 @@ command_from p =
     if part p 0 == 1 then Remove (part p 1) (part p 2) (value_in p.1.0) else
     if part p 0 == 2 then Insert (part p 1) (part p 2) (value_in p.1.0) else
     if part p 0 == 3 then Inc (part p 1) (part p 2) (part p 3) else
-    if part p 0 == 4 then Max (part p 1) (part p 2) (number_in (value_in p.1.0)) else
+    if part p 0 == 4 then Max (part p 1) (part p 2) (number_of (value_in p.1.0)) else
     if part p 0 == 5 then Mark (part p 1) (part p 2) else
     if part p 0 == 6 then Bind (part p 1) (part p 2) (part p 3) else
     if part p 0 == 7 then Send (part p 1) else
