@@ -8,10 +8,10 @@ use Rattle.model_graph.proofs.PlaceLaws.{at-append, at-last}
 use Rattle.model_graph.specs.Message.{Message}
 use Rattle.model_world.specs.Command as plain
 use Rattle.model_world.specs.Lawful.{stage_after}
-use Rattle.model_world.specs.World.{Run, Post, Take, no_message, peer_at, message_at, sent_number, act}
+use Rattle.model_world.specs.World.{Run, Post, Take, no_message, peer_at, message_at, sent_number, act, effect}
 use Rattle.model_world.specs.declared.stop.Stop.{Stop}
 use Rattle.model_world.specs.Holds.{Holds}
-use Rattle.model_world.proofs.EffectLaws.{effect, act-effect}
+use Rattle.model_world.proofs.EffectLaws.{act-effect}
 use Rattle.model_runs.specs.Held.{IsSentTo}
 use Rattle.model_runs.specs.Part.{BringsAsMuch}
 use Rattle.model_wire.specs.Lawful.{IsMessage}

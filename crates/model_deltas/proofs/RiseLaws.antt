@@ -3,8 +3,7 @@ use Rattle.std.proofs.Common.{◌≡◌, ℕ, zero, suc, ◌+◌, ◌<◌, List,
 use Rattle.model_states.specs.Counts.{count_at, AreCountsAtMost}
 use Rattle.model_states.proofs.CountLaws.{count_at-larger}
 use Rattle.model_graph.proofs.PlaceLaws.{at-set, at-map-low, map-length, set-length}
-use Rattle.model_world.specs.World.{Peer, Run, Act, Update, Keep, Post, Take, Point, Show, Open, Reach, Extend, no_peer, peer_at, sent_number, updated, delivered, extended}
-use Rattle.model_world.proofs.EffectLaws.{effect}
+use Rattle.model_world.specs.World.{Peer, Run, Act, Update, Keep, Post, Take, Point, Show, Open, Reach, Extend, no_peer, peer_at, sent_number, updated, delivered, extended, effect}
 
 pub counts-itself : (cs : List ℕ) → AreCountsAtMost cs cs
 counts-itself cs q = omega arith

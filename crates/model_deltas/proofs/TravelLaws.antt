@@ -10,12 +10,11 @@ use Rattle.model_graph.specs.Message.{Message}
 use Rattle.model_world.specs.Command.{Command}
 use Rattle.model_world.specs.Command as command
 use Rattle.model_world.specs.Lawful.{Stage, opening_stage, stage_after, MayBeDone}
-use Rattle.model_world.specs.World.{fresh_peer, Run, Act, Update, Keep, Post, Take, Point, Show, Open, Reach, Extend, peer_at, start, message_at, sent_number, no_message, act, acts, each}
+use Rattle.model_world.specs.World.{fresh_peer, Run, Act, Update, Keep, Post, Take, Point, Show, Open, Reach, Extend, peer_at, start, message_at, sent_number, no_message, act, acts, each, effect}
 use Rattle.model_world.specs.declared.stop.Stop.{Stop}
-use Rattle.model_world.specs.Follow.{Followed, begin}
+use Rattle.model_world.specs.Follow.{Followed, begin, followed, afters}
 use Rattle.model_world.specs.Holds.{Holds, Carries}
-use Rattle.model_world.proofs.EffectLaws.{effect, act-effect, followed}
-use Rattle.model_world.proofs.FollowLaws.{afters}
+use Rattle.model_world.proofs.EffectLaws.{act-effect}
 use Rattle.model_world.proofs.HoldLaws.{sends-known}
 use Rattle.model_world.proofs.PlayLaws.{IsAt, stage_of, step-at}
 use Rattle.model_world.proofs.SoundLaws.{sound-begin, sound-act}

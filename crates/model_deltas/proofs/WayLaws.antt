@@ -10,11 +10,10 @@ use Rattle.model_world.specs.Command.{Command}
 use Rattle.model_world.specs.Command as command
 use Rattle.model_world.specs.Lawful.{Stage, opening_stage, stage_after, MayBeDone, AreLawful}
 use Rattle.model_world.specs.World.{Act, Update, Keep, Post, Take, Point, Show, Open, Reach, Extend, peer_at, mark_at, no_message, sent_number, takes, sync_acts, acts}
-use Rattle.model_world.specs.Follow.{Followed, delta_of, begin, follow_step, follow}
+use Rattle.model_world.specs.Follow.{Followed, delta_of, begin, follow_step, follow, followed, afters}
 use Rattle.model_world.specs.Holds.{Carries, IsPlaceOf}
 use Rattle.model_world.specs.Known.{Each, IsOfSource}
-use Rattle.model_world.proofs.EffectLaws.{followed}
-use Rattle.model_world.proofs.FollowLaws.{afters, bound, step-effect}
+use Rattle.model_world.proofs.FollowLaws.{bound, step-effect}
 use Rattle.model_world.proofs.HoldLaws.{carries-longer}
 use Rattle.model_world.proofs.KnownLaws.{first-place}
 use Rattle.model_world.proofs.PlaceLaws.{follow-more}

@@ -18,14 +18,12 @@ use Rattle.model_world.specs.Command.{Command}
 use Rattle.model_world.specs.Lawful.{Stage, opening_stage, stage_after, MayBeDone, AreLawful}
 use Rattle.model_world.specs.World.{Peer, Run, Act, Update, Post, Take, no_peer, fresh_peer, peer_at, updated, delivered, message_at, no_message, sent_number, sync_acts, acts}
 use Rattle.model_world.specs.Delta.{Delta, deltas_at, brought_to, join_all, known}
-use Rattle.model_world.specs.Follow.{Followed, delta_of, begin}
-use Rattle.model_world.proofs.EffectLaws.{followed}
+use Rattle.model_world.specs.Follow.{Followed, delta_of, begin, followed, afters}
 use Rattle.model_world.proofs.VariableLaws.{known-ordered}
 use Rattle.model_world.proofs.UpdateLaws.{known-kept, own-holds}
 use Rattle.model_world.proofs.KnownLaws.{known-larger, known-nothing}
 use Rattle.model_world.proofs.KnowsLaws.{first-empty}
 use Rattle.model_world.proofs.SoundLaws.{IsSound, sound-act}
-use Rattle.model_world.proofs.FollowLaws.{afters}
 use Rattle.model_world.proofs.RoundLaws.{AreCalm, calm-sync}
 use Rattle.model_world.proofs.PlayLaws.{IsAt, stage_of}
 use Rattle.model_dots.specs.Dots.{Dots, is_counted, no_dots, join_dots, raised, dots_of}

@@ -23,9 +23,8 @@ use Rattle.model_world.specs.Lawful.{Stage, opening_stage, stage_after, MayBeDon
 use Rattle.model_world.specs.World.{Peer, Run, Act, Update, Post, Take, Extend, no_peer, fresh_peer, peer_at, updated, delivered, extended, message_at, no_message, sent_number, sync_acts, acts}
 use Rattle.model_world.specs.Delta.{Delta, deltas_at, brought_to, join_all, known}
 use Rattle.model_world.specs.Owner.{no_delta, delta_at}
-use Rattle.model_world.specs.Follow.{Followed, delta_of, begin}
+use Rattle.model_world.specs.Follow.{Followed, delta_of, begin, followed, afters}
 use Rattle.model_world.specs.Holds.{AreMade}
-use Rattle.model_world.proofs.EffectLaws.{followed}
 use Rattle.model_world.proofs.VariableLaws.{known-append, known-later}
 use Rattle.model_world.proofs.UpdateLaws.{known-kept, own-holds}
 use Rattle.model_world.proofs.HoldLaws.{each-var}
@@ -33,7 +32,6 @@ use Rattle.model_world.proofs.TokenLaws.{known-owned}
 use Rattle.model_world.proofs.KnownLaws.{known-above, known-larger, known-nothing}
 use Rattle.model_world.proofs.KnowsLaws.{first-empty}
 use Rattle.model_world.proofs.SoundLaws.{IsSound, sound-act}
-use Rattle.model_world.proofs.FollowLaws.{afters}
 use Rattle.model_world.proofs.RoundLaws.{AreCalm, calm-sync}
 use Rattle.model_world.proofs.PlayLaws.{IsAt, stage_of}
 use Rattle.model_dots.specs.Dots.{is_counted, IsGiven, raised, AreGiven, HasWhatIsCounted}

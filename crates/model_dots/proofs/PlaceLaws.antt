@@ -8,10 +8,8 @@ use Rattle.model_world.specs.Command.{Command}
 use Rattle.model_world.specs.Line.{shown_content}
 use Rattle.model_world.specs.World.{Peer, Act, Update, Keep, Post, Take, Point, Show, Open, Reach, Extend, peer_at, delivered, sent_number, mark_at, acts, shown_at}
 use Rattle.model_world.specs.Delta.{deltas_at, known, known_contents}
-use Rattle.model_world.specs.Follow.{Followed, delta_of, begin}
+use Rattle.model_world.specs.Follow.{Followed, delta_of, begin, followed, afters}
 use Rattle.model_world.specs.Holds.{AreMade, Holds, Carries, Keeps}
-use Rattle.model_world.proofs.EffectLaws.{followed}
-use Rattle.model_world.proofs.FollowLaws.{afters}
 use Rattle.model_world.proofs.PlaceLaws.{IsLater, holds-contents, late-nothing}
 use Rattle.model_world.proofs.UpdateLaws.{made-more, known-kept}
 use Rattle.model_world.proofs.VariableLaws.{known-append}

@@ -16,9 +16,8 @@ use Rattle.model_world.specs.Line.{line, known_line, print_line}
 use Rattle.model_world.specs.Report.{known_lines, read_lines, report_of}
 use Rattle.model_world.specs.World.{Peer, Run, Opened, peer_at, shown_content_at, sync_acts, acts, ended}
 use Rattle.model_world.specs.Delta.{known}
-use Rattle.model_world.specs.Follow.{Followed, begin}
+use Rattle.model_world.specs.Follow.{Followed, begin, afters}
 use Rattle.model_world.proofs.SoundLaws.{IsSound}
-use Rattle.model_world.proofs.FollowLaws.{afters}
 use Rattle.model_world.proofs.RoundLaws.{calm-sync}
 use Rattle.model_world.proofs.PlayLaws.{IsAt, stage_of}
 use Rattle.model_dots.specs.Dots.{Dots}

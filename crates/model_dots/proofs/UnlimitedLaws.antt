@@ -6,31 +6,19 @@ use Rattle.model_graph.specs.Graph.{Decl}
 use Rattle.model_graph.specs.Evaluation.{rows_at}
 use Rattle.model_world.specs.Command.{Command, Script}
 use Rattle.model_world.specs.Lawful.{Stage, opening_stage, stage_after, MayBeDone, AreLawful}
-use Rattle.model_world.specs.World.{Run, Act, Update, Keep, Post, Take, Point, Show, Open, Reach, Extend, start, peer_at, acts, act, ended}
+use Rattle.model_world.specs.World.{Run, Act, Point, start, peer_at, acts, act, ended}
 use Rattle.model_world.proofs.StopLaws.{point-same}
-use Rattle.model_world.specs.Follow.{Followed, with_run, follow_step, follow, begin}
+use Rattle.model_world.specs.Follow.{Followed, follow_step, follow, begin, followed, afters}
 use Rattle.model_world.specs.Holds.{IsPlaceOf}
-use Rattle.model_world.proofs.EffectLaws.{effect, followed}
 use Rattle.model_world.proofs.VariableLaws.{known-ordered}
 use Rattle.model_world.proofs.SoundLaws.{IsSound, sound-begin}
-use Rattle.model_world.proofs.FollowLaws.{afters, bound, step-effect, follow-play}
+use Rattle.model_world.proofs.FollowLaws.{bound, step-effect, follow-play}
 use Rattle.model_world.proofs.PlayLaws.{IsAt, step-at, stage_after_all}
-use Rattle.model_dots.specs.Unlimited.{after_act, after_acts, unlimited, IsUnlimited, place_after_acts, unlimited_place, IsUnlimitedPlaceOf}
-
-effect-is : (run : Run) (a : Act) → effect run a ≡ after_act run a
-effect-is run (Update p x op) = refl
-effect-is run (Keep p x) = refl
-effect-is run (Post p) = refl
-effect-is run (Take p i) = refl
-effect-is run Point = refl
-effect-is run (Show p x) = refl
-effect-is run (Open p x until) = refl
-effect-is run (Reach p x until) = refl
-effect-is run (Extend d) = refl
+use Rattle.model_dots.specs.Unlimited.{after_acts, unlimited, IsUnlimited, unlimited_place, IsUnlimitedPlaceOf}
 
 afters-run : (f : Followed) (many : List Act) → (afters f many).run ≡ after_acts f.run many
 afters-run f [] = refl
-afters-run f (a ∷ rest) = afters-run (followed f a) rest ∙ ap (λ (run : Run). after_acts run rest) (effect-is f.run a)
+afters-run f (a ∷ rest) = afters-run (followed f a) rest
 
 -- ---- such a run with what its updates brought
 
@@ -43,14 +31,10 @@ unfolding unlimited
 all-run f [] = refl
 all-run f (k ∷ rest) = all-run (afters f (acts f.run k)) rest ∙ ap (λ (run : Run). unlimited run rest) (afters-run f (acts f.run k))
 
-afters-place : (f : Followed) (many : List Act) → afters f many ≡ place_after_acts f many
-afters-place f [] = refl
-afters-place f (a ∷ rest) = afters-place (followed f a) rest ∙ ap (λ (run : Run). place_after_acts (with_run f a run) rest) (effect-is f.run a)
-
 pub all-place : (f : Followed) (commands : List Command) → followed_all f commands ≡ unlimited_place f commands
 unfolding unlimited_place
 all-place f [] = refl
-all-place f (k ∷ rest) = all-place (afters f (acts f.run k)) rest ∙ ap (λ (next : Followed). unlimited_place next rest) (afters-place f (acts f.run k))
+all-place f (k ∷ rest) = all-place (afters f (acts f.run k)) rest
 
 pub place-run : (g : List Decl) (nodes : ℕ) (commands : List Command) (f : Followed) → IsUnlimitedPlaceOf g nodes commands f → IsUnlimited g nodes commands f.run
 place-run g nodes commands f place = record {

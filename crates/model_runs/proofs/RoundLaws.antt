@@ -5,8 +5,7 @@ use Rattle.std.proofs.lemmas.List.FromFn.{length-range_with_len}
 use Rattle.model_graph.proofs.PlaceLaws.{length-push}
 use Rattle.model_world.specs.World as world
 use Rattle.model_world.specs.World.{Peer, Run, fresh_peer, no_peer, peer_at, mark_at, message_at, takes, sync_acts, acts, act, each, step, start}
-use Rattle.model_world.specs.Follow.{Followed}
-use Rattle.model_world.proofs.EffectLaws.{followed}
+use Rattle.model_world.specs.Follow.{Followed, followed}
 use Rattle.model_runs.proofs.StepLaws.{FitsLawfully, updates}
 
 abbrev pub AllFit : ℕ → Followed → List world.Act → Type 0

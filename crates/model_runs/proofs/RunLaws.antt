@@ -13,10 +13,10 @@ use Rattle.model_world.specs.Lawful.{Stage, opening_stage, stage_after, MayBeDon
 use Rattle.model_world.specs.World as world
 use Rattle.model_world.specs.World.{Peer, Run, fresh_peer, no_peer, peer_at, mark_at, message_at, takes, sync_acts, acts, act, each, step, start}
 use Rattle.model_world.specs.declared.stop.Stop.{Stop}
-use Rattle.model_world.specs.Follow.{Followed, with_run, follow_act, follow_each, follow_step, follow, begin}
+use Rattle.model_world.specs.Follow.{Followed, with_run, follow_act, follow_each, follow_step, follow, begin, followed}
 use Rattle.model_world.specs.Holds.{IsPlaceOf}
 use Rattle.model_world.specs.Owner.{AreOwned}
-use Rattle.model_world.proofs.EffectLaws.{followed, follow-effect}
+use Rattle.model_world.proofs.EffectLaws.{follow-effect}
 use Rattle.model_world.proofs.KnowsLaws.{no-deltas}
 use Rattle.model_world.proofs.SoundLaws.{sound-begin}
 use Rattle.model_world.proofs.FollowLaws.{bound, each-run}

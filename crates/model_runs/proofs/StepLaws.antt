@@ -12,9 +12,8 @@ use Rattle.model_graph.proofs.MessageLaws.{among-append}
 use Rattle.model_world.specs.World as world
 use Rattle.model_world.specs.World.{Peer, Run, peer_at, updated, delivered, extended, message_at, no_message, sent_number, no_mark, mark_at, no_peer, act}
 use Rattle.model_world.specs.Delta.{Delta, deltas_at}
-use Rattle.model_world.specs.Follow.{Followed, delta_of}
+use Rattle.model_world.specs.Follow.{Followed, delta_of, followed}
 use Rattle.model_world.specs.Owner.{AreOwned}
-use Rattle.model_world.proofs.EffectLaws.{followed}
 use Rattle.model_world.proofs.VariableLaws.{kind-append}
 use Rattle.model_world.proofs.SoundLaws.{IsSound, Fits, sound-act}
 use Rattle.model_journal.specs.Entry.{Update, Deliver, Extend, Entry, Frame}

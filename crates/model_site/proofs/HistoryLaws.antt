@@ -11,10 +11,9 @@ use Rattle.model_graph.specs.Graph.{Decl, OrSet, GSet, Counter, MaxReg, is_sourc
 use Rattle.model_graph.proofs.PlaceLaws.{at-set, set-length, at-replicate, length-replicate, map-length, at-map-low}
 use Rattle.model_graph.specs.Message.{Message}
 use Rattle.model_world.specs.Delta.{Delta, deltas_at, first_deltas, brought_to, join_all, known_contents}
-use Rattle.model_world.specs.Follow.{Followed, begin, delta_of}
+use Rattle.model_world.specs.Follow.{Followed, begin, delta_of, followed}
 use Rattle.model_world.specs.Holds.{Holds, Carries}
 use Rattle.model_world.specs.Owner.{delta_at}
-use Rattle.model_world.proofs.EffectLaws.{followed}
 use Rattle.model_world.proofs.HoldLaws.{sends-known, takes-known}
 use Rattle.model_world.proofs.KnownLaws.{known-above}
 use Rattle.model_world.specs.Known.{Each, IsOfSource}

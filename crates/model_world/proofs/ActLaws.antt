@@ -5,10 +5,10 @@ use Rattle.model_states.specs.Content.{Content, join_contents}
 use Rattle.model_states.specs.Update.{Op, delta}
 use Rattle.model_graph.specs.Graph.{is_source, kind_at}
 use Rattle.model_graph.specs.Evaluation.{content_at}
-use Rattle.model_world.specs.World.{Peer, Run, Act, Update, Keep, Post, Take, Point, Show, Open, Reach, Extend, peer_at, updated, act}
+use Rattle.model_world.specs.World.{Peer, Run, Act, Update, Keep, Post, Take, Point, Show, Open, Reach, Extend, peer_at, updated, act, effect}
 use Rattle.model_world.specs.Delta.{Delta, deltas_at}
 use Rattle.model_world.specs.Known.{IsKnown}
-use Rattle.model_world.proofs.EffectLaws.{effect, act-effect}
+use Rattle.model_world.proofs.EffectLaws.{act-effect}
 use Rattle.model_world.proofs.KnowsLaws.{known-update, known-post, known-take, known-extend}
 
 abbrev known-run : ℕ → Run → List (List Delta) → Type 0

@@ -19,13 +19,12 @@ use Rattle.model_world.specs.World.{Run, Act, Post, Take, Point, peer_at, shown_
 use Rattle.model_world.specs.declared.stop.Stop.{Stop}
 use Rattle.model_world.proofs.StopLaws.{point-same}
 use Rattle.model_world.specs.Direct.{shown_directly, direct_line, known_at, direct_print, after_step, direct_text, direct_report}
-use Rattle.model_world.specs.Follow.{Followed, follow_step, follow, begin}
+use Rattle.model_world.specs.Follow.{Followed, follow_step, follow, begin, followed, afters}
 use Rattle.model_world.specs.Owner.{AreOwned, is_dead_in}
-use Rattle.model_world.proofs.EffectLaws.{followed}
 use Rattle.model_world.proofs.VariableLaws.{known-ordered}
 use Rattle.model_world.proofs.TokenLaws.{known-owned, marked-sources}
 use Rattle.model_world.proofs.SoundLaws.{IsSound, sound-begin}
-use Rattle.model_world.proofs.FollowLaws.{afters, bound, step-effect, follow-play}
+use Rattle.model_world.proofs.FollowLaws.{bound, step-effect, follow-play}
 use Rattle.model_world.proofs.RoundLaws.{AreCalm, calm-sync}
 use Rattle.model_world.proofs.PlayLaws.{IsAt, stage_of, step-sound}
 use Rattle.model_world.proofs.PlaceLaws.{holds-contents}

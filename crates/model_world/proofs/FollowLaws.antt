@@ -5,8 +5,8 @@ use Rattle.model_world.specs.Command.{Command}
 use Rattle.model_world.specs.World.{Run, Act, Point, acts, act, each, play}
 use Rattle.model_world.specs.declared.stop.Stop.{Stop}
 use Rattle.model_world.proofs.StopLaws.{shifted}
-use Rattle.model_world.specs.Follow.{Followed, with_run, follow_act, follow_each, follow_step, follow}
-use Rattle.model_world.proofs.EffectLaws.{followed, follow-effect}
+use Rattle.model_world.specs.Follow.{Followed, with_run, follow_act, follow_each, follow_step, follow, afters}
+use Rattle.model_world.proofs.EffectLaws.{follow-effect}
 
 -- ---- the followed run is the run
 
@@ -41,10 +41,6 @@ follow-play c f (k ∷ rest) =
     ∙ each-run c f (acts f.run k) (λ next. play (c + 1) next rest)
 
 -- ---- acts one after the other
-
-abbrev pub afters : Followed → List Act → Followed
-afters f [] = f
-afters f (a ∷ rest) = afters (followed f a) rest
 
 pub bound : {A B : Type 0} (r : Result A Stop) (f : A → Result B Stop) (y : B) → (r >>= f) ≡ Ok y → (x : A) × (r ≡ Ok x) × (f x ≡ Ok y)
 bound (Ok x) f y e = (x, refl, e)

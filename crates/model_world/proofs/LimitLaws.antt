@@ -5,9 +5,9 @@ use Rattle.model_graph.proofs.PlaceLaws.{map-length, length-push, set-length, le
 use Rattle.model_world.specs.Command as command
 use Rattle.model_world.specs.Command.{Command, Script}
 use Rattle.model_world.specs.Lawful.{node_limit, mark_limit, read_limit, is_mark, is_read, IsWithinLimits}
-use Rattle.model_world.specs.World.{Run, Act, Update, Keep, Post, Take, Point, Show, Open, Reach, Extend, acts, act, each, step, start, fresh_peer, peer_at, updated, delivered, extended, sent_number, sync_acts}
+use Rattle.model_world.specs.World.{Run, Act, Update, Keep, Post, Take, Point, Show, Open, Reach, Extend, acts, act, each, step, start, fresh_peer, peer_at, updated, delivered, extended, sent_number, sync_acts, effect}
 use Rattle.model_world.specs.Stops.{IsAfter, none, more}
-use Rattle.model_world.proofs.EffectLaws.{effect, act-effect}
+use Rattle.model_world.proofs.EffectLaws.{act-effect}
 use Rattle.model_world.proofs.FollowLaws.{bound}
 use Rattle.model_world.proofs.RoundLaws.{AreCalm, calm-sync}
 

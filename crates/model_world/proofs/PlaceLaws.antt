@@ -12,14 +12,13 @@ use Rattle.model_graph.specs.Message.{Message}
 use Rattle.model_world.specs.Command.{Command}
 use Rattle.model_world.specs.World.{Peer, Act, Update, Keep, Post, Take, Point, Show, Open, Reach, Extend, peer_at, sent_number, delivered, acts}
 use Rattle.model_world.specs.Delta.{Delta, known, known_contents}
-use Rattle.model_world.specs.Follow.{Followed, delta_of, follow_step, follow, begin}
+use Rattle.model_world.specs.Follow.{Followed, delta_of, follow_step, follow, begin, followed, afters}
 use Rattle.model_world.specs.Holds.{AreMade, Holds, IsPlaceOf}
-use Rattle.model_world.proofs.EffectLaws.{followed}
 use Rattle.model_world.proofs.UpdateLaws.{made-more, known-kept}
 use Rattle.model_world.proofs.VariableLaws.{known-append}
 use Rattle.model_world.proofs.HoldLaws.{takes-known}
 use Rattle.model_world.proofs.SoundLaws.{IsSound}
-use Rattle.model_world.proofs.FollowLaws.{afters, bound, step-effect}
+use Rattle.model_world.proofs.FollowLaws.{bound, step-effect}
 use Rattle.model_world.proofs.PlayLaws.{place-sound}
 
 -- ---- what a replica holds, as a list

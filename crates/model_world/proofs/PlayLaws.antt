@@ -9,13 +9,12 @@ use Rattle.model_world.specs.Command as command
 use Rattle.model_world.specs.Command.{Command}
 use Rattle.model_world.specs.Lawful.{Stage, opening_stage, stage_after, MayBeDone, AreLawful}
 use Rattle.model_world.specs.World.{Act, Update, Keep, Post, Take, Point, Show, Open, Reach, Extend, peer_at, mark_at, message_at, sync_acts, acts}
-use Rattle.model_world.specs.Follow.{Followed, follow_step, follow, begin}
+use Rattle.model_world.specs.Follow.{Followed, follow_step, follow, begin, followed, afters}
 use Rattle.model_world.specs.Holds.{IsPlaceOf}
 use Rattle.model_world.specs.Owner.{AreOwned}
-use Rattle.model_world.proofs.EffectLaws.{followed}
 use Rattle.model_world.proofs.TokenLaws.{known-owned}
 use Rattle.model_world.proofs.SoundLaws.{IsSound, sound-begin, sound-act}
-use Rattle.model_world.proofs.FollowLaws.{afters, bound, step-effect}
+use Rattle.model_world.proofs.FollowLaws.{bound, step-effect}
 use Rattle.model_world.proofs.RoundLaws.{AreCalm, calm-sync, posts, posts-sync}
 
 -- what stands at a place by the commands alone

@@ -9,12 +9,11 @@ use Rattle.model_graph.proofs.PlaceLaws.{below-or-not, at-append, at-last, lengt
 use Rattle.model_graph.specs.Message.{Message}
 use Rattle.model_world.specs.World.{Peer, Marked, Act, Update, Keep, Post, Take, Point, Show, Open, Reach, Extend, fresh_peer, peer_at, updated, delivered, extended, message_at, sent_number, no_mark, mark_at}
 use Rattle.model_world.specs.Delta.{Delta, deltas_at}
-use Rattle.model_world.specs.Follow.{Followed, delta_of, begin}
+use Rattle.model_world.specs.Follow.{Followed, delta_of, begin, followed}
 use Rattle.model_world.specs.Holds.{Holds, Carries, Keeps}
 use Rattle.model_world.specs.Owner.{AreOwned}
 use Rattle.model_world.specs.Known.{Each, IsOfSource, IsKnown}
 use Rattle.model_world.proofs.MeasureLaws.{each-push, each-weaker}
-use Rattle.model_world.proofs.EffectLaws.{followed}
 use Rattle.model_world.proofs.UpdateLaws.{keeps-kept}
 use Rattle.model_world.proofs.HoldLaws.{keeps-longer}
 use Rattle.model_world.proofs.KnowsLaws.{each-empty, known-begin, known-update, known-post, known-take, known-extend}

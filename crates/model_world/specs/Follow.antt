@@ -7,7 +7,7 @@ use Rattle.model_graph.specs.Chain.{◌>>=◌}
 use Rattle.model_graph.specs.Graph.{Decl}
 use Rattle.model_graph.specs.Evaluation.{content_at}
 use Rattle.model_world.specs.Command.{Command}
-use Rattle.model_world.specs.World.{Peer, Run, Act, Update, Keep, Point, peer_at, start, act, acts}
+use Rattle.model_world.specs.World.{Peer, Run, Act, Update, Keep, Point, peer_at, start, effect, act, acts}
 use Rattle.model_world.specs.declared.stop.Stop.{Stop}
 use Rattle.model_world.specs.Delta.{Delta, deltas_at}
 
@@ -39,6 +39,14 @@ marked_after marked _ = marked
 -- what an act leads to, the run being what it is after the act
 abbrev pub with_run : Followed → Act → Run → Followed
 with_run f a next = record { run = next; deltas = deltas_after f.run f.deltas a; marked = marked_after f.marked a }
+
+-- an act that can be done leads to this, and acts one after the other to that
+abbrev pub followed : Followed → Act → Followed
+followed f a = with_run f a (effect f.run a)
+
+abbrev pub afters : Followed → List Act → Followed
+afters f [] = f
+afters f (a ∷ rest) = afters (followed f a) rest
 
 abbrev pub follow_act : ℕ → Followed → Act → Result Followed Stop
 follow_act c f a = act c f.run a >>= (λ next. Ok (with_run f a next))

@@ -200,6 +200,18 @@ with_decl run d = record { graph = run.graph ++ d ∷ []; peers = map (extended 
 abbrev pub shown_content_at : Run → ℕ → ℕ → Content
 shown_content_at run p x = content_at (shown_at run.graph (peer_at run.peers p)) x
 
+-- the run after an act that can be done
+abbrev pub effect : Run → Act → Run
+effect run (Update p x op) = with_peer run p (updated p x op (peer_at run.peers p))
+effect run (Keep p x) = with_mark run (record { shape = shape_of (length run.peers) (kind_at run.graph x); content = content_at (peer_at run.peers p).contents x })
+effect run (Post p) = record { graph = run.graph; peers = run.peers; sent = run.sent ++ message_at run.graph (peer_at run.peers p) ∷ []; marks = run.marks; reads = run.reads; text = run.text }
+effect run (Take p i) = with_peer run p (delivered run.graph (sent_number run.sent i) (peer_at run.peers p))
+effect run Point = run
+effect run (Show p x) = with_text run (print_line run.graph p x (shown_content_at run p x))
+effect run (Open p x until) = with_read run (record { node = p; var = x; threshold = threshold_of run.marks until })
+effect run (Reach p x until) = run
+effect run (Extend d) = with_decl run d
+
 -- one act of command number c
 abbrev pub act : ℕ → Run → Act → Result Run Stop
 act c run (Update p x op) = checked_update c p x run (updated p x op (peer_at run.peers p))
