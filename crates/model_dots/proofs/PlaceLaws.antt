@@ -3,16 +3,13 @@ use Rattle.std.proofs.Common.{◌≡◌, ℕ, ◌<◌, List, [], ◌∷◌, ◌+
 use Rattle.model_states.specs.Counts.{count_at, AreCountsAtMost}
 use Rattle.model_graph.specs.Graph.{Decl, kind_at}
 use Rattle.model_graph.specs.Evaluation.{content_at, eval}
-use Rattle.model_graph.proofs.PlaceLaws.{length-push}
 use Rattle.model_world.specs.Command.{Command}
 use Rattle.model_world.specs.Line.{shown_content}
-use Rattle.model_world.specs.World.{Peer, Act, Update, Keep, Post, Take, Point, Show, Open, Reach, Extend, peer_at, delivered, sent_number, mark_at, acts, shown_at}
-use Rattle.model_world.specs.Delta.{deltas_at, known, known_contents}
-use Rattle.model_world.specs.Follow.{Followed, delta_of, begin, followed, afters}
-use Rattle.model_world.specs.Holds.{AreMade, Holds, Carries, Keeps}
-use Rattle.model_world.proofs.PlaceLaws.{IsLater, holds-contents, late-nothing}
-use Rattle.model_world.proofs.UpdateLaws.{made-more, known-kept}
-use Rattle.model_world.proofs.VariableLaws.{known-append}
+use Rattle.model_world.specs.World.{Peer, peer_at, delivered, sent_number, mark_at, acts, shown_at}
+use Rattle.model_world.specs.Delta.{deltas_at, known_contents}
+use Rattle.model_world.specs.Follow.{Followed, begin, afters}
+use Rattle.model_world.specs.Holds.{Holds, Carries, Keeps}
+use Rattle.model_world.proofs.PlaceLaws.{holds-contents, late-nothing, IsLater, later-itself, later-chain, later-afters}
 use Rattle.model_dots.specs.Unlimited.{IsUnlimitedPlaceOf}
 use Rattle.model_dots.proofs.UnlimitedLaws.{followed_all, all-place, place-sound}
 
@@ -40,50 +37,10 @@ mark-keeps g nodes commands f place m made = (place-sound g nodes commands f pla
 
 -- ---- later places
 
-later-chain : (nodes : ℕ) (f g h : Followed) → IsLater nodes f g → IsLater nodes g h → IsLater nodes f h
-later-chain nodes f g h a b = record {
-  longer = omega (arith, a.longer, b.longer);
-  made = λ cs m. b.made cs (a.made cs m);
-  knows = λ cs m x low. b.knows cs (a.made cs m) x (omega (arith, low, a.longer)) ∙ a.knows cs m x low;
-}
-
--- where no update is made and nothing is declared, the same is known
-later-alike : (nodes : ℕ) (f next : Followed) → next.run.graph ≡ f.run.graph → next.deltas ≡ f.deltas → IsLater nodes f next
-later-alike nodes f next graph deltas = record {
-  longer = omega (arith, ap (λ (c : List Decl). length c) graph);
-  made = λ cs h. subst (λ all. AreMade all cs) (sym deltas) h;
-  knows = λ cs h x low. λ i. known (graph i) nodes (deltas i) cs x;
-}
-
-later-act : (nodes : ℕ) (f : Followed) (a : Act) → IsLater nodes f (followed f a)
-later-act nodes f (Update p x op) =
-    let d = delta_of (peer_at f.run.peers p) p x op in
-    record {
-      longer = omega arith;
-      made = λ cs h q. made-more f.run.graph nodes f.deltas p d q (count_at cs q) (h q);
-      knows = λ cs h y low. known-kept f.run.graph nodes f.deltas p d cs h y;
-    }
-later-act nodes f (Extend d) = record {
-  longer = omega (arith, length-push f.run.graph d);
-  made = λ cs h. h;
-  knows = λ cs h x low. known-append f.run.graph d nodes f.deltas cs x low;
-}
-later-act nodes f (Keep p x) = later-alike nodes f (followed f (Keep p x)) refl refl
-later-act nodes f (Post p) = later-alike nodes f (followed f (Post p)) refl refl
-later-act nodes f (Take p i) = later-alike nodes f (followed f (Take p i)) refl refl
-later-act nodes f Point = later-alike nodes f (followed f Point) refl refl
-later-act nodes f (Show p x) = later-alike nodes f (followed f (Show p x)) refl refl
-later-act nodes f (Open p x until) = later-alike nodes f (followed f (Open p x until)) refl refl
-later-act nodes f (Reach p x until) = later-alike nodes f (followed f (Reach p x until)) refl refl
-
-later-acts : (nodes : ℕ) (f : Followed) (many : List Act) → IsLater nodes f (afters f many)
-later-acts nodes f [] = later-alike nodes f f refl refl
-later-acts nodes f (a ∷ rest) = later-chain nodes f (followed f a) (afters (followed f a) rest) (later-act nodes f a) (later-acts nodes (followed f a) rest)
-
 later-all : (nodes : ℕ) (f : Followed) (commands : List Command) → IsLater nodes f (followed_all f commands)
-later-all nodes f [] = later-alike nodes f f refl refl
+later-all nodes f [] = later-itself nodes f
 later-all nodes f (k ∷ rest) =
-    later-chain nodes f (afters f (acts f.run k)) (followed_all (afters f (acts f.run k)) rest) (later-acts nodes f (acts f.run k)) (later-all nodes (afters f (acts f.run k)) rest)
+    later-chain nodes f (afters f (acts f.run k)) (followed_all (afters f (acts f.run k)) rest) (later-afters nodes f (acts f.run k)) (later-all nodes (afters f (acts f.run k)) rest)
 
 all-append : (f : Followed) (commands more : List Command) → followed_all f (commands ++ more) ≡ followed_all (followed_all f commands) more
 all-append f [] more = refl

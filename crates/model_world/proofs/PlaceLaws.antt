@@ -70,10 +70,10 @@ pub record IsLater (nodes : ℕ) (f next : Followed) : Type 0 where
   pub made : (cs : List ℕ) → AreMade f.deltas cs → AreMade next.deltas cs
   pub knows : (cs : List ℕ) → AreMade f.deltas cs → (x : ℕ) → x < length f.run.graph → known next.run.graph nodes next.deltas cs x ≡ known f.run.graph nodes f.deltas cs x
 
-later-itself : (nodes : ℕ) (f : Followed) → IsLater nodes f f
+pub later-itself : (nodes : ℕ) (f : Followed) → IsLater nodes f f
 later-itself nodes f = record { longer = omega arith; made = λ cs h. h; knows = λ cs h x low. refl }
 
-later-chain : (nodes : ℕ) (f g h : Followed) → IsLater nodes f g → IsLater nodes g h → IsLater nodes f h
+pub later-chain : (nodes : ℕ) (f g h : Followed) → IsLater nodes f g → IsLater nodes g h → IsLater nodes f h
 later-chain nodes f g h a b = record {
   longer = omega (arith, a.longer, b.longer);
   made = λ cs m. b.made cs (a.made cs m);
@@ -101,7 +101,7 @@ later-act nodes f (Show p x) = record { longer = omega arith; made = λ cs h. h;
 later-act nodes f (Open p x until) = record { longer = omega arith; made = λ cs h. h; knows = λ cs h x low. refl }
 later-act nodes f (Reach p x until) = record { longer = omega arith; made = λ cs h. h; knows = λ cs h x low. refl }
 
-later-afters : (nodes : ℕ) (f : Followed) (many : List Act) → IsLater nodes f (afters f many)
+pub later-afters : (nodes : ℕ) (f : Followed) (many : List Act) → IsLater nodes f (afters f many)
 later-afters nodes f [] = later-itself nodes f
 later-afters nodes f (a ∷ rest) = later-chain nodes f (followed f a) (afters (followed f a) rest) (later-act nodes f a) (later-afters nodes (followed f a) rest)
 
