@@ -10,6 +10,7 @@ use Rattle.model_states.specs.Threshold.{fold}
 use Rattle.model_graph.specs.Graph.{Decl, Kind, OrSet, GSet, Counter, MaxReg, Union, Product, Intersection, Map, Filter, Fold, is_source, kind_at}
 use Rattle.model_graph.specs.Evaluation.{content_at, equation}
 use Rattle.model_graph.specs.Lawful as lawful
+use Rattle.model_graph.proofs.LeastLaws.{no-fold}
 use Rattle.model_readings.specs.Lawful.{FitsAll}
 use Rattle.model_journal.specs.Entry.{Entry, Frame}
 use Rattle.model_journal.specs.Journal.{graph, val, vals}
@@ -106,18 +107,6 @@ source-number (Intersection x y) c source = refl
 source-number (Map x place ops) c source = refl
 source-number (Filter x place ops) c source = refl
 source-number (Fold x op place lift) c source = cc
-
-no-fold : (nodes : ℕ) (k : Kind) → is_source k ≡ true → lawful.shape_of nodes k ≡ fold → ⊥
-no-fold nodes OrSet source e = cc
-no-fold nodes GSet source e = cc
-no-fold nodes Counter source e = cc
-no-fold nodes MaxReg source e = cc
-no-fold nodes (Union x y) source e = cc
-no-fold nodes (Product x y) source e = cc
-no-fold nodes (Intersection x y) source e = cc
-no-fold nodes (Map x place ops) source e = cc
-no-fold nodes (Filter x place ops) source e = cc
-no-fold nodes (Fold x op place lift) source e = cc
 
 -- what is no fold has no number
 no-number : (s : State) → (shape_of s ≡ fold → ⊥) → number_of s ≡ pos 0

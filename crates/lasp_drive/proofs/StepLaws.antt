@@ -9,18 +9,19 @@ use Rattle.model_readings.specs.Lawful.{FitsAll}
 use Rattle.model_states.specs.Content.{Content, size_of, row_limit, is_content_at_most}
 use Rattle.model_states.specs.Threshold.{Shape, Threshold, fold, suits, meets}
 use Rattle.model_states.specs.Update.{Op, Join}
-use Rattle.model_graph.specs.Graph.{Decl, Kind, OrSet, GSet, Counter, MaxReg, Union, Product, Intersection, Map, Filter, Fold, is_source, kind_at, name_at, no_decl}
+use Rattle.model_graph.specs.Graph.{Decl, is_source, kind_at, name_at, no_decl}
 use Rattle.model_graph.specs.Lawful.{shape_of}
 use Rattle.model_graph.specs.Chain.{◌>>=◌}
 use Rattle.model_graph.specs.Evaluation.{content_at, first_large}
 use Rattle.model_graph.specs.Message.{Message}
+use Rattle.model_graph.proofs.LeastLaws.{no-fold}
 use Rattle.model_world.specs.Command.{Until}
 use Rattle.model_world.specs.Command as plain
 use Rattle.model_world.specs.Lawful.{Stage, opening_stage, IsPlace, MayAsk, MayBeDone}
 use Rattle.std.specs.Fmt.{decimal}
 use Rattle.model_world.specs.Line.{line, shown_content}
 use Rattle.model_world.specs.World as world
-use Rattle.model_world.specs.World.{Peer, Run, Marked, Opened, peer_at, mark_at, fresh_peer, start, network_limit, Update, Keep, Post, Take, Point, Show, Open, Reach, Extend, Act, act, each, with_peer, checked_update, updated, delivered, extended, sent_number, message_at, shown_at, shown_content_at, with_mark, with_read, with_decl, point_from}
+use Rattle.model_world.specs.World.{Peer, Run, Marked, Opened, peer_at, mark_at, fresh_peer, start, network_limit, Update, Keep, Post, Take, Point, Show, Open, Reach, Extend, Act, act, each, with_peer, checked_update, updated, delivered, extended, sent_number, message_at, shown_at, shown_content_at, with_read, point_from}
 use Rattle.model_world.specs.declared.stop.Stop.{Stop}
 use Rattle.model_world.specs.declared.stop.Stop.TheVariants.{NotReached, TooLarge}
 use Rattle.model_journal.specs.Entry as model
@@ -153,19 +154,6 @@ acted-update c p x op d n new ready may at still is small calls grew =
 -- there is one node at a place
 pub same-node : (nodes : List NodeView) (p : ℕ) (n m : NodeView) → slice_get nodes p ≡ Some n → slice_get nodes p ≡ Some m → n ≡ m
 same-node nodes p n m here there = sym (get_or_from_slice_get nodes p n n here) ∙ get_or_from_slice_get nodes p m n there
-
--- no source has the shape of a fold
-no-fold : (nodes : ℕ) (k : Kind) → IsTrue (is_source k) → shape_of nodes k ≡ fold → ⊥
-no-fold nodes OrSet source e = cc
-no-fold nodes GSet source e = cc
-no-fold nodes Counter source e = cc
-no-fold nodes MaxReg source e = cc
-no-fold nodes (Union x y) source e = cc
-no-fold nodes (Product x y) source e = cc
-no-fold nodes (Intersection x y) source e = cc
-no-fold nodes (Map x place ops) source e = cc
-no-fold nodes (Filter x place ops) source e = cc
-no-fold nodes (Fold x op place lift) source e = cc
 
 -- what a mark keeps may be joined into its variable
 pub mark-suits : (c p x k : ℕ) (d : DriverView) (m : Mark) → Stands c d → MayBeDone (length d.nodes) (stage_of d) (plain.Bind p x k) → slice_get d.marks k ≡ Some m → ((marked_of m).shape ≡ shape_of (length d.nodes) (kind_at d.graph x)) × (shape_of (length d.nodes) (kind_at d.graph x) ≡ fold → ⊥)

@@ -12,9 +12,10 @@ use Rattle.model_values.proofs.ListLaws.{each-at}
 use Rattle.model_states.specs.Content.{Content, least, join_contents, size_of, row_limit, IsOrdered, IsContentAtMost}
 use Rattle.model_states.specs.Threshold.{Shape, set, grow, counter, register, fold}
 use Rattle.model_states.proofs.ContentLaws.{join-below, join-nothing, at_most-least}
-use Rattle.model_graph.specs.Graph.{Kind, OrSet, GSet, Counter, MaxReg, Union, Product, Intersection, Map, Filter, Fold, Decl, is_source, decl_at, kind_at}
+use Rattle.model_graph.specs.Graph.{Decl, is_source, decl_at, kind_at}
 use Rattle.model_graph.specs.Evaluation.{content_at, first_large}
 use Rattle.model_graph.specs.Lawful.{shape_of, sources_among}
+use Rattle.model_graph.proofs.LeastLaws.{no-fold}
 use Rattle.model_graph.proofs.LimitLaws.{large-words, small-words}
 use Rattle.model_graph.proofs.PlaceLaws.{below-or-not, equal-numbers, from-nothing, same-lists, map-length, set-length, at-append, at-last, at-past, length-push}
 use Rattle.model_graph.specs.Message.{Sent, Message, source_number, sent_at, brought, with_gain, gained}
@@ -148,19 +149,6 @@ state-shape (state.Grow values) nodes h = refl
 state-shape (state.Count counts) nodes h = ap counter h.0.0
 state-shape (state.Max m) nodes h = refl
 state-shape (state.Fold rows n) nodes h = absurd h
-
--- a source is no fold
-pub no-fold : (nodes : ℕ) (k : Kind) → IsTrue (is_source k) → shape_of nodes k ≡ fold → ⊥
-no-fold nodes OrSet source e = cc
-no-fold nodes GSet source e = cc
-no-fold nodes Counter source e = cc
-no-fold nodes MaxReg source e = cc
-no-fold nodes (Union x y) source e = cc
-no-fold nodes (Product x y) source e = cc
-no-fold nodes (Intersection x y) source e = cc
-no-fold nodes (Map x place ops) source e = cc
-no-fold nodes (Filter x place ops) source e = cc
-no-fold nodes (Fold x op place lift) source e = cc
 
 module _ (states : List Held) (x i : ℕ) (m : Message) (s : State) (lawful : IsMessage m) (there : option_map held_in (slice_get m.sources i) ≡ Some (sent.held_of s)) where
   t : Sent

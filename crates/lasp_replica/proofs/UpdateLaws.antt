@@ -13,6 +13,7 @@ use Rattle.model_states.specs.Update as plain
 use Rattle.model_graph.specs.Graph.{Decl, Kind, OrSet, GSet, Counter, MaxReg, Union, Product, Intersection, Map, Filter, Fold, is_set, is_source, kind_at}
 use Rattle.model_graph.specs.Evaluation.{content_at}
 use Rattle.model_graph.specs.Lawful.{shape_of}
+use Rattle.model_graph.proofs.LeastLaws.{no-fold}
 use Rattle.model_graph.proofs.PlaceLaws.{at-map, at-set, set-length}
 use Rattle.model_wire.specs.Lawful.{IsSource}
 use Rattle.model_runs.specs.Held.{IsHeld, IsUpdate}
@@ -52,7 +53,7 @@ use Rattle.lasp_replica.specs.declared.refused.UpdateRefused.TheVariants as upda
 use Rattle.lasp_replica.proofs.KeptLaws.{where-ok}
 use Rattle.lasp_replica.proofs.ReplicaLaws.{frame-same, replica-kept}
 use Rattle.lasp_replica.proofs.SuitLaws.{suited-same, suited-more}
-use Rattle.lasp_replica.proofs.TakenLaws.{no-fold, told-set}
+use Rattle.lasp_replica.proofs.TakenLaws.{told-set}
 
 -- ---- kinds and shapes
 

@@ -1,8 +1,10 @@
--- What a variable of a kind holds before anything happened, and that a process has no counts.
-use Rattle.std.proofs.Common.{◌≡◌, ℕ, List, [], length, refl}
+-- What a variable of a kind holds before anything happened, that a process has no counts, and that a source is no fold.
+use Rattle.std.proofs.Common.{◌≡◌, ℕ, IsTrue, List, [], length, refl}
 use Rattle.model_states.specs.Content.{Content, IsOrdered}
-use Rattle.model_graph.specs.Graph.{Kind, OrSet, GSet, Counter, MaxReg, Union, Product, Intersection, Map, Filter, Fold}
+use Rattle.model_states.specs.Threshold.{fold}
+use Rattle.model_graph.specs.Graph.{Kind, OrSet, GSet, Counter, MaxReg, Union, Product, Intersection, Map, Filter, Fold, is_source}
 use Rattle.model_graph.specs.Evaluation.{least_of, equation}
+use Rattle.model_graph.specs.Lawful.{shape_of}
 
 pub least_of-rows : (nodes : ℕ) (k : Kind) → (least_of nodes k).rows ≡ []
 least_of-rows nodes OrSet = refl
@@ -39,3 +41,15 @@ equation-flat (Intersection x y) contents = refl
 equation-flat (Map x place ops) contents = refl
 equation-flat (Filter x place ops) contents = refl
 equation-flat (Fold x op place lift) contents = refl
+
+pub no-fold : (nodes : ℕ) (k : Kind) → IsTrue (is_source k) → shape_of nodes k ≡ fold → ⊥
+no-fold nodes OrSet source e = cc
+no-fold nodes GSet source e = cc
+no-fold nodes Counter source e = cc
+no-fold nodes MaxReg source e = cc
+no-fold nodes (Union x y) source e = cc
+no-fold nodes (Product x y) source e = cc
+no-fold nodes (Intersection x y) source e = cc
+no-fold nodes (Map x place ops) source e = cc
+no-fold nodes (Filter x place ops) source e = cc
+no-fold nodes (Fold x op place lift) source e = cc
