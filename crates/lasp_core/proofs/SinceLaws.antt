@@ -9,13 +9,14 @@ use Rattle.model_journal.specs.Journal.{graph, val, vals}
 use Rattle.lasp_graph.specs.Evaluated.{number_by}
 use Rattle.lasp_graph.specs.States.{Held, held_at}
 use Rattle.lasp_replica.specs.Replica.{frame_of, entries_of, parts_of, IsReplica}
-use Rattle.lasp_replica.specs.Since.{tail_of, AreSince}
+use Rattle.lasp_replica.specs.Since.{AreSince}
+use Rattle.model_graph.specs.Message.{content_since}
 use Rattle.lasp_replica.specs.declared.replica.Replica.{Replica}
 use Rattle.lasp_replica.proofs.PartLaws.{held-val}
 use Rattle.lasp_core.specs.Since.{AreStatesSince}
 
 -- of a variable that is derived all is told
-all-derived : (k : Kind) → IsFalse (is_source k) → (s t : Content) → tail_of k s t ≡ t
+all-derived : (k : Kind) → IsFalse (is_source k) → (s t : Content) → content_since k s t ≡ t
 all-derived OrSet derived s t = absurd (cc (derived))
 all-derived GSet derived s t = refl
 all-derived Counter derived s t = refl
@@ -33,8 +34,8 @@ pub core-since : (r : Replica) → IsReplica r → (n : ℕ) (states : List Held
 core-since r is n states since = record {
   long = since.long ∙ ap length is.kept.graph;
   contents = λ x low. (since.each x (here x low)).content
-      ∙ ap (λ (k : Kind). tail_of k (before x) (held_at r.states x).content) (kind x)
-      ∙ ap (tail_of (kind_at g x) (before x)) (held-val (frame_of r) (entries_of r) (parts_of r) is.kept x);
+      ∙ ap (λ (k : Kind). content_since k (before x) (held_at r.states x).content) (kind x)
+      ∙ ap (content_since (kind_at g x) (before x)) (held-val (frame_of r) (entries_of r) (parts_of r) is.kept x);
   shapes = λ x low. (since.each x (here x low)).shape ∙ is.kept.shapes x (here x low) ∙ ap (shape_of (frame_of r).nodes) (kind x);
   numbers = λ x derived.
       let there : IsDerived (arc_value r.graph) x = subst (λ (ds : List Decl). IsDerived ds x) (sym is.kept.graph) derived in

@@ -9,7 +9,7 @@ use Rattle.model_graph.specs.Graph.{Decl, Kind, OrSet, GSet, Counter, MaxReg, Un
 use Rattle.model_graph.specs.Evaluation.{content_at}
 use Rattle.model_graph.specs.Lawful.{shape_of}
 use Rattle.model_graph.proofs.PlaceLaws.{below-or-not, at-past, at-map}
-use Rattle.model_graph.specs.Message.{Message, Sent, message_of}
+use Rattle.model_graph.specs.Message.{Message, Sent, message_of, content_since}
 use Rattle.model_graph.proofs.MessageLaws.{sent-is, sent-among}
 use Rattle.model_readings.specs.Lawful.{IsGraph}
 use Rattle.model_wire.specs.Lawful.{IsMessage, IsSource}
@@ -34,7 +34,6 @@ use Rattle.model_core.proofs.SourceLaws.{sources-length, sources-source, sources
 use Rattle.model_core.proofs.ValidLaws.{val-ordered}
 use Rattle.lasp_graph.specs.States.{Held, contents_of, AreSourcesOfKind}
 use Rattle.lasp_graph.proofs.Evaluation.{length-contents}
-use Rattle.lasp_replica.specs.Since.{tail_of}
 use Rattle.lasp_core.specs.Since.{AreStatesSince, IsTailSince}
 
 -- ---- the counts
@@ -50,7 +49,7 @@ counts-below c core = below-each (counts c.frame c.entries) 100001 (λ q. omega 
 -- ---- one source
 
 -- what came since may be sent
-tail-source : (nodes : ℕ) (k : Kind) (s t : Content) → IsSource nodes k t → IsSource nodes k (tail_of k s t)
+tail-source : (nodes : ℕ) (k : Kind) (s t : Content) → IsSource nodes k t → IsSource nodes k (content_since k s t)
 tail-source nodes OrSet s t is = let changed = changed-lawful nodes OrSet s t is in subst (IsSource nodes OrSet) changed.1 changed
 tail-source nodes GSet s t is = is
 tail-source nodes Counter s t is = is
@@ -63,7 +62,7 @@ tail-source nodes (Filter x place ops) s t is = absurd is
 tail-source nodes (Fold x op place lift) s t is = absurd is
 
 -- joined behind what stood before, it is what stands now
-tail-joined : (nodes : ℕ) (k : Kind) (s t : Content) → IsSource nodes k t → IsOrdered t → length s.counts ≤ length t.counts → IsContentAtMost s t → join_contents s (tail_of k s t) ≡ t
+tail-joined : (nodes : ℕ) (k : Kind) (s t : Content) → IsSource nodes k t → IsOrdered t → length s.counts ≤ length t.counts → IsContentAtMost s t → join_contents s (content_since k s t) ≡ t
 tail-joined nodes OrSet s t is up wide low = ap (join_contents s) (sym (changed-lawful nodes OrSet s t is).1) ∙ changed-joined s t up wide low
 tail-joined nodes GSet s t is up wide low = join-above s t up wide low
 tail-joined nodes Counter s t is up wide low = join-above s t up wide low
@@ -105,7 +104,7 @@ module _ (X : Frame) (h : List Entry) (n : ℕ) (states : List Held) (since : Ar
   pub contents-long : length (contents_of states) ≡ length (graph X h)
   contents-long = length-contents states ∙ since.long
 
-  pub told : (x : ℕ) → x < length (graph X h) → content_at (contents_of states) x ≡ tail_of (kind_at (graph X h) x) (val X (take n h) x) (val X h x)
+  pub told : (x : ℕ) → x < length (graph X h) → content_at (contents_of states) x ≡ content_since (kind_at (graph X h) x) (val X (take n h) x) (val X h x)
   told x low = at-map (λ (s : Held). s.content) states x (record { shape = set; content = least; number = pos 0 }) ∙ since.contents x low
 
 -- ---- the message
@@ -148,7 +147,7 @@ module _ (c : Core) (core : IsCore c) (n : ℕ) (states : List Held) (since : Ar
     named = sent-among g (contents_of states) (contents-long c.frame c.entries n states since) ∙ sym (sent-among g (sources c.frame c.entries) (sources-length g (vals c.frame c.entries) (vals-length c.frame c.entries core.legal)));
     joins = λ x low source.
         ap (join_contents (content_at (sources c.frame (take n c.entries)) x)) (sent-is g (contents_of states) x low (contents-long c.frame c.entries n states since) source ∙ told c.frame c.entries n states since x low)
-        ∙ ap (λ (s : Content). join_contents s (tail_of (kind_at g x) (before x) (now x))) (earlier-source c.frame c.entries core.legal n x source)
+        ∙ ap (λ (s : Content). join_contents s (content_since (kind_at g x) (before x) (now x))) (earlier-source c.frame c.entries core.legal n x source)
         ∙ tail-joined c.frame.nodes (kind_at g x) (before x) (now x) (source-now x low source) (val-ordered c.frame c.entries core.legal x)
         ((later c.frame c.entries core.legal n).wider x) ((later c.frame c.entries core.legal n).grown x)
         ∙ sym (sources-source g (vals c.frame c.entries) x low source);

@@ -2,7 +2,7 @@
 use Rattle.std.specs.Prelude.{◌≡◌, ℕ, ◌<◌, List, length, take}
 use Rattle.model_graph.specs.Graph.{kind_at}
 use Rattle.model_graph.specs.Lawful.{IsDerived, shape_of}
-use Rattle.model_graph.specs.Message.{Message, message_of}
+use Rattle.model_graph.specs.Message.{Message, message_of, content_since}
 use Rattle.model_world.specs.World.{message_at}
 use Rattle.model_runs.specs.Part.{IsTail}
 use Rattle.model_journal.specs.Entry.{Entry, Frame}
@@ -10,12 +10,11 @@ use Rattle.model_journal.specs.Journal.{graph, val, counts}
 use Rattle.model_core.specs.Peer.{peer_of}
 use Rattle.lasp_graph.specs.Evaluated.{number_by}
 use Rattle.lasp_graph.specs.States.{Held, held_at, contents_of}
-use Rattle.lasp_replica.specs.Since.{tail_of}
 
 -- states of a core's variables: of each source that is a set the rows that changed since the first n entries, of others all, with the numbers of folds
 pub record AreStatesSince (X : Frame) (entries : List Entry) (n : ℕ) (states : List Held) : Type 0 where
   pub long : length states ≡ length (graph X entries)
-  pub contents : (x : ℕ) → x < length (graph X entries) → (held_at states x).content ≡ tail_of (kind_at (graph X entries) x) (val X (take n entries) x) (val X entries x)
+  pub contents : (x : ℕ) → x < length (graph X entries) → (held_at states x).content ≡ content_since (kind_at (graph X entries) x) (val X (take n entries) x) (val X entries x)
   pub shapes : (x : ℕ) → x < length (graph X entries) → (held_at states x).shape ≡ shape_of X.nodes (kind_at (graph X entries) x)
   pub numbers : (x : ℕ) → IsDerived (graph X entries) x → (held_at states x).number ≡ number_by (kind_at (graph X entries) x) (held_at states x).content
 

@@ -4,12 +4,12 @@ use Rattle.std.specs.Prelude.{slice_get}
 use Rattle.std.specs.List.{AllByRecursion}
 use Rattle.model_states.specs.Content.{Content}
 use Rattle.model_graph.specs.Graph.{Decl, Kind, OrSet, GSet, Counter, MaxReg, Union, Product, Intersection, Map, Filter, Fold}
-use Rattle.model_graph.specs.Message.{Message, Sent, sent_at}
+use Rattle.model_graph.specs.Message.{Message, Sent, sent_at, content_since}
 use Rattle.model_wire.specs.Lawful.{IsSource, IsSent}
 use Rattle.model_deltas.specs.Delta.{changed_content, changed_source, changed_sources}
 use Rattle.model_deltas.specs.Before.{AreSourcesBefore, IsBefore, AreSourcesAlike, AreAlike}
 use Rattle.model_deltas.proofs.DeltaLaws.{changed-lawful}
-use Rattle.lasp_drive.specs.Since.{content_since, sources_since}
+use Rattle.lasp_drive.specs.Since.{sources_since}
 use Rattle.lasp_delta.specs.Since.{LeadTo}
 
 -- ---- one source

@@ -4,8 +4,8 @@ use Rattle.std.proofs.lemmas.List.{length-map}
 use Rattle.model_states.specs.Content.{Content}
 use Rattle.model_graph.specs.Graph.{Decl, is_source, kind_at}
 use Rattle.model_graph.specs.Evaluation.{content_at}
-use Rattle.model_graph.specs.Message.{Message, Sent, sent_from, source_number, sent_at}
-use Rattle.lasp_drive.specs.Since.{content_since, sources_since, message_since}
+use Rattle.model_graph.specs.Message.{Message, Sent, sent_from, source_number, sent_at, content_since}
+use Rattle.lasp_drive.specs.Since.{sources_since, message_since}
 
 abbrev pub decls_of : List Sent → List Decl
 decls_of sources = map (λ (s : Sent). s.decl) sources

@@ -8,13 +8,13 @@ use Rattle.model_states.proofs.ContentLaws.{join-nothing, join-associative}
 use Rattle.model_graph.specs.Graph.{Decl, Kind, is_source, kind_at}
 use Rattle.model_graph.specs.Evaluation.{content_at}
 use Rattle.model_graph.proofs.PlaceLaws.{below-or-not, at-append, at-last, at-past, length-push}
-use Rattle.model_graph.specs.Message.{Message, Sent, source_number, sent_at}
+use Rattle.model_graph.specs.Message.{Message, Sent, source_number, sent_at, content_since}
 use Rattle.model_graph.proofs.MessageLaws.{sent-is, sent-past, number-append}
 use Rattle.model_world.proofs.VariableLaws.{kind-append}
 use Rattle.model_world.proofs.KnowsLaws.{known-covered}
 use Rattle.model_world.specs.World.{Run, message_at, no_message, peer_at, sent_number}
 use Rattle.model_runs.specs.Part.{BringsAsMuch, IsTail}
-use Rattle.lasp_drive.specs.Since.{content_since, message_since, HasSince}
+use Rattle.lasp_drive.specs.Since.{message_since, HasSince}
 use Rattle.lasp_drive.specs.Node.{NodeView, Posted, Sends, IsTailOf, HaveSentNothing}
 use Rattle.lasp_drive.specs.Marks.{AllGrow}
 use Rattle.lasp_drive.specs.Tails.{IsBehind, IsPosted, AreTailed}

@@ -21,7 +21,8 @@ use Rattle.lasp_graph.specs.declared.kind.Kind.TheVariants.{OrSet, GSet, Counter
 use Rattle.lasp_replica.specs.Parts.{history_at}
 use Rattle.lasp_replica.specs.Reading.{rows_since}
 use Rattle.lasp_replica.specs.Replica.{frame_of, entries_of, parts_of, IsReplica}
-use Rattle.lasp_replica.specs.Since.{tail_of, IsSince, AreSince}
+use Rattle.lasp_replica.specs.Since.{IsSince, AreSince}
+use Rattle.model_graph.specs.Message.{content_since}
 use Rattle.lasp_replica.specs.declared.replica.Replica.{Replica}
 use Rattle.lasp_replica.proofs.ReadLaws.{kept-changed, kept-width}
 
@@ -36,13 +37,13 @@ since-rows r ok x n low early kind rows are =
     let flat : IsTrue (is_set (kind_at (arc_value r.graph) x)) = ap is_set kind in
     let before = content_at (vals (frame_of r) (take n (entries_of r))) x in
     record {
-      content = ap of_set (are ∙ (kept-changed (frame_of r) (entries_of r) (parts_of r) ok.kept x low flat n early).rows_are) ∙ ap (λ (k : plain.Kind). tail_of k before (held_at r.states x).content) (sym kind);
+      content = ap of_set (are ∙ (kept-changed (frame_of r) (entries_of r) (parts_of r) ok.kept x low flat n early).rows_are) ∙ ap (λ (k : plain.Kind). content_since k before (held_at r.states x).content) (sym kind);
       shape = sym (kept-width (frame_of r) (entries_of r) ok.legal (parts_of r) ok.kept x low flat).shape;
       number = λ derived. let both : true ≡ false = ap is_source (sym kind) ∙ derived in cc;
     }
 
 -- of another variable all is told
-all-told : (k : Kind) → (k ≡ OrSet → ⊥) → (s t : Content) → tail_of (kind_of k) s t ≡ t
+all-told : (k : Kind) → (k ≡ OrSet → ⊥) → (s t : Content) → content_since (kind_of k) s t ≡ t
 all-told OrSet other s t = absurd (other refl)
 all-told GSet other s t = refl
 all-told Counter other s t = refl

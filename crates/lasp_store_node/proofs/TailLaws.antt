@@ -3,8 +3,7 @@ use Rattle.std.proofs.Common.{◌≡◌, ◌≤◌, ℕ, List, length, Option, S
 use Rattle.std.specs.Prelude.{IfSome}
 use Rattle.std.specs.Option.{option_map}
 use Rattle.std.specs.Arc.{arc_value}
-use Rattle.model_graph.specs.Graph.{Decl, kind_at}
-use Rattle.model_graph.specs.Evaluation.{content_at}
+use Rattle.model_graph.specs.Graph.{Decl}
 use Rattle.model_journal.specs.Legal.{IsLegal}
 use Rattle.model_graph.specs.Message.{Message}
 use Rattle.model_runs.specs.Part.{IsTail}
@@ -12,14 +11,13 @@ use Rattle.model_world.specs.World.{Peer, message_at}
 use Rattle.lasp_core.specs.Since.{IsTailSince}
 use Rattle.lasp_core.proofs.ExactLaws.{tail-has}
 use Rattle.lasp_store.specs.Letter.{IsSent, IsTailFrom}
-use Rattle.lasp_store.specs.Turn.{Knows, frame_of, graph_seen}
+use Rattle.lasp_store.specs.Turn.{Knows, frame_of}
 use Rattle.lasp_store.specs.declared.letter.Sent.{Sent}
 use Rattle.lasp_drive.specs.Since.{HasSince}
 use Rattle.lasp_drive.specs.Node.{OnlyLearns, Sends, IsTailOf}
 use Rattle.lasp_drive.specs.declared.node.Tail.{Tail}
 use Rattle.lasp_node.specs.declared.node.LastSent.{LastSent}
 use Rattle.lasp_node.proofs.CallLaws.{posted-now}
-use Rattle.lasp_node.proofs.TailLaws.{since-alike}
 use Rattle.lasp_store_node.specs.View.{Seen, core_at, posted_at, since, IsEarly, IsBehind, node_of, node_seen}
 use Rattle.lasp_store_node.proofs.FeedLaws.{learns-whatever}
 
@@ -43,8 +41,7 @@ module _ (old mid : Seen) (s : Sent) (learned : OnlyLearns (node_seen old) (node
     number = behind.2;
     rows = subst (λ (z : List Decl × Peer). IsTail z.0 (posted_at mid.feed behind.0).contents z.1.contents (message_at z.0 z.1) (arc_value t.rows)) (λ i. (learned.learns.still.graph i, learned.learns.peer i)) rows.tail;
     exact = subst (λ (z : List Decl × Peer). HasSince z.0 (posted_at mid.feed behind.0).contents z.1.contents (arc_value t.rows)) (λ i. (learned.learns.still.graph i, learned.learns.peer i))
-        (λ x low source. tail-has (frame_of mid.feed) mid.feed.seen legal behind.0.entries (arc_value t.rows) rows x low source
-        ∙ since-alike (kind_at (graph_seen mid.feed) x) (content_at (posted_at mid.feed behind.0).contents x) (content_at (node_seen mid).peer.contents x));
+        (λ x low source. tail-has (frame_of mid.feed) mid.feed.seen legal behind.0.entries (arc_value t.rows) rows x low source);
   } where
     rows : IsTailSince (frame_of mid.feed) mid.feed.seen behind.0.entries (arc_value t.rows)
     rows = subst (λ (z : Option LastSent × Option Message). IsTailFrom (frame_of mid.feed) mid.feed.seen (since z.0) z.1) (λ i. ((sym same ∙ behind.1) i, behind.3 i)) is.tail

@@ -1,7 +1,8 @@
 -- A message carries all sources of its sender, and how many updates of each replica the sender knows.
 use Rattle.std.specs.Prelude.{ℕ, zero, suc, ◌+◌, if◌then◌else◌, List, [], ◌∷◌, Option, Some, None}
-use Rattle.model_states.specs.Content.{Content, least, join_contents}
-use Rattle.model_graph.specs.Graph.{Decl, is_source, kind_at}
+use Rattle.model_sets.specs.Equations.{changed}
+use Rattle.model_states.specs.Content.{Content, least, of_set, join_contents}
+use Rattle.model_graph.specs.Graph.{Decl, Kind, OrSet, GSet, Counter, MaxReg, Union, Product, Intersection, Map, Filter, Fold, is_source, kind_at}
 
 -- a source in a message: its declaration and what it holds
 pub record Sent : Type 0 where
@@ -48,3 +49,16 @@ with_gain s (Some t) = join_contents s t
 abbrev pub gained : (ℕ → Option Content) → ℕ → List Content → List Content
 gained gains x [] = []
 gained gains x (s ∷ rest) = with_gain s (gains x) ∷ gained gains (x + 1) rest
+
+-- what came to a variable between two contents: of a source that is an observed-remove set the rows that are new or newly dead, of others all of the later content
+abbrev pub content_since : Kind → Content → Content → Content
+content_since OrSet s t = of_set (changed s.rows t.rows)
+content_since GSet s t = t
+content_since Counter s t = t
+content_since MaxReg s t = t
+content_since (Union x y) s t = t
+content_since (Product x y) s t = t
+content_since (Intersection x y) s t = t
+content_since (Map x place ops) s t = t
+content_since (Filter x place ops) s t = t
+content_since (Fold x op place lift) s t = t
