@@ -2,6 +2,7 @@
 use Rattle.std.proofs.Common.{◌≡◌, ℕ, ◌<◌, Bool, true, false, List, length, Option, Some, None, Result, Ok, Err, refl, sym, ap, subst, ◌∙◌, arith}
 use Rattle.model_states.proofs.CountLaws.{length-zeros, length-larger}
 use Rattle.model_graph.specs.Chain.{◌>>=◌, check, refusing}
+use Rattle.model_graph.proofs.ChainLaws.{chain-passed, chain-refused}
 use Rattle.model_graph.specs.Graph.{Decl, name_at}
 use Rattle.model_graph.specs.Evaluation.{first_large}
 use Rattle.model_graph.specs.Message.{Message, brought}
@@ -35,12 +36,6 @@ taken-sent g r m taken lawful =
     sent-to (length r.counts) g m lawful parts.1 (parts.0.rest, parts.0.is)
 
 -- ---- what is answered of a message
-
-chain-passed : {A B E : Type 0} (r : Result A E) (f : A → Result B E) (x : A) → r ≡ Ok x → (r >>= f) ≡ f x
-chain-passed r f x e = ap (λ s. s >>= f) e
-
-chain-refused : {A B E : Type 0} (r : Result A E) (f : A → Result B E) (x : E) → r ≡ Err x → (r >>= f) ≡ Err x
-chain-refused r f x e = ap (λ s. s >>= f) e
 
 -- what is done once a message may be taken
 abbrev then_joined : List Decl → ℕ → Peer → Message → Result Peer Refusal

@@ -2,6 +2,7 @@
 use Rattle.std.proofs.Common.{◌≡◌, ℕ, ◌==◌, Bool, true, false, List, [], ◌∷◌, length, Option, Some, None, Result, Ok, Err, refl, sym, ap, subst, ◌∙◌, arith}
 use Rattle.std.proofs.lemmas.Bool.Decides.{Decides-eqb}
 use Rattle.model_graph.specs.Chain.{◌>>=◌, check, refusing}
+use Rattle.model_graph.proofs.ChainLaws.{chain-passed, chain-refused}
 use Rattle.model_graph.specs.Graph.{Decl, name_at}
 use Rattle.model_graph.specs.Evaluation.{first_large}
 use Rattle.model_graph.specs.Message.{Message}
@@ -75,12 +76,6 @@ taken-large shown p g f x n m failure h taken large is =
     ∙ ap (λ (o : Option ℕ). large_refused (λ y. FileTooLarge f p (name_at g y)) o >>= (λ _. Ok (delivered g m n.peer))) (ap (λ (ds : List Decl). first_large 0 (delivered ds m n.peer).contents) (sym h.graph) ∙ large)) is
 
 -- ---- what is answered of a file
-
-chain-passed : {A B E : Type 0} (r : Result A E) (f : A → Result B E) (x : A) → r ≡ Ok x → (r >>= f) ≡ f x
-chain-passed r f x e = ap (λ s. s >>= f) e
-
-chain-refused : {A B E : Type 0} (r : Result A E) (f : A → Result B E) (x : E) → r ≡ Err x → (r >>= f) ≡ Err x
-chain-refused r f x e = ap (λ s. s >>= f) e
 
 file-message : (p : ℕ) (g : List Decl) (f : ℕ) (r : Peer) (bytes : List ℕ) (m : Message) → refusing (state_refused f) (decoded bytes) ≡ Ok m → file_taken p g f r bytes ≡ message_taken p g f r m
 unfolding file_taken

@@ -1,5 +1,5 @@
--- What a chain of steps that passed says of its first step: it passed, and the others went on from it.
-use Rattle.std.proofs.Common.{◌≡◌, Result, Ok, Err, refl}
+-- What a chain of steps says of its first step, and its first step of it. A chain that passed: its first step passed, and the others went on from it.
+use Rattle.std.proofs.Common.{◌≡◌, Result, Ok, Err, refl, ap}
 use Rattle.model_graph.specs.Chain.{◌>>=◌}
 
 pub record Passed {A B E : Type 0} (r : Result A E) (f : A → Result B E) (y : B) : Type 0 where
@@ -10,3 +10,10 @@ pub record Passed {A B E : Type 0} (r : Result A E) (f : A → Result B E) (y : 
 pub passed : {A B E : Type 0} (r : Result A E) (f : A → Result B E) (y : B) → (r >>= f) ≡ Ok y → Passed r f y
 passed (Ok x) f y e = record { value = x; first = refl; then = e }
 passed (Err e) f y h = cc
+
+-- a first step of which it is known what it gives
+pub chain-passed : {A B E : Type 0} (r : Result A E) (f : A → Result B E) (x : A) → r ≡ Ok x → (r >>= f) ≡ f x
+chain-passed r f x e = ap (λ s. s >>= f) e
+
+pub chain-refused : {A B E : Type 0} (r : Result A E) (f : A → Result B E) (x : E) → r ≡ Err x → (r >>= f) ≡ Err x
+chain-refused r f x e = ap (λ s. s >>= f) e
