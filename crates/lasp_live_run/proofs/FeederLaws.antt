@@ -2,7 +2,7 @@
 use Rattle.std.proofs.Common.{◌≡◌, ℕ, ◌+◌, ◌≤◌, List, [], ◌∷◌, ◌++◌, length, cond, not, Option, Result, Ok, Err, None, refl, sym, ap, subst, ◌∙◌, append-nil, arith}
 use Rattle.std.specs.Prelude.{All, OnErr, OnOk}
 use Rattle.std.proofs.lemmas.List.{length-append}
-use Rattle.std.proofs.lemmas.List.Elements.{All-head, All-tail, filter-append}
+use Rattle.std.proofs.lemmas.List.Elements.{All-head, All-tail}
 use Rattle.model_journal.specs.Callers.{AreMadeByTheirCallers, MayMake, made_by}
 use Rattle.model_journal.specs.Entry.{Act, Update, Deliver, Bind, Extend, Entry, Frame, entry}
 use Rattle.model_graph.specs.Message.{Message}
@@ -12,6 +12,7 @@ use Rattle.model_live.proofs.StoryLaws.{graph-stays}
 use Rattle.model_readings.specs.Lawful.{FitsAll}
 use Rattle.model_functions.specs.Library.{Library}
 use Rattle.model_runs.specs.Calls.{is_bind, unbound}
+use Rattle.model_runs.proofs.FedLaws.{unbound-append}
 use Rattle.lasp_replica.specs.Replica.{IsAnswered, IsDelivered, update_refusal}
 use Rattle.lasp_replica.specs.declared.refused.DeliverRefused.{DeliverRefused}
 use Rattle.lasp_replica.specs.declared.refused.UpdateRefused.{UpdateRefused}
@@ -28,10 +29,6 @@ use Rattle.lasp_store.specs.Turn.{Knows, HadTurn, IsSeated, frame_of, graph_at, 
 use Rattle.lasp_store_node.proofs.FeedLaws.{calls-after}
 use Rattle.lasp_store_node.specs.View.{IsFeed, place_of}
 use Rattle.lasp_live.specs.Turns.{Adds, AreOwnResults, Delivers, Feeds, IsFoundBehind, IsOwnResult, Learns, PassesOnce, Settles, Updates}
-
--- the calls of two lists in turn
-unbound-append : (h k : List Entry) → unbound (h ++ k) ≡ unbound h ++ unbound k
-unbound-append h k = filter-append (λ (e : Entry). not (is_bind e.act)) h k
 
 -- ---- what was made by whom
 

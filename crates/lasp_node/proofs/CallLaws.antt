@@ -1,5 +1,5 @@
 -- The calls and the reads that a node's core has after a call.
-use Rattle.std.proofs.Common.{ℕ, ◌≡◌, ◌+◌, ◌≤◌, Bool, true, false, cond, not, if◌then◌else◌, refl, sym, ap, subst, ◌∙◌, arith}
+use Rattle.std.proofs.Common.{ℕ, ◌≡◌, ◌+◌, ◌≤◌, Bool, false, not, if◌then◌else◌, refl, sym, ap, subst, ◌∙◌, arith}
 use Rattle.std.specs.Prelude.{List, [], ◌∷◌, ◌++◌, length, take, Option, Some, None, Result, Ok, Err, OnOk, OnErr, IsTrue}
 use Rattle.std.specs.Option.{option_map}
 use Rattle.std.specs.List.{AllByRecursion}
@@ -19,6 +19,7 @@ use Rattle.model_core.proofs.ReadLaws.{meets-grows}
 use Rattle.model_core.proofs.ValidLaws.{val-ordered}
 use Rattle.model_runs.specs.Calls.{fed, is_bind, unbound}
 use Rattle.model_runs.proofs.MatchLaws.{append-nothing}
+use Rattle.model_runs.proofs.FedLaws.{unbound-append}
 use Rattle.model_core.proofs.PeerLaws.{peer-fresh}
 use Rattle.model_world.specs.World.{shown_at}
 use Rattle.lasp_core.specs.Core.{fresh_core, declared, opened_read, opened, closed, looked}
@@ -28,15 +29,6 @@ use Rattle.lasp_drive.specs.declared.node.NodeStop.{NodeStop}
 use Rattle.lasp_node.specs.View.{node_of, reads_of, posted_at, entries_sent}
 use Rattle.lasp_node.specs.declared.node.LastSent.{LastSent}
 use Rattle.lasp_node.specs.Settling.{AreBinds, HasBound}
-
--- what is no result in one list and in another behind it
-pub unbound-append : (h k : List Entry) → unbound (h ++ k) ≡ unbound h ++ unbound k
-unbound-append [] k = refl
-unbound-append (e ∷ h) k =
-    elim (not (is_bind e.act)) as (λ b. cond b (e ∷ unbound (h ++ k)) (unbound (h ++ k)) ≡ cond b (e ∷ unbound h) (unbound h) ++ unbound k) [
-      | true ↦ λ i. e ∷ unbound-append h k i
-      | false ↦ unbound-append h k
-    ]
 
 -- one entry more that is no result
 pub entered-calls : (old new : Core) (a : Act) → is_bind a ≡ false → new ≡ entered (entry 0 a) old → unbound new.entries ≡ unbound old.entries ++ fed a ∷ []

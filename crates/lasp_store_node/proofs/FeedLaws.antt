@@ -2,7 +2,7 @@
 use Rattle.std.proofs.Common.{ℕ, ◌≡◌, ◌==◌, ◌<◌, Bool, true, false, not, cond, zero, suc, List, [], ◌∷◌, ◌++◌, length, Option, None, Result, Ok, Err, refl, sym, ap, subst, ◌∙◌, append-nil, arith}
 use Rattle.std.specs.Prelude.{All, OnOk, OnErr, IsTrue}
 use Rattle.std.specs.Option.{option_map}
-use Rattle.std.proofs.lemmas.List.Elements.{All-head, All-tail, filter-append}
+use Rattle.std.proofs.lemmas.List.Elements.{All-head, All-tail}
 use Rattle.model_states.specs.Content.{Content}
 use Rattle.model_graph.specs.Graph.{Decl, is_source, kind_at}
 use Rattle.model_graph.specs.Evaluation.{content_at}
@@ -20,6 +20,7 @@ use Rattle.model_core.proofs.ReadLaws.{meets-grows}
 use Rattle.model_core.proofs.SourceLaws.{sources-source}
 use Rattle.model_core.proofs.ValidLaws.{val-ordered}
 use Rattle.model_runs.specs.Calls.{is_bind, unbound}
+use Rattle.model_runs.proofs.FedLaws.{unbound-append}
 use Rattle.lasp_state.specs.declared.state.State.{State}
 use Rattle.lasp_graph.specs.States.{Held, held_of}
 use Rattle.lasp_core.specs.Core.{state_after}
@@ -61,9 +62,6 @@ unbound-mine (e ∷ seen) may = choose (unbound-mine seen (All-tail (λ e. (e.by
 
 calls-own : (p : Knows) → KnowsOwn p → p.number ≡ 0 → unbound p.seen ≡ unbound p.own
 calls-own p own first = unbound-mine p.seen own.allowed ∙ ap unbound (ap (λ (n : ℕ). made_by n p.seen) (sym first) ∙ sym own.own)
-
-unbound-append : (h k : List Entry) → unbound (h ++ k) ≡ unbound h ++ unbound k
-unbound-append h k = filter-append (λ (e : Entry). not (is_bind e.act)) h k
 
 -- the feed's own entries of a turn tell the calls
 pub calls-after : (old new : Knows) (more : List Entry) → KnowsOwn old → KnowsOwn new → old.number ≡ 0 → new.number ≡ 0 → new.own ≡ old.own ++ more → unbound new.seen ≡ unbound old.seen ++ unbound more

@@ -63,3 +63,7 @@ pub calls-unbound : (c : ℕ) (run : Run) (p : ℕ) (commands : List Command) �
 calls-unbound c run p commands = keeps-calls (λ e. not (is_bind e.act)) unbound-one c run p commands
 
 pub ruleset feeds = (calls-fed, calls-unbound)
+
+-- what is no result in one list and in another behind it
+pub unbound-append : (h k : List Entry) → unbound (h ++ k) ≡ unbound h ++ unbound k
+unbound-append h k = filter-append (λ (e : Entry). not (is_bind e.act)) h k
