@@ -58,7 +58,7 @@ settled-reads old new bound = λ i. record { waiting = bound.parked i; opened = 
 -- ---- what it shows
 
 -- more entries, and each variable holds at least what it held
-grows-behind : (X : Frame) (h more : List Entry) → IsLegal X (h ++ more) → Grows (vals X h) (vals X (h ++ more))
+pub grows-behind : (X : Frame) (h more : List Entry) → IsLegal X (h ++ more) → Grows (vals X h) (vals X (h ++ more))
 grows-behind X h more legal x threshold met =
     meets-grows threshold (val X h x) (val X (h ++ more) x) (val-ordered X h (legal-first X h more legal) x) (val-ordered X (h ++ more) legal x) ((journal-later X h more).grown x) met
 

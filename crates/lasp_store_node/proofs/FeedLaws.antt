@@ -9,16 +9,12 @@ use Rattle.model_graph.specs.Evaluation.{content_at}
 use Rattle.model_graph.specs.Lawful.{shape_of}
 use Rattle.model_world.specs.World.{Peer}
 use Rattle.model_journal.specs.Entry.{Act, Update, Deliver, Bind, Extend, Entry, Frame}
-use Rattle.model_journal.specs.Journal.{graph, vals, val}
+use Rattle.model_journal.specs.Journal.{graph, vals}
 use Rattle.model_journal.specs.Callers.{MayMake, made_by}
 use Rattle.model_journal.specs.Legal.{IsLegal}
-use Rattle.model_journal.proofs.JournalLaws.{journal-later}
-use Rattle.model_journal.proofs.LegalLaws.{legal-first}
 use Rattle.model_core.specs.Peer.{peer_of}
 use Rattle.model_core.proofs.PeerLaws.{peer-fresh}
-use Rattle.model_core.proofs.ReadLaws.{meets-grows}
 use Rattle.model_core.proofs.SourceLaws.{sources-source}
-use Rattle.model_core.proofs.ValidLaws.{val-ordered}
 use Rattle.model_runs.specs.Calls.{is_bind, unbound}
 use Rattle.model_runs.proofs.FedLaws.{unbound-append}
 use Rattle.lasp_state.specs.declared.state.State.{State}
@@ -34,7 +30,7 @@ use Rattle.lasp_store.specs.Settled.{KnowsOwn, HasSettled, AreBinds, IsBind, Are
 use Rattle.lasp_store.proofs.EvaluatedLaws.{IsKept, kept-binds, same-evaluation, evaluated-stays, all-evaluated}
 use Rattle.lasp_store.proofs.SettleLaws.{turn-settles}
 use Rattle.lasp_node.specs.declared.node.LastSent.{LastSent}
-use Rattle.lasp_node.proofs.CallLaws.{posted-kept}
+use Rattle.lasp_node.proofs.CallLaws.{posted-kept, grows-behind}
 use Rattle.lasp_store_node.specs.View.{Seen, seen, core_at, posted_at, IsEarly, node_of, node_seen, place_of, IsFeed}
 
 -- ---- the calls
@@ -69,11 +65,6 @@ calls-after old new more own-old own-new first same grown =
     calls-own new own-new same ∙ ap unbound grown ∙ unbound-append old.own more ∙ ap (λ (l : List Entry). l ++ unbound more) (sym (calls-own old own-old first))
 
 -- ---- what is shown
-
--- more entries, and each variable holds at least what it held
-grows-behind : (X : Frame) (h more : List Entry) → IsLegal X (h ++ more) → Grows (vals X h) (vals X (h ++ more))
-grows-behind X h more legal x threshold met =
-    meets-grows threshold (val X h x) (val X (h ++ more) x) (val-ordered X h (legal-first X h more legal) x) (val-ordered X (h ++ more) legal x) ((journal-later X h more).grown x) met
 
 pub feed-grows : (old new : Knows) → frame_of new ≡ frame_of old → GoesOn old.seen new.seen → IsLegal (frame_of new) new.seen → Grows (vals (frame_of old) old.seen) (vals (frame_of new) new.seen)
 feed-grows old new frame on legal =
