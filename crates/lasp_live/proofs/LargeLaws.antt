@@ -32,8 +32,8 @@ use Rattle.model_world.specs.Lawful.{IsLawful, opening_stage}
 use Rattle.model_world.specs.World.{Peer, delivered, fresh_peer, message_at, updated}
 use Rattle.model_live.specs.Steps.{Prints, Sends, Updates, Step, Does, Waits, step_at, steps}
 use Rattle.model_live.specs.Words.{AreLive}
-use Rattle.model_live.specs.Together.{after_steps, alone, joined, together, too_large}
-use Rattle.model_live.proofs.AloneLaws.{later-steps, steps-suited, suited-among, together-length}
+use Rattle.model_live.specs.Together.{after_steps, alone, together, too_large}
+use Rattle.model_live.proofs.AloneLaws.{joined-at, later-steps, steps-suited, suited-among, together-length}
 use Rattle.model_live.proofs.HearLaws.{delivered-peer, graph-opens, updated-peer}
 use Rattle.model_live.proofs.StoryLaws.{declared-append}
 use Rattle.model_live.proofs.WithinLaws.{source-suits}
@@ -137,11 +137,6 @@ together-begins g script = record {
 
 alone-size : (g : List Decl) (script : Script) (p : ℕ) → length (alone g script p).contents ≡ length g
 alone-size g script p = (later-steps p (steps p 1 script.commands) (fresh_peer g script.nodes)).size ∙ map-length (λ (d : Decl). least_of script.nodes d.kind) g
-
--- what is held with another's contents
-joined-at : (others contents : List Content) (x : ℕ) → x < length contents → content_at (joined others contents) x ≡ join_contents (content_at contents x) (content_at others x)
-joined-at others contents x low =
-    gained-at (λ y. Some (content_at others y)) 0 contents x low ∙ ap (λ (n : ℕ). join_contents (content_at contents x) (content_at others n)) (let here : 0 + x ≡ x = omega arith in here)
 
 -- what a source gains by a message
 gains : (g : List Decl) (m : Message) (r : Peer) (x : ℕ) → x < length r.contents → IsTrue (is_source (kind_at g x)) → content_at (delivered g m r).contents x ≡ join_contents (content_at r.contents x) (sent_at m.sources (source_number g x))

@@ -1,16 +1,14 @@
 -- What one node heard of another, when both were fed and the mailbox between them is closed.
-use Rattle.std.proofs.Common.{◌≡◌, ℕ, List, [], ◌∷◌, ◌++◌, Some, refl, sym, ap, ◌∙◌, append-nil}
+use Rattle.std.proofs.Common.{◌≡◌, ℕ, List, [], ◌++◌, Some, sym, ap, ◌∙◌}
 use Rattle.std.specs.Prelude.{◌≢◌, slice_get}
 use mathlib.Core.List.{IsPrefix}
 use Rattle.model_graph.specs.Graph.{Decl}
-use Rattle.model_journal.specs.Entry.{Act, Entry, Frame}
-use Rattle.model_graph.specs.Message.{Message}
+use Rattle.model_journal.specs.Entry.{Entry, Frame}
 use Rattle.model_runs.specs.Calls.{frame_of, unbound}
 use Rattle.model_world.specs.Command.{Script}
-use Rattle.model_live.specs.Lived.{heard_by, heard_of, numbered, first_number}
+use Rattle.model_live.specs.Lived.{heard_of, numbered, first_number}
 use Rattle.model_live.specs.Story.{letters}
-use Rattle.model_live.proofs.EndLaws.{result-of}
-use Rattle.model_live.proofs.NumberLaws.{heard-append}
+use Rattle.model_live.proofs.HearLaws.{heard-kept}
 use Rattle.model_live.proofs.StoryLaws.{letters-later}
 use Rattle.lasp_live.specs.Diary.{notes_of, story_of}
 use Rattle.lasp_live.specs.Ends.{Out, In}
@@ -18,14 +16,6 @@ use Rattle.lasp_live.specs.Fed.{HasFed}
 use Rattle.lasp_live.specs.Steady.{setting}
 use Rattle.lasp_live.specs.declared.diary.Diary.{Diary}
 use Rattle.lasp_live.proofs.ClosedLaws.{closed-same}
-
--- results tell of no message
-heard-nothing : (q : ℕ) (more : List Entry) → unbound more ≡ [] → heard_of q more ≡ []
-unfolding heard_of
-heard-nothing q [] results = refl
-heard-nothing q (e ∷ more) results =
-    let b = result-of e more results in
-    ap (λ (a : Act). heard_by q a ++ heard_of q more) b.2 ∙ heard-nothing q more b.3
 
 -- node p heard of node q exactly what that sent, also in the journals when their stores are closed
 pub heard-pair : (g : List Decl) (script : Script) (p q : ℕ) (seen more sent later : List Entry) (d e : Diary) (outs outs' : List Out) (ins ins' : List In)
@@ -36,8 +26,6 @@ heard-pair g script p q seen more sent later d e outs outs' ins ins' fed other o
     let got = fed.got q i at-in (λ same. apart (sym same)) in
     let put = other.put p o at-out apart in
     let X : Frame = frame_of g script.nodes q in
-    heard-append q seen more
-    ∙ ap (λ (l : List (ℕ × Message)). heard_of q seen ++ l) (heard-nothing q more results)
-    ∙ append-nil (heard_of q seen)
+    heard-kept q seen more results
     ∙ got.2
     ∙ ap (numbered (first_number q)) (closed-same i.got o.put got.0 (letters X (story_of sent e)) begins put got.1 ∙ sym (letters-later X sent later (notes_of e) other.story.placed))
