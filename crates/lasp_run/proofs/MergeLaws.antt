@@ -9,9 +9,8 @@ use Rattle.model_program.specs.Merge.{file_at, file_joined, merging_file, mergin
 use Rattle.model_program.specs.declared.refusal.Refusal.{Refusal}
 use Rattle.model_program.specs.declared.failure.Failure.{Failure}
 use Rattle.model_program.proofs.MergeLaws.{more-none, more-file}
-use Rattle.model_program.proofs.PlanLaws.{performs-checked}
+use Rattle.model_program.proofs.PlanLaws.{performs-checked, part-of-part}
 use Rattle.lasp_run.specs.Merge.{Leads, Ends}
-use Rattle.lasp_run.proofs.PartLaws.{part-of-part}
 
 -- ---- one file
 

@@ -1,34 +1,18 @@
 -- A call that opened a file did that part of its plan.
-use Rattle.std.proofs.Common.{refl, sym, ap, subst}
-use Rattle.std.specs.Prelude.{◌≡◌, ℕ, List, Option, Result, Ok, Err}
+use Rattle.std.proofs.Common.{sym, ap, subst}
+use Rattle.std.specs.Prelude.{◌≡◌, ℕ, List, Result, Ok, Err}
 use mathlib.Core.Logic.{inr}
 use Rattle.model_graph.specs.Chain.{◌>>=◌, refusing}
-use Rattle.model_values.specs.Told.{Sees}
-use Rattle.model_program.specs.Plan.{Plan, Says, checked, within, reading, word_at}
-use Rattle.model_program.specs.Follows.{View, Follows, IsPartOf, Stops, Performs}
+use Rattle.model_program.specs.Plan.{Plan, Says, checked, within, reading}
+use Rattle.model_program.specs.Follows.{View, Follows, Performs}
 use Rattle.model_program.specs.declared.refusal.Refusal.{Refusal}
 use Rattle.model_program.specs.declared.failure.Failure.{Failure}
 use Rattle.model_program.specs.declared.failure.Failure.TheVariants.{Refused, ReadFault, Memory}
-use Rattle.model_program.proofs.PlanLaws.{stops-fault}
+use Rattle.model_program.proofs.PlanLaws.{stops-fault, seen-in, checked-ok, checked-err, says-err}
 use Rattle.lasp_call.specs.Opens.{Opens}
 use Rattle.lasp_run.proofs.PartLaws.{stops-memory}
 
-says-err : (words : List (List ℕ)) (w : View) (e : Refusal) → Follows words w (Says (Err e)) (Err (Refused e))
-unfolding Follows
-says-err words w e = refl
-
-seen-in : (v w : View) (words : List (List ℕ)) (f : ℕ) (bytes : List ℕ) → IsPartOf v w → Sees (v.content (word_at words f)) bytes → Sees (w.content (word_at words f)) bytes
-seen-in v w words f bytes part sees = subst (λ (told : Option (List ℕ)). Sees told bytes) (part.content (word_at words f)) sees
-
 -- ---- what the plan goes on with
-
-checked-ok : {B E : Type 0} (refuse : E → Refusal) (read : Result B E) (b : B) (next : B → Plan) → refusing refuse read ≡ Ok b → checked refuse read next ≡ next b
-checked-ok refuse (Ok x) b next e = let same : x ≡ b = cc in ap next same
-checked-ok refuse (Err x) b next e = absurd cc
-
-checked-err : {B E : Type 0} (refuse : E → Refusal) (read : Result B E) (e : Refusal) (next : B → Plan) → refusing refuse read ≡ Err e → checked refuse read next ≡ Says (Err e)
-checked-err refuse (Ok x) e next h = absurd cc
-checked-err refuse (Err x) e next h = let same : refuse x ≡ e = cc in ap (λ (r : Refusal). Says (Err r)) same
 
 reads-on : {B E : Type 0} (read : Result (List ℕ) Refusal) (refuse : E → Refusal) (reader : List ℕ → Result B E) (b : B) (next : B → Plan) → (read >>= (λ bytes. refusing refuse (reader bytes))) ≡ Ok b
     → checked (λ e. e) read (λ bytes. checked refuse (reader bytes) next) ≡ next b

@@ -1,5 +1,5 @@
 -- Parts of a plan, one after the other, and results as texts.
-use Rattle.std.proofs.Common.{ap, ◌∙◌, arith}
+use Rattle.std.proofs.Common.{ap, ◌∙◌}
 use Rattle.std.specs.Prelude.{◌≡◌, ℕ, List, Result, Ok, Err}
 use Rattle.std.specs.declared.vec.Vec.{Vec}
 use Rattle.model_graph.specs.Chain.{◌>>=◌, refusing}
@@ -14,7 +14,7 @@ use Rattle.model_program.specs.Program.{stopped, run_answer}
 use Rattle.model_program.specs.declared.refusal.Refusal.{Refusal}
 use Rattle.model_program.specs.declared.failure.Failure.{Failure}
 use Rattle.model_program.specs.declared.failure.Failure.TheVariants.{Refused, ReadFault, Memory}
-use Rattle.model_program.proofs.PlanLaws.{part-itself, follows-memory, follows-says}
+use Rattle.model_program.proofs.PlanLaws.{part-itself, follows-memory, follows-says, part-of-part}
 use Rattle.lasp_call.specs.Words.{answered}
 use Rattle.lasp_run.specs.Run.{IsStop}
 
@@ -24,16 +24,6 @@ gives-answered answer (Ok text) h = h
 gives-answered answer (Err (Refused e)) h = h
 gives-answered answer (Err (ReadFault f)) h = h
 gives-answered answer (Err Memory) h = h
-
--- ---- calls that are parts of one
-
--- a part of a part is a part of the whole
-pub part-of-part : (u v w : View) → IsPartOf u v → IsPartOf v w → IsPartOf u w
-part-of-part u v w h k = record {
-  content = λ name. h.content name ∙ k.content name;
-  before = λ name. omega (arith, h.before name, k.before name);
-  after = λ name. omega (arith, h.after name, k.after name);
-}
 
 -- ---- one part after the other
 

@@ -11,7 +11,7 @@ use Rattle.model_site.specs.Program.{filing, filing_more, site_answer}
 use Rattle.model_site.specs.declared.site_refusal.SiteRefusal.{SiteRefusal}
 use Rattle.model_site.specs.declared.site_failure.SiteFailure.{SiteFailure}
 use Rattle.model_site.specs.declared.site_failure.SiteFailure.TheVariants.{Refused, ReadFault, Memory}
-use Rattle.model_site.proofs.PlanLaws.{part-of-part}
+use Rattle.model_program.proofs.PlanLaws.{part-of-part}
 use Rattle.lasp_site.specs.Site.{Leads, EndsIn}
 use Rattle.lasp_site.specs.Failure.{answered}
 

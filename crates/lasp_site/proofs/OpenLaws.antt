@@ -1,16 +1,16 @@
 -- A call that opened a file did that part of a site's plan.
 use Rattle.std.proofs.Common.{refl, sym, ap, subst, ◌∙◌}
-use Rattle.std.specs.Prelude.{◌≡◌, ◌<◌, ℕ, List, length, Option, Result, Ok, Err, if◌then◌else◌, nat_lt, Bool, true, false}
+use Rattle.std.specs.Prelude.{◌≡◌, ℕ, List, length, Result, Ok, Err, if◌then◌else◌, nat_lt, Bool, true, false}
 use mathlib.Core.Logic.{inr}
 use Rattle.model_graph.specs.Chain.{◌>>=◌, refusing}
-use Rattle.model_values.specs.Told.{Sees}
-use Rattle.model_program.specs.Follows.{View, IsPartOf}
+use Rattle.model_program.specs.Follows.{View}
 use Rattle.model_program.specs.Plan as program
-use Rattle.model_program.specs.Plan.{file_limit, word_at}
+use Rattle.model_program.specs.Plan.{file_limit}
 use Rattle.model_program.specs.declared.refusal.Refusal.{Refusal}
 use Rattle.model_program.specs.declared.refusal.Refusal.TheVariants.{TooLong}
 use Rattle.model_program.specs.declared.failure.Failure.{Failure}
 use Rattle.model_program.specs.declared.failure.Failure.TheVariants.{Refused, ReadFault, Memory}
+use Rattle.model_program.proofs.PlanLaws.{seen-in}
 use Rattle.model_site.specs.Follows.{Follows, Passes, Stops}
 use Rattle.model_site.specs.Plan.{Plan, Says, checked, given, within, reading}
 use Rattle.model_site.specs.declared.site_refusal.SiteRefusal.{SiteRefusal}
@@ -19,9 +19,6 @@ use Rattle.model_site.specs.declared.site_failure.SiteFailure.TheVariants as sit
 use Rattle.model_site.proofs.PlanLaws.{stops-fault, stops-memory, follows-says}
 use Rattle.lasp_call.specs.Opens.{Opens}
 use Rattle.lasp_site.specs.Failure.{as_site}
-
-seen-in : (v w : View) (words : List (List ℕ)) (f : ℕ) (bytes : List ℕ) → IsPartOf v w → Sees (v.content (word_at words f)) bytes → Sees (w.content (word_at words f)) bytes
-seen-in v w words f bytes part sees = subst (λ (told : Option (List ℕ)). Sees told bytes) (part.content (word_at words f)) sees
 
 -- ---- what the plan goes on with
 

@@ -36,7 +36,7 @@ settles-rest words v f next bytes a (Err (Refused x)) told h = h
 settles-rest words v f next bytes a (Err (ReadFault e)) told h = (inr (bytes, told, h.0), h.1)
 settles-rest words v f next bytes a (Err Memory) told h = tt
 
-told-seen : (next : List ℕ → Option Answer) (told : Option (List ℕ)) (bytes : List ℕ) (a : Answer) → Sees told bytes → option_and_then next told ≡ Some a → (told ≡ Some bytes) × (next bytes ≡ Some a)
+pub told-seen : {X : Type 0} (next : List ℕ → Option X) (told : Option (List ℕ)) (bytes : List ℕ) (a : X) → Sees told bytes → option_and_then next told ≡ Some a → (told ≡ Some bytes) × (next bytes ≡ Some a)
 told-seen next None bytes a sees e = absurd cc
 told-seen next (Some content) bytes a sees e = (ap Some (sym sees), ap next sees ∙ e)
 

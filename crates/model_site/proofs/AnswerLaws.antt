@@ -1,16 +1,16 @@
 -- What a call that followed its plan answered, where the contents of the files that it read are told.
 use Rattle.std.proofs.Common.{refl, sym, ap, subst, ◌∙◌}
-use Rattle.std.specs.Prelude.{◌≡◌, ◌≢◌, ◌⊎◌, ℕ, List, Option, Some, None, option_and_then, Result, Ok, Err}
+use Rattle.std.specs.Prelude.{◌≡◌, ◌≢◌, ◌⊎◌, ℕ, List, Some, Result, Ok, Err}
 use Rattle.std.proofs.lemmas.Option.{same_Some}
 use mathlib.Core.Logic.{inl, inr}
 use Rattle.model_values.specs.Faults.{Rose}
-use Rattle.model_values.specs.Told.{Sees}
 use Rattle.model_program.specs.Ends.{Writing}
 use Rattle.model_program.specs.Follows.{View}
 use Rattle.model_program.specs.Line.{refusal_status}
 use Rattle.model_program.specs.Plan.{word_at}
 use Rattle.model_program.specs.declared.refusal.Refusal.{Refusal}
 use Rattle.model_program.specs.declared.refusal.Refusal.TheVariants as shared
+use Rattle.model_program.proofs.AnswerLaws.{told-seen}
 use Rattle.model_site.specs.Call.{Writes, Begins}
 use Rattle.model_site.specs.Ends.{Ends, Settles, MeetsFault, NoFault}
 use Rattle.model_site.specs.Follows.{Fails, Allows, Follows}
@@ -42,10 +42,6 @@ settles-rest words v f next bytes a (Ok written) told h = h
 settles-rest words v f next bytes a (Err (Refused x)) told h = h
 settles-rest words v f next bytes a (Err (ReadFault e)) told h = (inr (bytes, told, h.0), h.1)
 settles-rest words v f next bytes a (Err Memory) told h = tt
-
-told-seen : (next : List ℕ → Option Answer) (told : Option (List ℕ)) (bytes : List ℕ) (a : Answer) → Sees told bytes → option_and_then next told ≡ Some a → (told ≡ Some bytes) × (next bytes ≡ Some a)
-told-seen next None bytes a sees e = absurd cc
-told-seen next (Some content) bytes a sees e = (ap Some (sym sees), ap next sees ∙ e)
 
 -- where the plan comes to an answer over what is told, the result is that answer, want of memory, or a fault of a file to which the plan comes
 pub follows-told : (words : List (List ℕ)) (v : View) (p : Plan) (r : Result (List ℕ) SiteFailure) (a : Answer) → Follows words v p r → told_answer v.content words p ≡ Some a → Settles words v p a r

@@ -1,6 +1,6 @@
 -- Laws of plans: calls that did parts of a plan, one after the other, followed the whole.
-use Rattle.std.proofs.Common.{refl, sym, ap, subst, ◌∙◌, arith}
-use Rattle.std.specs.Prelude.{◌≡◌, ◌<◌, ◌≤◌, ℕ, List, length, Option, Result, Ok, Err, if◌then◌else◌, Bool}
+use Rattle.std.proofs.Common.{refl, sym, ap, subst}
+use Rattle.std.specs.Prelude.{◌≡◌, ◌<◌, ◌≤◌, ℕ, List, length, Result, Ok, Err, if◌then◌else◌, Bool}
 use mathlib.Core.Logic.{inl, inr}
 use Rattle.std.proofs.lemmas.Bool.{le-ltb, lt-ltb}
 use Rattle.model_graph.specs.Chain.{refusing}
@@ -9,29 +9,13 @@ use Rattle.model_values.specs.Told.{Sees}
 use Rattle.model_program.specs.Follows.{View, IsPartOf}
 use Rattle.model_program.specs.Plan.{file_limit, word_at}
 use Rattle.model_program.specs.declared.refusal.Refusal.TheVariants.{TooLong}
+use Rattle.model_program.proofs.PlanLaws.{rose-wider, seen-in, part-itself}
 use Rattle.model_site.specs.Follows.{Fails, Gives, Follows, Part, Passes, Stops, Performs}
 use Rattle.model_site.specs.Plan.{Plan, Says, Reads, checked, given, within, reading}
 use Rattle.model_site.specs.declared.site_refusal.SiteRefusal.{SiteRefusal}
 use Rattle.model_site.specs.declared.site_refusal.SiteRefusal.TheVariants.{Shared}
 use Rattle.model_site.specs.declared.site_failure.SiteFailure.{SiteFailure}
 use Rattle.model_site.specs.declared.site_failure.SiteFailure.TheVariants.{Refused, ReadFault, Memory}
-
--- ---- calls that are parts of one
-
--- a call is a part of itself
-pub part-itself : (v : View) → IsPartOf v v
-part-itself v = record { content = λ n. refl; before = λ n. omega arith; after = λ n. omega arith }
-
--- a part of a part is a part of the whole
-pub part-of-part : (u v w : View) → IsPartOf u v → IsPartOf v w → IsPartOf u w
-part-of-part u v w h k = record {
-  content = λ name. h.content name ∙ k.content name;
-  before = λ name. omega (arith, h.before name, k.before name);
-  after = λ name. omega (arith, h.after name, k.after name);
-}
-
-rose-wider : (a b c d : ℕ) → a ≤ b → c ≤ d → Rose b c → Rose a d
-rose-wider a b c d h k rose = omega (arith, h, k, rose)
 
 -- what a part of a call followed, the call followed
 fails-wider : (words : List (List ℕ)) (v w : View) (f : ℕ) (r : Result (List ℕ) SiteFailure) → IsPartOf v w → Fails words v f r → Fails words w f r
@@ -46,7 +30,7 @@ unfolding Follows
 follows-wider words v w (Says answer) r part h = h
 follows-wider words v w (Reads f next) r part (inl fails) = inl (fails-wider words v w f r part fails)
 follows-wider words v w (Reads f next) r part (inr (bytes, sees, rest)) =
-    inr (bytes, subst (λ (told : Option (List ℕ)). Sees told bytes) (part.content (word_at words f)) sees, follows-wider words v w (next bytes) r part rest)
+    inr (bytes, seen-in v w words f bytes part sees, follows-wider words v w (next bytes) r part rest)
 
 -- a part was done by one call, and what comes after it by a later one, both within a third
 pub follows-then : {B : Type 0} (words : List (List ℕ)) (u v w : View) (part : Part B) (b : B) (next : B → Plan) (r : Result (List ℕ) SiteFailure) → IsPartOf u w → IsPartOf v w
@@ -80,7 +64,7 @@ unfolding Follows
 passes-read words v f bytes sees short w part next r h =
     inr (
       bytes,
-      subst (λ (told : Option (List ℕ)). Sees told bytes) (part.content (word_at words f)) sees,
+      seen-in v w words f bytes part sees,
       subst (λ (read : Result (List ℕ) SiteRefusal). Follows words w (given read next) r) (sym (within-short f bytes short)) h,
     )
 
@@ -90,7 +74,7 @@ unfolding Follows
 stops-too_long words v f bytes sees long w part next =
     inr (
       bytes,
-      subst (λ (told : Option (List ℕ)). Sees told bytes) (part.content (word_at words f)) sees,
+      seen-in v w words f bytes part sees,
       subst (λ (read : Result (List ℕ) SiteRefusal). Follows words w (given read next) (Err (Refused (Shared (TooLong f))))) (sym (within-long f bytes long)) refl,
     )
 

@@ -2,7 +2,8 @@ use Rattle.std.proofs.Common.{ℕ, sym, subst}
 use Rattle.model_world.specs.Lawful.{opening_stage, AreLawful}
 use Rattle.model_program.specs.Follows.{View, view}
 use Rattle.model_site.specs.Program.{site_answer}
-use Rattle.model_site.proofs.PlanLaws.{part-itself, follows-says}
+use Rattle.model_site.proofs.PlanLaws.{follows-says}
+use Rattle.model_program.proofs.PlanLaws.{part-itself}
 use Rattle.lasp_call.specs.Words.{words_of}
 use Rattle.lasp_site.specs.Failure.{answered}
 use Rattle.lasp_site.proofs.FileLaws.{gives-answered}
