@@ -1,22 +1,20 @@
 -- Looking at a script's commands one after the other.
 use Rattle.std.proofs.Common.{◌≡◌, ℕ, ◌+◌, ◌<◌, ◌≤◌, Bool, true, false, nat_lt, if◌then◌else◌, List, length, drop, Option, Some, None, Result, Ok, Err, refl, sym, ap, subst, ◌∙◌}
 use Rattle.std.specs.Prelude.{slice_get, is_some}
-use Rattle.std.proofs.lemmas.Bool.{le-ltb, lt-ltb, ltb-true}
+use Rattle.std.proofs.lemmas.Bool.{lt-ltb, ltb-true}
 use Rattle.std.proofs.lemmas.List.{drop_all}
 use Rattle.model_values.proofs.ListLaws.{drop-at}
-use Rattle.model_graph.specs.Chain.{◌>>=◌, check}
-use Rattle.model_scripts.specs.declared.script_why.ScriptWhy.TheVariants.{NoSuchNode}
 use Rattle.model_world.specs.Command.{Command, Script}
-use Rattle.model_program.specs.declared.refusal.Refusal.TheVariants as shared
 use Rattle.model_program.specs.Follows.{View}
 use Rattle.model_site.specs.Follows.{Gives, Follows}
 use Rattle.model_site.specs.Plan.{Plan, given}
 use Rattle.model_site.specs.Program.{local_refused, is_for}
 use Rattle.model_site.specs.Site.{own, first_other, AreOwn}
 use Rattle.model_site.specs.declared.site_refusal.SiteRefusal.{SiteRefusal}
-use Rattle.model_site.specs.declared.site_refusal.SiteRefusal.TheVariants.{Shared, NotLocal}
+use Rattle.model_site.specs.declared.site_refusal.SiteRefusal.TheVariants.{NotLocal}
 use Rattle.model_site.specs.declared.site_failure.SiteFailure.{SiteFailure}
 use Rattle.model_site.specs.declared.site_failure.SiteFailure.TheVariants.{Refused, ReadFault, Memory}
+use Rattle.model_site.proofs.BackLaws.{with_node}
 use Rattle.model_site.proofs.PlanLaws.{follows-says, follows-memory}
 use Rattle.model_site.proofs.SiteLaws.{none-other}
 
@@ -33,12 +31,6 @@ unfolding first_other
 other-end p number ks i past = ap (first_other p number) (drop_all i ks past)
 
 -- ---- what is answered of the script
-
-abbrev with_node : ℕ → Script → Bool → Result (Unit {0}) SiteRefusal
-with_node p s b = check b (Shared (shared.Script (length s.commands + 1) NoSuchNode)) >>= (λ _. local_refused (first_other p 1 s.commands))
-
-pub for-none : (p : ℕ) (s : Script) → s.nodes ≤ p → is_for p s ≡ Err (Shared (shared.Script (length s.commands + 1) NoSuchNode))
-for-none p s low = ap (with_node p s) (le-ltb p s.nodes low)
 
 pub for-other : (p number : ℕ) (s : Script) → p < s.nodes → first_other p 1 s.commands ≡ Some number → is_for p s ≡ Err (NotLocal number)
 for-other p number s there e = ap (with_node p s) (lt-ltb p s.nodes there) ∙ ap local_refused e

@@ -76,7 +76,7 @@ first-found p number (k ∷ rest) (suc place) other at foreign before =
     ∙ first-found p (number + 1) rest place other at foreign before.1
     ∙ ap (λ (n : ℕ). Some n) (let same : number + 1 + place ≡ number + suc place = omega arith in same)
 
-abbrev with_node : ℕ → Script → Bool → Result (Unit {0}) SiteRefusal
+abbrev pub with_node : ℕ → Script → Bool → Result (Unit {0}) SiteRefusal
 with_node p s b = check b (Shared (shared.Script (length s.commands + 1) NoSuchNode)) >>= (λ _. local_refused (first_other p 1 s.commands))
 
 for-none : (p : ℕ) (s : Script) → s.nodes ≤ p → is_for p s ≡ Err (Shared (shared.Script (length s.commands + 1) NoSuchNode))
