@@ -1,42 +1,26 @@
 -- Where the beginning and the counts of a delta fail.
-use Rattle.std.proofs.Common.{◌≡◌, ℕ, ◌+◌, ◌<◌, ◌≤◌, true, eqb, List, [], ◌∷◌, length, sym, subst, arith}
+use Rattle.std.proofs.Common.{◌≡◌, ℕ, ◌+◌, ◌<◌, ◌≤◌, List, [], ◌∷◌, length, sym, subst, arith}
 use Rattle.std.specs.List.{flat_map}
 use Rattle.std.specs.Int.{w8, w64, to_be_bytes}
-use Rattle.std.proofs.lemmas.Bool.{eqb-true, eq-eqb}
 use Rattle.model_states.specs.Counts.{count_at}
 use Rattle.model_wire.specs.declared.wire_why.WireWhy.TheVariants as why
-use Rattle.model_wire.specs.Reader.{Reader, counted, list_at, number_at, ranged_at, magic_at}
+use Rattle.model_wire.specs.Reader.{list_at, ranged_at, magic_at}
 use Rattle.model_wire.specs.Message.{update_limit, nothing_more, numbers_at, counts_at}
 use Rattle.model_wire.specs.Lawful.{AreAtMost}
-use Rattle.model_wire.specs.Stuck.{Failure, EndsWithin, IsRefused, FailsBehind, EitherFails, FailsNumber, FailsCounted, FailsByte, FailsCounts, spelled_all_counts}
+use Rattle.model_wire.specs.Stuck.{Failure, FailsBehind, EitherFails, FailsNumber, FailsCounted, FailsCounts, spelled_all_counts}
 use Rattle.model_wire.specs.Stuck as stuck
-use Rattle.model_wire.proofs.Codecs.{wide8, wide64, IsBelow, number_codec, AllHave}
+use Rattle.model_wire.proofs.Codecs.{wide8, wide64, AllHave}
 use Rattle.model_wire.proofs.ValueLaws.{HasRange, ranged_codec}
 use Rattle.model_wire.proofs.SourceLaws.{Ranged, numbers_known, numbers_ranged}
-use Rattle.model_wire.proofs.MessageLaws.{AreCounts, counts_codec, Magic, magic_codec}
-use Rattle.model_wire.proofs.Failing.{FailsAs, counted_fail, both_fail, tested_fail, after, FailsNext, list_fail, Implies, fail_as, either_as, refused_as, behind_as, as_it_is}
-use Rattle.model_wire.proofs.FieldFails.{range_fail, numbered_fail, number_fail}
+use Rattle.model_wire.proofs.MessageLaws.{AreCounts, counts_codec}
+use Rattle.model_wire.proofs.Failing.{FailsAs, both_fail, after, FailsNext, list_fail, Implies, fail_as, either_as, behind_as, as_it_is}
+use Rattle.model_wire.proofs.FieldFails.{range_fail, numbered_fail}
+use Rattle.model_wire.proofs.SourceFails.{magic_fail, byte_fail}
 use Rattle.model_deltas.specs.Reader.{next_replica, later_counts_at, Span, span_at, delta_version_at}
 use Rattle.model_deltas.specs.Stuck.{AreLater, FailsLater, FailsSpan, FailsDeltaVersion, FailsDeltaBeginning}
 use Rattle.model_deltas.proofs.CodecLaws as codecs
 
 -- ---- the beginning
-
-abbrev FailsAt : (ℕ → Type 0) → Failure
-FailsAt May = EitherFails (EndsWithin 1) (IsRefused (IsBelow 256) (to_be_bytes w8) May why.Magic)
-
-magic_fail : (b : ℕ) → FailsAs ℕ (magic_at b) (FailsAt (λ n. n ≡ b))
-magic_fail b =
-    fail_as ℕ (magic_at b) (FailsAt (λ n. eqb n b ≡ true)) (FailsAt (λ n. n ≡ b)) (tested_fail ℕ (IsBelow 256) (to_be_bytes w8) (EndsWithin 1) (number_at w8) (λ n. eqb n b) why.Magic (number_codec w8 256 wide8) (number_fail w8))
-    (either_as _ _ _ _ (as_it_is (EndsWithin 1)) (refused_as ℕ (IsBelow 256) (IsBelow 256) (to_be_bytes w8) (λ n. eqb n b ≡ true) (λ n. n ≡ b) why.Magic (λ n h. h) (λ n _ h. eq-eqb n b h)))
-    (either_as _ _ _ _ (as_it_is (EndsWithin 1)) (refused_as ℕ (IsBelow 256) (IsBelow 256) (to_be_bytes w8) (λ n. n ≡ b) (λ n. eqb n b ≡ true) why.Magic (λ n h. h) (λ n _ h. eqb-true n b h)))
-
-byte_fail : (b : ℕ) (next : Reader ℕ) (Next : Failure) → b < 256 → FailsAs ℕ next Next → FailsAs ℕ (counted (magic_at b) (λ _. next)) (FailsByte b Next)
-byte_fail b next Next small h =
-    fail_as ℕ (counted (magic_at b) (λ _. next)) (EitherFails (FailsAt (λ n. n ≡ b)) (FailsBehind (Magic b) (to_be_bytes w8) (λ _. Next))) (FailsByte b Next)
-    (counted_fail ℕ ℕ (Magic b) (to_be_bytes w8) (FailsAt (λ n. n ≡ b)) (λ _. Next) (magic_at b) (λ _. next) (magic_codec b) (magic_fail b) (λ _ _. h))
-    (either_as _ _ _ _ (as_it_is (FailsAt (λ n. n ≡ b))) (behind_as ℕ (Magic b) (λ n. n ≡ b) (to_be_bytes w8) (λ _. Next) (λ _. Next) (λ n k. eqb-true n b k.1) (λ n k. as_it_is Next)))
-    (either_as _ _ _ _ (as_it_is (FailsAt (λ n. n ≡ b))) (behind_as ℕ (λ n. n ≡ b) (Magic b) (to_be_bytes w8) (λ _. Next) (λ _. Next) (λ n k. (omega (arith, k, small), eq-eqb n b k)) (λ n k. as_it_is Next)))
 
 pub version_fail : FailsAs ℕ delta_version_at FailsDeltaBeginning
 unfolding delta_version_at

@@ -163,16 +163,16 @@ body_fail version v =
     (behind_as (List ℕ) AreCounts messages.AreCounts spelled_all_counts (λ counts. FailsSources version (length counts)) (λ counts. FailsSources version (length counts)) (λ counts h. (h.nodes, h.each)) (λ counts h. as_it_is (FailsSources version (length counts))))))
 
 -- a byte that has to be b
-abbrev FailsAt : (ℕ → Type 0) → Failure
+abbrev pub FailsAt : (ℕ → Type 0) → Failure
 FailsAt May = EitherFails (EndsWithin 1) (IsRefused (IsBelow 256) (to_be_bytes w8) May why.Magic)
 
-magic_fail : (b : ℕ) → FailsAs ℕ (magic_at b) (FailsAt (λ n. n ≡ b))
+pub magic_fail : (b : ℕ) → FailsAs ℕ (magic_at b) (FailsAt (λ n. n ≡ b))
 magic_fail b =
     fail_as ℕ (magic_at b) (FailsAt (λ n. eqb n b ≡ true)) (FailsAt (λ n. n ≡ b)) (tested_fail ℕ (IsBelow 256) (to_be_bytes w8) (EndsWithin 1) (number_at w8) (λ n. eqb n b) why.Magic (number_codec w8 256 wide8) (number_fail w8))
     (either_as _ _ _ _ (as_it_is (EndsWithin 1)) (refused_as ℕ (IsBelow 256) (IsBelow 256) (to_be_bytes w8) (λ n. eqb n b ≡ true) (λ n. n ≡ b) why.Magic (λ n h. h) (λ n _ h. eq-eqb n b h)))
     (either_as _ _ _ _ (as_it_is (EndsWithin 1)) (refused_as ℕ (IsBelow 256) (IsBelow 256) (to_be_bytes w8) (λ n. n ≡ b) (λ n. eqb n b ≡ true) why.Magic (λ n h. h) (λ n _ h. eqb-true n b h)))
 
-byte_fail : (b : ℕ) (next : Reader ℕ) (Next : Failure) → b < 256 → FailsAs ℕ next Next → FailsAs ℕ (counted (magic_at b) (λ _. next)) (FailsByte b Next)
+pub byte_fail : (b : ℕ) (next : Reader ℕ) (Next : Failure) → b < 256 → FailsAs ℕ next Next → FailsAs ℕ (counted (magic_at b) (λ _. next)) (FailsByte b Next)
 byte_fail b next Next small h =
     fail_as ℕ (counted (magic_at b) (λ _. next)) (EitherFails (FailsAt (λ n. n ≡ b)) (FailsBehind (messages.Magic b) (to_be_bytes w8) (λ _. Next))) (FailsByte b Next)
     (counted_fail ℕ ℕ (messages.Magic b) (to_be_bytes w8) (FailsAt (λ n. n ≡ b)) (λ _. Next) (magic_at b) (λ _. next) (messages.magic_codec b) (magic_fail b) (λ _ _. h))
