@@ -20,6 +20,7 @@ use Rattle.model_journal.specs.Journal.{graph, val}
 use Rattle.model_core.specs.Core.{is_met}
 use Rattle.lasp_state.specs.Threshold.{is_in}
 use Rattle.lasp_graph.specs.States.{held_at, held_of}
+use Rattle.lasp_graph.proofs.DeltaLaws.{set-flat}
 use Rattle.lasp_replica.specs.Parts.{history_at}
 use Rattle.lasp_replica.specs.Reading.{rows_since, HasChanged}
 use Rattle.lasp_replica.specs.Replica.{frame_of, entries_of, parts_of, growths_at, IsReplica}
@@ -35,9 +36,8 @@ use Rattle.lasp_replica.proofs.SettledLaws.{histories-many, history-found}
 use Rattle.lasp_replica.proofs.UpdateLaws.{set-kind}
 use Rattle.lasp_replica.specs.Kept.{Kept}
 use Rattle.model_states.specs.Threshold.{set, is_shape}
-use Rattle.lasp_state.specs.State.{content_of, shape_of}
+use Rattle.lasp_state.specs.State.{shape_of}
 use Rattle.lasp_state.specs.declared.state.State.{State}
-use Rattle.lasp_state.specs.declared.state.State.TheVariants as state
 use Rattle.std.proofs.lemmas.List.{take-append-drop}
 use Rattle.model_journal.specs.Clean.{version}
 use Rattle.model_journal.proofs.JournalLaws.{journal-later}
@@ -182,13 +182,6 @@ lacks-below (Added vs) s t place up_s up_t low it = below-at false s t vs place 
 lacks-below (Removed vs) s t place up_s up_t low it = below-at true s t vs place up_s up_t low it
 
 -- ---- reads
-
-set-flat : (s : State) → shape_of s ≡ set → content_of s ≡ of_set (content_of s).rows
-set-flat (state.Set rows) e = refl
-set-flat (state.Grow values) e = cc
-set-flat (state.Count counts) e = cc
-set-flat (state.Max m) e = cc
-set-flat (state.Fold rows n) e = cc
 
 -- a read that is known to lack a value isn't met
 pub waiting-unmet : (X : Frame) (entries : List Entry) (r : ReadNo) → IsWaiting X entries r → IsTrue r.is_lacking → is_met X entries (read_of r) ≡ false

@@ -127,7 +127,7 @@ longer-right n s t up long = let most = length-at_most t (join s t) up (ascendin
 -- ---- the states that a process had before
 
 -- a set's content is that of its rows
-set-flat : (s : State) → shape_of s ≡ set → content_of s ≡ of_set (content_of s).rows
+pub set-flat : (s : State) → shape_of s ≡ set → content_of s ≡ of_set (content_of s).rows
 set-flat (state.Set rows) e = refl
 set-flat (state.Grow values) e = absurd cc
 set-flat (state.Count counts) e = absurd cc

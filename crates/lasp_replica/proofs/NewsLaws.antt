@@ -14,6 +14,7 @@ use Rattle.lasp_state.specs.declared.state.State.{State}
 use Rattle.lasp_state.specs.declared.state.State.TheVariants as state
 use Rattle.lasp_state.specs.State.{content_of, shape_of}
 use Rattle.lasp_graph.specs.States.{Held, held_of, held_at, grown, AreJoinable}
+use Rattle.lasp_graph.proofs.DeltaLaws.{set-flat}
 use Rattle.lasp_replica.specs.Delivery.{IsTaken}
 use Rattle.lasp_replica.proofs.TakenLaws.{held-here, joined-set, taken-still}
 
@@ -26,14 +27,6 @@ new-behind ((k, false) ∷ rows) = ap (λ (s : List Row). (k, false) ∷ s) (new
 pub all-new : (before after : List Row) → length before ≡ 0 → changed before after ≡ after
 all-new [] after e = new-behind after
 all-new (r ∷ before) after e = absurd cc
-
--- a set's content is that of its rows
-set-flat : (s : State) → shape_of s ≡ set → content_of s ≡ of_set (content_of s).rows
-set-flat (state.Set rows) e = refl
-set-flat (state.Grow values) e = absurd cc
-set-flat (state.Count counts) e = absurd cc
-set-flat (state.Max m) e = absurd cc
-set-flat (state.Fold rows n) e = absurd cc
 
 -- the new rows alone give the same join
 join-rows : (s t : Content) → t ≡ of_set t.rows → join_contents s (of_set (changed s.rows t.rows)) ≡ join_contents s t
