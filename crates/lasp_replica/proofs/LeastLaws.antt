@@ -1,8 +1,9 @@
 -- What a replica is to which nothing has happened.
-use Rattle.std.proofs.Common.{zero, suc, ℕ, ◌≡◌, ◌+◌, ◌≤◌, ◌<◌, refl, sym, ap, subst, ◌∙◌, arith}
+use Rattle.std.proofs.Common.{ℕ, ◌≡◌, ◌+◌, ◌≤◌, ◌<◌, refl, sym, ap, subst, ◌∙◌, arith}
 use Rattle.std.specs.Prelude.{List, [], ◌∷◌, ◌++◌, length, map, replicate, take}
 use Rattle.std.specs.Arc.{arc_value}
 use Rattle.std.proofs.Math.Seq.{take-length}
+use Rattle.std.proofs.lemmas.List.{replicate_more}
 use Rattle.model_states.specs.Counts.{zeros}
 use Rattle.model_states.proofs.CountLaws.{length-zeros}
 use Rattle.model_graph.specs.Graph.{Decl}
@@ -23,14 +24,10 @@ use Rattle.lasp_replica.proofs.SuitLaws.{suited-none}
 
 -- ---- lists of one value
 
-replicate-push : {X : Type 0} (n : ℕ) (x : X) → replicate (suc n) x ≡ replicate n x ++ x ∷ []
-replicate-push zero x = refl
-replicate-push (suc n) x = ap (λ (xs : List _). x ∷ xs) (replicate-push n x)
-
 -- one more of the same
 pub push-replicate : {X : Type 0} (xs : List X) (n : ℕ) (x y : X) → xs ≡ replicate n x → y ≡ x → xs ++ y ∷ [] ≡ replicate (n + 1) x
 push-replicate xs n x y all same =
-    ap (λ (zs : List _). zs ++ y ∷ []) all ∙ ap (λ z. replicate n x ++ z ∷ []) same ∙ sym (ap (λ (k : ℕ). replicate k x) (let next : n + 1 ≡ suc n = omega arith in next) ∙ replicate-push n x)
+    ap (λ (zs : List _). zs ++ y ∷ []) all ∙ ap (λ z. replicate n x ++ z ∷ []) same ∙ replicate_more n x
 
 pub ruleset pushes = (push-replicate)
 
