@@ -437,7 +437,3 @@ pushed r old mid new by x o own same done items copy =
     ap (λ (es : List Entry). map entry_of es) (where-ok r new (mid ++ update_entry by x own ∷ []) mid done items)
     ∙ map-append entry_of mid (update_entry by x own ∷ [])
     ∙ (λ i. map entry_of (same i) ++ model.entry by (model.Update x (copy i)) ∷ [])
-
--- the entry of the update stands behind the others
-pub written : {A E : Type 0} (r : Result A E) (old mid new : List Entry) (by x : ℕ) (own : Op) → mid ≡ old → IsOk r → new ≡ (if is_ok r then mid ++ update_entry by x own ∷ [] else mid) → new ≡ old ++ update_entry by x own ∷ []
-written r old mid new by x own same done items = where-ok r new (mid ++ update_entry by x own ∷ []) mid done items ∙ ap (λ (es : List Entry). es ++ update_entry by x own ∷ []) same

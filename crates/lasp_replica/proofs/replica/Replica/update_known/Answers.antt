@@ -1,7 +1,8 @@
 use Rattle.std.proofs.Common.{ℕ, ◌≡◌, Some, Option, slice_get, length, false, refl, sym, ap, subst, ◌∙◌, arith}
 use Rattle.lasp_replica.specs.Replica.{or_too_many}
 use Rattle.lasp_replica.specs.declared.refused.UpdateRefused.{UpdateRefused}
-use Rattle.lasp_replica.proofs.UpdateLaws.{checked, pushed, written, counted, count-found, stays, on-err}
+use Rattle.lasp_replica.proofs.ExtendLaws.{written}
+use Rattle.lasp_replica.proofs.UpdateLaws.{checked, pushed, counted, count-found, stays, on-err}
 use Rattle.lasp_replica.proofs.StillLaws.{refusal-known, updated-known}
 use Rattle.lasp_replica.proofs.replica.Replica.update_known.Goals as goal
 
@@ -22,7 +23,7 @@ returns-clause-ok c =
     updated-known old c.args.var c.args.op.now c.requires.replica c.requires.known _ c.args.by c.requires.small c.recall_op.ensures (checked old c.args.var c.args.op.now c.in_ok-check_update.ensures)
     refl refl refl (counted old old c.from-me.result c.at-k.result c.set.new.self refl refl c.from-me.ensures c.at-k.ensures c.set.ensures) refl refl refl
     (pushed c.push.result old.journal.items c.reserve.new.self.items c.push.new.self.items c.args.by c.args.var c.args.op.now c.in_ok-own.own c.reserve.ensures.items done c.push.ensures.items c.in_ok-own.ensures.op)
-    c.in_ok-own.own (written c.push.result old.journal.items c.reserve.new.self.items c.push.new.self.items c.args.by c.args.var c.in_ok-own.own c.reserve.ensures.items done c.push.ensures.items)
+    c.in_ok-own.own (written c.push.result c.push.new.self.items c.reserve.new.self.items old.journal.items _ done c.push.ensures.items c.reserve.ensures.items)
     (c.in_ok-own.ensures.shape (length old.counts))
 
 pub returns-clause-answer : goal.returns-clause-answer
