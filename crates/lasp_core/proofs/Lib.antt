@@ -7,4 +7,5 @@ pub mod LaterLaws
 pub mod JobLaws
 pub mod SinceLaws
 pub mod TailLaws
+pub mod MessageLaws
 pub mod ExactLaws

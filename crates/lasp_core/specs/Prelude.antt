@@ -8,12 +8,14 @@ pub use Rattle.model_graph.specs.Evaluation.{equation, eval}
 pub use Rattle.model_graph.specs.Graph.{kind_at}
 pub use Rattle.model_graph.specs.Lawful.{IsDerived, variable_limit}
 pub use Rattle.model_graph.specs.Order.{ContentsAtMost}
+pub use Rattle.model_world.specs.World.{message_at}
 pub use Rattle.model_journal.specs.Clean.{IsClean, base}
 pub use Rattle.model_journal.specs.Entry.{Entry, Frame, entry}
 pub use Rattle.model_journal.specs.Journal.{graph, vals}
 pub use Rattle.model_readings.specs.Lawful.{FitsAll}
 pub use Rattle.model_core.specs.Core.{Core, Read, entered, is_met}
 pub use Rattle.model_core.specs.Known.{BringsNothing, HasLeast}
+pub use Rattle.model_core.specs.Peer.{peer_of}
 pub use Rattle.lasp_state.specs.State.{content_of, op_of}
 pub use Rattle.lasp_state.specs.Threshold.{threshold_of}
 pub use Rattle.lasp_state.specs.declared.state.State.{State}

@@ -27,6 +27,7 @@ mod kept;
 mod lacking;
 mod laws;
 mod look;
+mod message;
 mod news;
 mod parked;
 mod read;

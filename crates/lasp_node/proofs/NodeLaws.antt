@@ -10,38 +10,33 @@ use Rattle.model_graph.specs.Graph.{Decl, is_source, kind_at}
 use Rattle.model_graph.specs.Evaluation.{content_at, first_large}
 use Rattle.model_graph.specs.Lawful.{shape_of, variable_limit}
 use Rattle.model_graph.proofs.PlaceLaws.{at-set, from-nothing, length-push}
-use Rattle.model_graph.specs.Message.{Message, Sent, sent_at, source_number, message_of, brought, with_gain, gained}
+use Rattle.model_graph.specs.Message.{Message, sent_at, source_number, brought, with_gain, gained}
 use Rattle.model_graph.proofs.MessageLaws.{gained-length, gained-at}
 use Rattle.model_readings.specs.Lawful.{IsGraph, IsNext}
-use Rattle.model_wire.specs.Lawful.{IsMessage}
-use Rattle.model_world.specs.World.{updated, delivered, extended, message_at}
+use Rattle.model_world.specs.World.{updated, delivered, extended}
 use Rattle.model_runs.specs.Held.{IsSentTo, IsUpdate}
 use Rattle.model_runs.specs.Part.{BringsAsMuch}
-use Rattle.model_runs.proofs.HeldLaws.{held-message}
 use Rattle.model_runs.proofs.SourceLaws.{update-source}
 use Rattle.model_journal.specs.Entry as model
 use Rattle.model_journal.specs.Entry.{Frame, entry}
 use Rattle.model_journal.specs.Journal.{graph, vals, val, counts, sources}
 use Rattle.model_journal.specs.Legal.{IsLegal}
 use Rattle.model_journal.proofs.CleanLaws.{vals-length}
-use Rattle.model_core.specs.Core.{Core, IsCore, entered}
+use Rattle.model_core.specs.Core.{Core, entered}
 use Rattle.model_core.specs.Peer.{peer_of}
 use Rattle.model_core.proofs.MessageLaws.{sent-first}
 use Rattle.model_core.proofs.PeerLaws.{graph-extended, peer-updated, peer-delivered, peer-extended}
-use Rattle.model_core.proofs.SourceLaws.{sources-length, sources-source, sources-derived, sources-sent}
+use Rattle.model_core.proofs.SourceLaws.{sources-length, sources-source, sources-derived}
 use Rattle.model_core.proofs.ValidLaws.{val-small}
 use Rattle.lasp_state.specs.declared.op.Op.{Op}
 use Rattle.lasp_state.specs.declared.op.Op.TheVariants as op
 use Rattle.lasp_state.specs.State.{op_of, IsOpOf}
-use Rattle.lasp_graph.specs.States.{Held, contents_of}
-use Rattle.lasp_graph.proofs.Evaluation.{length-contents}
 use Rattle.lasp_drive.specs.Node.{Updates, Delivers}
 use Rattle.lasp_replica.specs.declared.refused.UpdateRefused.{UpdateRefused}
 use Rattle.lasp_replica.specs.declared.refused.UpdateRefused.TheVariants as update
 use Rattle.lasp_replica.specs.declared.refused.DeliverRefused.{DeliverRefused}
 use Rattle.lasp_replica.specs.declared.refused.DeliverRefused.TheVariants as deliver
 use Rattle.lasp_core.specs.Core.{declared}
-use Rattle.lasp_core.proofs.TailLaws.{counts-below}
 use Rattle.lasp_replica.specs.Replica.{shape_for, is_for, update_check, or_too_many, update_refusal, IsAnswered, IsDelivered}
 
 -- ---- the same node
@@ -64,21 +59,6 @@ if-ok P Q (Err e) f p = tt
 pub on-ok : {A E P Q : Type 0} (r : Result A E) → (P → Q) → OnOk r P → OnOk r Q
 on-ok (Ok a) f p = f p
 on-ok (Err e) f p = tt
-
--- ---- what is sent
-
-pub message-same : (X : Frame) (h : List model.Entry) (g : List Decl) (states : List Held) (cs : List ℕ) → g ≡ graph X h → contents_of states ≡ vals X h → cs ≡ counts X h → message_of g (contents_of states) cs ≡ message_at (graph X h) (peer_of X h)
-message-same X h g states cs decls contents known =
-    (λ i. message_of (decls i) (contents i) (known i))
-    ∙ ap (λ (sent : List Sent). record { counts = counts X h; sources = sent }) (sym (sources-sent (graph X h) (vals X h)))
-
-pub states-long : (X : Frame) (h : List model.Entry) → IsLegal X h → (g : List Decl) (states : List Held) → g ≡ graph X h → contents_of states ≡ vals X h → length states ≡ length g
-states-long X h legal g states decls contents =
-    sym (length-contents states) ∙ ap (λ (cs : List Content). length cs) contents ∙ vals-length X h legal ∙ sym (ap (λ (ds : List Decl). length ds) decls)
-
-pub message-lawful : (c : Core) → IsCore c → IsGraph (graph c.frame c.entries) → IsMessage (message_at (graph c.frame c.entries) (peer_of c.frame c.entries))
-message-lawful c core lawful =
-    held-message c.frame.nodes (graph c.frame c.entries) (peer_of c.frame c.entries) lawful (omega (arith, core.legal.member)) core.few core.held (counts-below c core)
 
 -- ---- declarations
 

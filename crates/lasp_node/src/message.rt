@@ -12,8 +12,5 @@ use std::alloc::{AllocError, Global};
 pub fn message_of(alloc: Global, core: &Core) -> Result<Message, AllocError>
     ensures { IfOk result (λ m. m ≡ message_at (journal.graph core.now.frame core.now.entries) (peer_of core.now.frame core.now.entries)) }
 {
-    core.recall();
-    let graph = core.graph();
-    graph.recall();
-    lasp_gossip::message_of(alloc, graph, core.states(), core.counts().as_slice())
+    core.message(alloc)
 }

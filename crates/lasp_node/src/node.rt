@@ -7,7 +7,6 @@ ghost use Rattle.lasp_core.specs.Reads.{read_of};
 ghost use Rattle.lasp_node.specs.Settling.{IsIdle};
 ghost use Rattle.lasp_node.specs.Prelude.{IsTailOf, entries_sent, node_of};
 
-use super::message::message_of;
 use super::settling::settle;
 use lasp_core::{Core, DeliverRefused, ReadNo, UpdateRefused};
 use lasp_drive::{FreshNode, Letter, Node, NodeStop, Tail};
@@ -91,12 +90,12 @@ impl Node for CoreNode {
 
     fn message(&mut self, alloc: Global) -> Result<Message, AllocError> {
         self.core.recall();
-        message_of(alloc, &self.core)
+        self.core.message(alloc)
     }
 
     fn letter(&mut self, alloc: Global, i: u32) -> Result<Letter, AllocError> {
         self.core.recall();
-        let whole = message_of(alloc, &self.core)?;
+        let whole = self.core.message(alloc)?;
         let tail = self.tail(alloc)?;
         self.sent = Some(LastSent {
             number: i,

@@ -1,5 +1,4 @@
 pub mod TurnLaws
-pub mod MessageLaws
 pub mod EvaluatedLaws
 pub mod SettleLaws
 pub mod BringLaws

@@ -3,7 +3,6 @@
 ghost use Rattle.std.specs.Prelude.{◌≡◌, ◌≤◌, [], false, IfOk, IfSome, length};
 ghost use Rattle.lasp_store.specs.Prelude.{HadTurn, IsInTurn, HasEnded, IsSent, IsTailFrom, frame_of};
 
-use crate::message::message_of;
 use crate::store::{Feed, Store};
 use lasp_core::Core;
 use lasp_wire::Message;
@@ -36,7 +35,7 @@ fn sent_by(alloc: Global, core: &Core, since: Option<u64>) -> Result<Sent, Alloc
     requires { IfSome since (λ n. n ≤ length core.now.entries) }
     ensures { IfOk result (IsSent core.now.frame core.now.entries since) }
 {
-    let whole = message_of(alloc, core)?;
+    let whole = core.message(alloc)?;
     let tail = tail_from(alloc, core, since)?;
     let entries = core.journal_len();
     Ok(Sent {

@@ -2,23 +2,12 @@
 
 ghost use Rattle.std.specs.Prelude.{◌≡◌, [], false, IfOk};
 ghost use Rattle.lasp_store.specs.Prelude.{message_at, peer_of, HadTurn, IsInTurn, HasEnded, frame_of, graph_seen};
-ghost use Rattle.model_journal.specs.Journal as journal;
 
 use crate::store::{Feed, Store};
 use lasp_core::Core;
 use lasp_wire::Message;
 use std::alloc::{AllocError, Global};
 use std::sync::Wait;
-
-/// The message of a core: its counts, and its sources in their order, each by its name and kind. It copies names and counts, and shares the states' rows.
-pub(crate) fn message_of(alloc: Global, core: &Core) -> Result<Message, AllocError>
-    ensures { IfOk result (λ m. m ≡ message_at (journal.graph core.now.frame core.now.entries) (peer_of core.now.frame core.now.entries)) }
-{
-    core.recall();
-    let graph = core.graph();
-    graph.recall();
-    lasp_gossip::message_of(alloc, graph, core.states(), core.counts().as_slice())
-}
 
 impl Store {
     fn end_message(
@@ -32,7 +21,7 @@ impl Store {
         ensures message { IfOk result (λ m. m ≡ message_at (graph_seen f.new) (peer_of (frame_of f.new) f.new.seen)) }
     {
         core.recall();
-        let message = message_of(alloc, &core);
+        let message = core.message(alloc);
         self.end(f, core);
         message
     }

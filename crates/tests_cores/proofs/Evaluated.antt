@@ -10,7 +10,7 @@ use Rattle.model_core.specs.Core.{Core, IsCore}
 use Rattle.model_core.proofs.SourceLaws.{sources-source}
 use Rattle.lasp_graph.specs.States.{Held, contents_of}
 use Rattle.lasp_graph.specs.Evaluated.{AreNarrow}
-use Rattle.lasp_node.proofs.NodeLaws.{states-long}
+use Rattle.lasp_core.proofs.MessageLaws.{states-long}
 
 -- what a source may hold in a message is narrow
 abbrev pub IsNarrow : Type 0
