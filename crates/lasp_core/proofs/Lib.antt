@@ -8,4 +8,5 @@ pub mod JobLaws
 pub mod SinceLaws
 pub mod TailLaws
 pub mod MessageLaws
+pub mod EvaluatedLaws
 pub mod ExactLaws

@@ -4,7 +4,7 @@ use Rattle.std.specs.Prelude.{IfOk, drop, nat_lt, slice_get}
 use Rattle.std.specs.List.{range_with_len}
 use Rattle.std.proofs.lemmas.Bool.Decides.{nat_tests}
 use Rattle.std.proofs.lemmas.List.{take_all}
-use Rattle.model_core.specs.Core.{Core, IsCore, entered}
+use Rattle.model_core.specs.Core.{Core, entered}
 use Rattle.lasp_core.specs.Core.{AreOfKind, fresh_core}
 use Rattle.model_core.specs.Peer.{peer_of}
 use Rattle.model_core.proofs.PeerLaws.{peer-fresh}
@@ -12,7 +12,6 @@ use Rattle.model_core.proofs.SourceLaws.{sources-length, sources-source}
 use Rattle.model_graph.specs.Evaluation.{content_at, eval, first_large, least_of}
 use Rattle.model_graph.specs.Graph.{Kind, OrSet, GSet, Counter, MaxReg, Union, Product, Intersection, Map, Filter, Fold, Decl, is_set, is_source, kind_at}
 use Rattle.model_graph.specs.Lawful.{shape_of}
-use Rattle.model_graph.specs.Width.{HasWidth}
 use Rattle.model_graph.proofs.EvalLaws.{eval-sources}
 use Rattle.model_graph.proofs.PlaceLaws.{map-length}
 use Rattle.model_journal.specs.Entry.{Deliver, Update, Entry, Frame, entry}
@@ -26,7 +25,6 @@ use Rattle.model_runs.specs.Calls.{fed, frame_of}
 use Rattle.model_states.specs.Content.{Content, join_contents, row_limit, size_of}
 use Rattle.model_states.specs.Threshold.{set}
 use Rattle.model_states.specs.Update.{Op}
-use Rattle.model_wire.specs.Lawful.{IsSource}
 use Rattle.model_world.specs.Command.{Command, Script}
 use Rattle.model_world.specs.Lawful.{IsLawful, opening_stage}
 use Rattle.model_world.specs.World.{Peer, delivered, fresh_peer, message_at, updated}
@@ -37,14 +35,13 @@ use Rattle.model_live.proofs.AloneLaws.{joined-at, later-steps, steps-suited, su
 use Rattle.model_live.proofs.HearLaws.{delivered-peer, graph-opens, updated-peer}
 use Rattle.model_live.proofs.StoryLaws.{declared-append}
 use Rattle.model_live.proofs.WithinLaws.{source-suits}
-use Rattle.lasp_graph.specs.Evaluated.{AreNarrow, AreSets, AreSmall, Evaluates, seen}
+use Rattle.lasp_graph.specs.Evaluated.{AreSets, AreSmall, Evaluates, seen}
 use Rattle.lasp_graph.specs.States.{Held, contents_of}
 use Rattle.lasp_graph.specs.declared.inputs.EvalAll.{EvalAll}
 use Rattle.lasp_graph.specs.declared.inputs.EvalAll.TheVariants as evals
 use Rattle.lasp_script.specs.Command.{command_of, until_of}
 use Rattle.lasp_script.specs.declared.command.Command as written
 use Rattle.lasp_state.specs.State.{op_of}
-use Rattle.lasp_graph.proofs.Evaluation.{length-contents}
 use Rattle.lasp_live.specs.Did.{IsStepAt}
 use Rattle.lasp_live.specs.Large.{HasStepped, IsAlone, IsAloneAt, IsLargeOf, IsSmallStep, IsTogether, IsTogetherFrom}
 use Rattle.lasp_live.specs.Own.{steps_before}
@@ -208,25 +205,6 @@ large-together g script core at legal =
       opens = graph-opens X h at.undeclared ∙ ap (λ (X : Frame). X.opening) at.frame
 
 -- ---- that a core's sources may be evaluated
-
--- what a source may hold in a message is narrow
-abbrev pub IsNarrow : Type 0
-IsNarrow = (nodes : ℕ) (k : Kind) (s : Content) → IsSource nodes k s → HasWidth 1 s
-
-module _ (c : Core) (core : IsCore c) (g : List Decl) (states : List Held) (is : g ≡ graph c.frame c.entries) (contents : contents_of states ≡ vals c.frame c.entries) where
-  pub long-of : length states ≡ length g
-  long-of =
-      sym (length-contents states) ∙ ap (λ (cs : List Content). length cs) contents ∙ vals-length c.frame c.entries core.legal ∙ sym (ap (λ (ds : List Decl). length ds) is)
-
-  pub narrow-of : IsNarrow → AreNarrow g states
-  narrow-of narrow x low source = subst (λ (s : Content). HasWidth 1 s)
-      (sources-source (graph c.frame c.entries) (vals c.frame c.entries) x (declared_there low) (marked source) ∙ ap (λ (ss : List Content). content_at ss x) (sym contents))
-      (narrow c.frame.nodes (kind_at (graph c.frame c.entries) x) _ (core.held.sources x (declared_there low) (marked source))) where
-        declared_there : x < length g → x < length (graph c.frame c.entries)
-        declared_there h = subst (λ (ds : List Decl). x < length ds) is h
-
-        marked : IsTrue (is_source (kind_at g x)) → IsTrue (is_source (kind_at (graph c.frame c.entries) x))
-        marked h = subst (λ (ds : List Decl). IsTrue (is_source (kind_at ds x))) is h
 
 -- the sets among the sources are held as sets
 set-shape : (nodes : ℕ) (k : Kind) → IsTrue (is_source k) → IsTrue (is_set k) → shape_of nodes k ≡ set

@@ -1,3 +1,2 @@
 mod Declared
-mod Evaluated
 mod Kept

@@ -9,7 +9,8 @@ use Rattle.model_readings.specs.Lawful.{FitsAll}
 use Rattle.lasp_graph.specs.Evaluated.{Evaluates, seen}
 use Rattle.lasp_graph.specs.Library.{library_of}
 use Rattle.lasp_graph.specs.States.{contents_of}
-use Rattle.lasp_live.proofs.LargeLaws.{long-of, narrow-of, same-large, sets-of}
+use Rattle.lasp_core.proofs.EvaluatedLaws.{long-of, narrow-of}
+use Rattle.lasp_live.proofs.LargeLaws.{same-large, sets-of}
 use Rattle.lasp_live.proofs.large.first_too_large.Goals as goal
 
 pub eval_by_variable-requires-clause-all : goal.eval_by_variable-requires-clause-all

@@ -1,5 +1,5 @@
 use Rattle.std.proofs.Common.{◌∙◌}
-use Rattle.tests_store.proofs.Evaluated.{long-of, narrow-of}
+use Rattle.lasp_core.proofs.EvaluatedLaws.{long-of, narrow-of}
 use Rattle.tests_store.proofs.ended.evaluated.Goals as goal
 
 pub eval_by_variable-requires-clause-all : goal.eval_by_variable-requires-clause-all
