@@ -5,13 +5,15 @@ use Rattle.model_functions.specs.Library.{Library}
 use Rattle.model_graph.specs.Graph.{Decl}
 use Rattle.model_readings.specs.Graph.{next_read, decls_read}
 use Rattle.model_readings.specs.Graph as plain
-use Rattle.model_readings.specs.Lawful.{AreInputs}
+use Rattle.model_readings.specs.Lawful.{AreInputs, IsNext}
 use Rattle.model_readings.proofs.Graphs.{kind-read}
+use Rattle.model_readings.specs.declared.graph_why.GraphWhy.{GraphWhy}
 use Rattle.lasp_graph.specs.declared.decl.Decl as rust
 use Rattle.lasp_graph.specs.declared.kind.Kind as rust_kind
 use Rattle.lasp_graph.specs.declared.refused.DeclRefused.{DeclRefused}
 use Rattle.lasp_graph.specs.declared.refused.GraphRefused.{GraphRefused}
 use Rattle.lasp_graph.specs.declared.refused.GraphRefused.TheVariants.{At, Memory}
+use Rattle.lasp_graph.specs.Decl.{decl_of}
 use Rattle.lasp_graph.specs.Kind.{kind_of}
 use Rattle.lasp_graph.specs.Answers.{Answers, Fails, FailsAt}
 
@@ -31,3 +33,8 @@ decls_read-end lib g = refl
 pub kind_inputs : (lib : Library) (g : List Decl) (form : plain.Form) (r : Result rust_kind.Kind DeclRefused) → Answers kind_of r (plain.kind_read lib g form) → IfOk r (λ k. AreInputs g (kind_of k))
 kind_inputs lib g form (Ok k) read = (kind-read lib g form (kind_of k) read).inputs
 kind_inputs lib g form (Err e) read = tt
+
+-- what is read, seen as it is, may stand behind a graph
+pub next-of : (read : Result Decl GraphWhy) (r : Result rust.Decl DeclRefused) (g : List Decl) → ((d : Decl) → read ≡ Ok d → IsNext g d) → Answers decl_of r read → IfOk r (λ d. IsNext g (decl_of d))
+next-of read (Ok d) g law is = law (decl_of d) is
+next-of read (Err e) g law is = tt

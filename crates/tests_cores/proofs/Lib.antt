@@ -1,2 +1,1 @@
-mod Declared
 mod Kept

@@ -1,4 +1,4 @@
-use Rattle.tests_cores.proofs.Declared.{next-of}
+use Rattle.lasp_graph.proofs.Declared.{next-of}
 use Rattle.tests_cores.proofs.cores.next_decl.Goals as goal
 
 pub returns : goal.returns

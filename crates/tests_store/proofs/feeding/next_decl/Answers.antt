@@ -1,4 +1,4 @@
-use Rattle.tests_store.proofs.Declared.{next-of}
+use Rattle.lasp_graph.proofs.Declared.{next-of}
 use Rattle.tests_store.proofs.feeding.next_decl.Goals as goal
 
 pub returns : goal.returns
