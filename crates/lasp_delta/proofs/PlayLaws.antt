@@ -3,6 +3,7 @@ use Rattle.std.proofs.Common.{refl, sym, ap, subst, ◌∙◌, arith, drop}
 use Rattle.std.specs.Prelude.{◌≡◌, ℕ, ◌+◌, ◌≤◌, true, List, [], ◌∷◌, ◌++◌, codes, length, replicate, slice_get, Option, Some, None, Result, Ok, Err, OnOk}
 use Rattle.std.specs.Fmt.{decimal}
 use Rattle.std.proofs.lemmas.List.{length-map}
+use Rattle.model_values.proofs.ListLaws.{drop-at}
 use Rattle.model_functions.specs.Library.{Library}
 use Rattle.model_graph.specs.Chain.{◌>>=◌}
 use Rattle.model_graph.specs.Graph.{Decl}
@@ -25,7 +26,7 @@ use Rattle.lasp_drive.specs.Acts.{Halts, Acted, ActsSeen}
 use Rattle.lasp_drive.specs.Run.{IsRunnable}
 use Rattle.lasp_drive.specs.declared.halt.Halt.{Halt}
 use Rattle.lasp_drive.proofs.ActLaws.{halts-as, halts-then, stands-later}
-use Rattle.lasp_drive.proofs.PlayLaws.{command-stage, stage-graph, may-begin, may-play, drop-at, drop-past, graph-so-far, fits-so-far}
+use Rattle.lasp_drive.proofs.PlayLaws.{command-stage, stage-graph, may-begin, may-play, drop-past, graph-so-far, fits-so-far}
 use Rattle.lasp_delta.specs.Seen.{DeltaView, gossip_of}
 use Rattle.lasp_delta.specs.Acts.{Went, Goes, GoesBy, MayGoBy, is_quiet}
 use Rattle.lasp_delta.specs.Play.{Begins, GoesOn, Played, Plays}

@@ -1,43 +1,17 @@
 -- Acts along a list of nodes.
-use Rattle.std.proofs.Common.{zero, suc, refl, sym, ap, subst, ◌∙◌, arith, drop, take}
-use Rattle.std.specs.Prelude.{◌≡◌, ℕ, ◌+◌, ◌<◌, ◌≤◌, List, [], ◌∷◌, ◌++◌, map, flat_map, length}
+use Rattle.std.proofs.Common.{sym, ap, subst, ◌∙◌, arith, drop, take}
+use Rattle.std.specs.Prelude.{◌≡◌, ℕ, ◌+◌, ◌<◌, ◌≤◌, List, [], ◌∷◌, ◌++◌, map, flat_map}
 use Rattle.std.specs.List.{range_with_len}
-use Rattle.std.proofs.lemmas.List.{drop_more}
-use Rattle.std.proofs.lemmas.List.FromFn.{length-range_with_len, get_or-range_with_len}
+use Rattle.std.proofs.lemmas.List.FromFn.{length-range_with_len}
 use Rattle.model_world.specs.World.{Act, Post, takes, sync_acts, each}
 use Rattle.std.specs.Prelude.{Result}
 use Rattle.lasp_drive.specs.Driver.{run_of}
 use Rattle.lasp_drive.specs.Acts.{Halts}
 use Rattle.lasp_drive.specs.declared.halt.Halt.{Halt}
+use Rattle.lasp_drive.proofs.ActLaws.{next-range, split, take-next, take-past}
 use Rattle.lasp_delta.specs.Seen.{DeltaView}
 use Rattle.lasp_delta.specs.Acts.{Went, Goes}
 use Rattle.lasp_delta.proofs.GoLaws.{went-then, halts-before, halts-behind, goes-then}
-
--- the first nodes, the next one, and those behind it
-next-range : (n k : ℕ) → k < n → drop k (range_with_len 0 n) ≡ k ∷ drop (k + 1) (range_with_len 0 n)
-next-range n k within =
-    drop_more (range_with_len 0 n) k (0 + k) (omega (arith, within, length-range_with_len 0 n))
-    ∙ ap (λ x. x ∷ drop (k + 1) (range_with_len 0 n)) (get_or-range_with_len 0 n k (0 + k) within) ∙ ap (λ x. x ∷ drop (k + 1) (range_with_len 0 n)) (let same : 0 + k ≡ k = omega arith in same)
-
-split : (xs : List ℕ) (k : ℕ) → xs ≡ take k xs ++ drop k xs
-split [] zero = refl
-split [] (suc k) = refl
-split (x ∷ xs) zero = refl
-split (x ∷ xs) (suc k) = ap (λ (ys : List ℕ). x ∷ ys) (split xs k)
-
-take-next : (xs : List ℕ) (k : ℕ) (x : ℕ) (rest : List ℕ) → drop k xs ≡ x ∷ rest → take (k + 1) xs ≡ take k xs ++ x ∷ []
-take-next xs k x rest at = ap (λ (n : ℕ). take n xs) (let next : k + 1 ≡ suc k = omega arith in next) ∙ more xs k at where
-  more : (xs : List ℕ) (k : ℕ) → drop k xs ≡ x ∷ rest → take (suc k) xs ≡ take k xs ++ x ∷ []
-  more [] zero at = absurd cc
-  more [] (suc k) at = absurd cc
-  more (y ∷ xs) zero at = ap (λ z. z ∷ []) (let same : y ≡ x = cc in same)
-  more (y ∷ xs) (suc k) at = ap (λ (ys : List ℕ). y ∷ ys) (more xs k at)
-
-take-past : (xs : List ℕ) (k : ℕ) → length xs ≤ k → take k xs ≡ xs
-take-past [] zero h = refl
-take-past [] (suc k) h = refl
-take-past (x ∷ xs) zero h = absurd (omega (arith, h))
-take-past (x ∷ xs) (suc k) h = ap (λ (ys : List ℕ). x ∷ ys) (take-past xs k (omega (arith, h)))
 
 -- the acts of the nodes below a number were done
 abbrev pub HaveGone : (List ℕ → List Act) → ℕ → ℕ → DeltaView → ℕ → DeltaView → Type 0

@@ -1,5 +1,5 @@
 -- Acts one after the other, and acts that were done along a list of nodes.
-use Rattle.std.proofs.Common.{zero, suc, refl, sym, ap, subst, ◌∙◌, arith, drop, take}
+use Rattle.std.proofs.Common.{zero, suc, refl, sym, ap, subst, ◌∙◌, append_assoc, arith, drop, take}
 use Rattle.std.specs.Prelude.{◌≡◌, ℕ, ◌+◌, ◌<◌, ◌≤◌, ◌==◌, not, Bool, true, false, if◌then◌else◌, List, [], ◌∷◌, ◌++◌, map, flat_map, filter, length, Result, Ok, Err, OnOk, slice_get, slice_set, Some}
 use Rattle.std.specs.List.{range_with_len}
 use Rattle.std.proofs.lemmas.List.{drop_more}
@@ -155,18 +155,18 @@ acts-then c m next d e f xs ys (Err why) first second = stops-behind c m d e xs 
 -- ---- acts along a list of nodes
 
 -- the first nodes, the next one, and those behind it
-next-range : (n k : ℕ) → k < n → drop k (range_with_len 0 n) ≡ k ∷ drop (k + 1) (range_with_len 0 n)
+pub next-range : (n k : ℕ) → k < n → drop k (range_with_len 0 n) ≡ k ∷ drop (k + 1) (range_with_len 0 n)
 next-range n k within =
     drop_more (range_with_len 0 n) k (0 + k) (omega (arith, within, length-range_with_len 0 n))
     ∙ ap (λ x. x ∷ drop (k + 1) (range_with_len 0 n)) (get_or-range_with_len 0 n k (0 + k) within) ∙ ap (λ x. x ∷ drop (k + 1) (range_with_len 0 n)) (let same : 0 + k ≡ k = omega arith in same)
 
-split : {X : Type 0} (xs : List X) (k : ℕ) → xs ≡ take k xs ++ drop k xs
+pub split : {X : Type 0} (xs : List X) (k : ℕ) → xs ≡ take k xs ++ drop k xs
 split [] zero = refl
 split [] (suc k) = refl
 split (x ∷ xs) zero = refl
 split {X} (x ∷ xs) (suc k) = ap (λ (ys : List X). x ∷ ys) (split xs k)
 
-take-next : {X : Type 0} (xs : List X) (k : ℕ) (x : X) (rest : List X) → drop k xs ≡ x ∷ rest → take (k + 1) xs ≡ take k xs ++ x ∷ []
+pub take-next : {X : Type 0} (xs : List X) (k : ℕ) (x : X) (rest : List X) → drop k xs ≡ x ∷ rest → take (k + 1) xs ≡ take k xs ++ x ∷ []
 take-next {X} xs k x rest at = ap (λ (n : ℕ). take n xs) (let next : k + 1 ≡ suc k = omega arith in next) ∙ more xs k at where
   more : (xs : List X) (k : ℕ) → drop k xs ≡ x ∷ rest → take (suc k) xs ≡ take k xs ++ x ∷ []
   more [] zero at = absurd cc
@@ -174,7 +174,7 @@ take-next {X} xs k x rest at = ap (λ (n : ℕ). take n xs) (let next : k + 1 �
   more (y ∷ xs) zero at = ap (λ z. z ∷ []) (let same : y ≡ x = cc in same)
   more (y ∷ xs) (suc k) at = ap (λ (ys : List X). y ∷ ys) (more xs k at)
 
-take-past : {X : Type 0} (xs : List X) (k : ℕ) → length xs ≤ k → take k xs ≡ xs
+pub take-past : {X : Type 0} (xs : List X) (k : ℕ) → length xs ≤ k → take k xs ≡ xs
 take-past [] zero h = refl
 take-past [] (suc k) h = refl
 take-past (x ∷ xs) zero h = absurd (omega (arith, h))
@@ -234,17 +234,9 @@ takes-other i p q other = ap (kept i p q) other
 pub takes-own : (i p q : ℕ) → not (q == p) ≡ false → takes_of i p (q ∷ []) ≡ []
 takes-own i p q own = ap (kept i p q) own
 
-append-assoc : {X : Type 0} (xs ys zs : List X) → (xs ++ ys) ++ zs ≡ xs ++ (ys ++ zs)
-append-assoc [] ys zs = refl
-append-assoc {X} (x ∷ xs) ys zs = ap (λ (ws : List X). x ∷ ws) (append-assoc xs ys zs)
-
-pub append-none : {X : Type 0} (xs : List X) → xs ++ [] ≡ xs
-append-none [] = refl
-append-none {X} (x ∷ xs) = ap (λ (ws : List X). x ∷ ws) (append-none xs)
-
 pub all-parts : (n i : ℕ) (xs ys : List ℕ) → flat_map (takes n i) (xs ++ ys) ≡ flat_map (takes n i) xs ++ flat_map (takes n i) ys
 all-parts n i [] ys = refl
-all-parts n i (p ∷ xs) ys = ap (λ (more : List Act). takes n i p ++ more) (all-parts n i xs ys) ∙ sym (append-assoc (takes n i p) (flat_map (takes n i) xs) (flat_map (takes n i) ys))
+all-parts n i (p ∷ xs) ys = ap (λ (more : List Act). takes n i p ++ more) (all-parts n i xs ys) ∙ sym (append_assoc (takes n i p) (flat_map (takes n i) xs) (flat_map (takes n i) ys))
 
 -- messages that are taken leave the stage
 pub taken-stage : (s : Stage) (i p : ℕ) (qs : List ℕ) → all_staged s (takes_of i p qs) ≡ s

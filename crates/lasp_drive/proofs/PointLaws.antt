@@ -1,7 +1,7 @@
 -- Laws of points and declarations: what the nodes of a run do and show.
 use Rattle.std.proofs.Common.{zero, suc, refl, sym, ap, subst, ◌∙◌, arith, get_or, drop, take}
 use Rattle.std.specs.Prelude.{◌≡◌, ℕ, ◌+◌, ◌<◌, ◌≤◌, List, [], ◌∷◌, ◌++◌, map, length, Option, Some, None, slice_get, slice_set, replicate, Result, Ok, Err, OnErr}
-use Rattle.std.proofs.lemmas.List.{map-append, map-set, length-map, length-set, drop_more}
+use Rattle.std.proofs.lemmas.List.{map-append, map-set, length-map, length-set, drop_more, replicate_more}
 use Rattle.std.proofs.lemmas.Option.{slice_get_within, get_or_from_slice_get}
 use Rattle.model_functions.specs.Library.{Library}
 use Rattle.model_graph.specs.Graph.{Decl}
@@ -122,14 +122,10 @@ length-push xs y p size = omega (arith, more xs y, size) where
 pub nodes-push : (g : List Decl) (many p : ℕ) (nodes : List NodeView) (new : NodeView) → length nodes ≡ p → AreNodes g many nodes → IsNode g many p new → AreNodes g many (nodes ++ new ∷ [])
 nodes-push g many p nodes new size each here = at-push (IsNode g many) nodes new each (subst (λ (q : ℕ). IsNode g many q new) (sym size) here)
 
-replicate-push : {X : Type 0} (n : ℕ) (x : X) → replicate (suc n) x ≡ replicate n x ++ x ∷ []
-replicate-push zero x = refl
-replicate-push (suc n) x = ap (λ (xs : List _). x ∷ xs) (replicate-push n x)
-
 -- what they have
 pub fresh-push : {X : Type 0} (of : NodeView → X) (p : ℕ) (fresh : X) (nodes : List NodeView) (new : NodeView) → map of nodes ≡ replicate p fresh → of new ≡ fresh → map of (nodes ++ new ∷ []) ≡ replicate (p + 1) fresh
 fresh-push {X} of p fresh nodes new all is =
-    map-append of nodes (new ∷ []) ∙ ap (λ (rs : List X). rs ++ of new ∷ []) all ∙ ap (λ (r : X). replicate p fresh ++ r ∷ []) is ∙ sym (ap (λ (n : ℕ). replicate n fresh) (let next : p + 1 ≡ suc p = omega arith in next) ∙ replicate-push p fresh)
+    map-append of nodes (new ∷ []) ∙ ap (λ (rs : List X). rs ++ of new ∷ []) all ∙ ap (λ (r : X). replicate p fresh ++ r ∷ []) is ∙ replicate_more p fresh
 
 pub fresh-next : (g : List Decl) (many p : ℕ) (nodes : List NodeView) (new : NodeView) → AreFresh g many p nodes → IsFresh g many p new → AreFresh g many (p + 1) (nodes ++ new ∷ [])
 fresh-next g many p nodes new all is = record {

@@ -1,6 +1,7 @@
 -- Laws of the report: its lines, and the nodes that are asked for them.
-use Rattle.std.proofs.Common.{refl, sym, ap, ◌∙◌, append_assoc, arith, drop}
-use Rattle.std.specs.Prelude.{◌≡◌, ℕ, ◌+◌, ◌≤◌, Bool, List, [], ◌∷◌, ◌++◌, length, Some, slice_get}
+use Rattle.std.proofs.Common.{sym, ap, ◌∙◌, append_assoc, append-nil, arith, drop}
+use Rattle.std.specs.Prelude.{◌≡◌, ℕ, ◌+◌, ◌≤◌, Bool, List, ◌++◌, length, Some, slice_get}
+use Rattle.model_values.proofs.ListLaws.{drop-at}
 use Rattle.model_states.specs.Threshold.{meets}
 use Rattle.model_world.specs.Line.{known_line, read_line}
 use Rattle.model_world.specs.Report.{known_lines, read_lines}
@@ -13,7 +14,7 @@ use Rattle.lasp_drive.specs.Report.{MayPoll, AreOpened}
 use Rattle.lasp_drive.specs.declared.driver.OpenRead.{OpenRead}
 use Rattle.lasp_drive.proofs.NodeLaws.{var-here, suited-here, with_peers}
 use Rattle.lasp_drive.proofs.StepLaws.{with_nodes}
-use Rattle.lasp_drive.proofs.PlayLaws.{drop-at, drop-past}
+use Rattle.lasp_drive.proofs.PlayLaws.{drop-past}
 
 -- the line of the next node
 pub known-next : (p : ℕ) (peers : List Peer) (r : Peer) (counts text next all : List ℕ) → slice_get peers p ≡ Some r → counts ≡ r.counts → next ≡ text ++ known_line p counts
@@ -23,13 +24,9 @@ known-next p peers r counts text next all at same is so_far =
     ∙ ap (λ (cs : List ℕ). text ++ (known_line p cs ++ known_lines (p + 1) (drop (p + 1) peers))) same
     ∙ sym (ap (λ (rs : List Peer). text ++ known_lines p rs) (drop-at peers p r at)) ∙ so_far
 
-append-none : {X : Type 0} (xs : List X) → xs ++ [] ≡ xs
-append-none [] = refl
-append-none {X} (x ∷ xs) = ap (λ (ws : List X). x ∷ ws) (append-none xs)
-
 -- there is no further node
 pub known-end : (p : ℕ) (peers : List Peer) (text all : List ℕ) → length peers ≤ p → text ++ known_lines p (drop p peers) ≡ all → text ≡ all
-known-end p peers text all past so_far = sym (append-none text) ∙ sym (ap (λ (rs : List Peer). text ++ known_lines p rs) (drop-past peers p past)) ∙ so_far
+known-end p peers text all past so_far = sym (append-nil text) ∙ sym (ap (λ (rs : List Peer). text ++ known_lines p rs) (drop-past peers p past)) ∙ so_far
 
 -- the line of the next read
 pub read-next : (k : ℕ) (run : Run) (reads : List Opened) (o : Opened) (met : Bool) (text next all : List ℕ) → slice_get reads k ≡ Some o → met ≡ meets o.threshold (shown_content_at run o.node o.var) → next ≡ text ++ read_line k met
@@ -41,7 +38,7 @@ read-next k run reads o met text next all at same is so_far =
 
 -- there is no further read
 pub read-end : (k : ℕ) (run : Run) (reads : List Opened) (text all : List ℕ) → length reads ≤ k → text ++ read_lines k run (drop k reads) ≡ all → text ≡ all
-read-end k run reads text all past so_far = sym (append-none text) ∙ sym (ap (λ (os : List Opened). text ++ read_lines k run os) (drop-past reads k past)) ∙ so_far
+read-end k run reads text all past so_far = sym (append-nil text) ∙ sym (ap (λ (os : List Opened). text ++ read_lines k run os) (drop-past reads k past)) ∙ so_far
 
 -- a driver whose nodes were asked
 pub asked-run : (d : DriverView) (nodes : List NodeView) → AllLearn d.nodes nodes → run_of (with_nodes d nodes) ≡ run_of d

@@ -3,6 +3,7 @@ use Rattle.std.proofs.Common.{ap, sym, subst, ◌∙◌, arith, drop, ◌⊎◌,
 use Rattle.std.specs.Prelude.{◌≡◌, ℕ, ◌+◌, ◌≤◌, ◌<◌, List, [], ◌∷◌, length, Some, slice_get, Result, Ok, Err, OnOk, IsTrue, true, false}
 use Rattle.std.proofs.Math.Nat.{eq-or-lt_of_le}
 use Rattle.std.proofs.lemmas.Option.{slice_get_within, get_or_from_slice_get}
+use Rattle.model_values.proofs.ListLaws.{drop-at}
 use Rattle.model_functions.specs.Library.{Library}
 use Rattle.model_readings.specs.Lawful.{IsGraph, FitsAll}
 use Rattle.model_scripts.specs.Progress.{grown_by, grown}
@@ -15,7 +16,7 @@ use Rattle.lasp_drive.specs.Acts.{Acted, ActsSeen, StopsWithin}
 use Rattle.lasp_drive.specs.Play.{MayPlay, StopsAmong, PlaysSeen}
 use Rattle.lasp_drive.specs.Stretch.{is_point, HaveNoPoint, MayGoOn, GoesOn, IsAt, HasAdvanced, CrossesSeen, PassesOnSeen}
 use Rattle.lasp_drive.specs.declared.halt.Halt.{Halt}
-use Rattle.lasp_drive.proofs.PlayLaws.{drop-at, drop-past, graph-so-far, fits-so-far, way-begins, way-next, way-stops, way-then, way-halts, way-ends, may-next, may-begin}
+use Rattle.lasp_drive.proofs.PlayLaws.{drop-past, graph-so-far, fits-so-far, way-begins, way-next, way-stops, way-then, way-halts, way-ends, may-next, may-begin}
 
 pub at-begin : (lib : Library) (d : DriverView) (from : ℕ) (commands : List Command) → from ≤ length commands → MayGoOn lib (from + 1) d (drop from commands) → IsAt lib from from commands d d
 at-begin lib d from commands within may = record { within = within; may = may; way = way-begins (from + 1) d (drop from commands) may.ready }

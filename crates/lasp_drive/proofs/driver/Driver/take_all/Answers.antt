@@ -1,4 +1,4 @@
-use Rattle.std.proofs.Common.{refl, ◌≡◌, ◌<◌, length, take, ◌∙◌, arith, subst, sym, ap, map}
+use Rattle.std.proofs.Common.{refl, ◌≡◌, ◌<◌, length, take, ◌∙◌, append-nil, arith, subst, sym, ap, map}
 use Rattle.std.specs.Prelude.{ℕ, List, flat_map}
 use Rattle.std.specs.List.{range_with_len}
 use Rattle.std.proofs.lemmas.List.{length-map}
@@ -6,7 +6,7 @@ use Rattle.model_world.specs.Lawful.{Stage}
 use Rattle.model_world.specs.World.{Act, takes}
 use Rattle.lasp_drive.specs.Driver.{seen, stage_of}
 use Rattle.lasp_drive.specs.Acts.{Acted, StopsWithin}
-use Rattle.lasp_drive.proofs.ActLaws.{acted-none, done-next, done-stops, done-all, all-parts, append-none, all-taken-stage}
+use Rattle.lasp_drive.proofs.ActLaws.{acted-none, done-next, done-stops, done-all, all-parts, all-taken-stage}
 use Rattle.lasp_drive.proofs.driver.Driver.take_all.Goals as goal
 
 pub loop-p-init : goal.loop-p-init
@@ -38,7 +38,7 @@ loop-p-preserved g c =
     record {
       within = omega (arith, within);
       done = done-next (flat_map (takes many c.args.i)) (all-parts many c.args.i) c.args.c many (seen g.N.Node.view g.N.Node.read c.args.self.now) c.loop-p.p now next within c.loop-p.invariant.done
-          (subst (λ (all : List Act). Acted c.args.c c.args.c now all next) (sym (append-none (takes many c.args.i c.loop-p.p)))
+          (subst (λ (all : List Act). Acted c.args.c c.args.c now all next) (sym (append-nil (takes many c.args.i c.loop-p.p)))
           (subst (λ (k : ℕ). Acted c.args.c c.args.c now (takes k c.args.i c.loop-p.p) next) size c.in-Ok.ensures.acts));
       reads = c.in-Ok.ensures.reads ∙ c.loop-p.invariant.reads;
       in_place = c.in-Ok.ensures.in_place ∙ c.loop-p.invariant.in_place;
@@ -52,7 +52,7 @@ returns-in-Err g c =
     record {
       acts = done-stops (flat_map (takes many c.args.i)) (all-parts many c.args.i) c.args.c many (seen g.N.Node.view g.N.Node.read c.args.self.now) c.loop-p.p now c.in-Err.halt (map g.N.Node.view c.take_others.new.self.nodes.items)
           (omega (arith, c.loop-p-test.true, c.len-p-end.ensures)) c.loop-p.invariant.done
-          (subst (λ (all : List Act). StopsWithin c.args.c now all c.in-Err.halt (map g.N.Node.view c.take_others.new.self.nodes.items)) (sym (append-none (takes many c.args.i c.loop-p.p)))
+          (subst (λ (all : List Act). StopsWithin c.args.c now all c.in-Err.halt (map g.N.Node.view c.take_others.new.self.nodes.items)) (sym (append-nil (takes many c.args.i c.loop-p.p)))
           (subst (λ (k : ℕ). StopsWithin c.args.c now (takes k c.args.i c.loop-p.p) c.in-Err.halt (map g.N.Node.view c.take_others.new.self.nodes.items)) size c.in-Err.ensures.acts));
       reads = tt;
       in_place = c.in-Err.ensures.in_place ∙ c.loop-p.invariant.in_place;

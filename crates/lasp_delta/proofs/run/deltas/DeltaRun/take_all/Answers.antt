@@ -1,4 +1,4 @@
-use Rattle.std.proofs.Common.{◌≡◌, ◌<◌, length, take, ◌∙◌, arith, subst, sym, ap}
+use Rattle.std.proofs.Common.{◌≡◌, ◌<◌, length, take, ◌∙◌, append-nil, arith, subst, sym, ap}
 use Rattle.std.specs.Prelude.{ℕ, List, flat_map}
 use Rattle.std.specs.List.{range_with_len}
 use Rattle.std.proofs.lemmas.List.{length-map}
@@ -6,7 +6,7 @@ use Rattle.model_world.specs.Lawful.{Stage}
 use Rattle.model_world.specs.World.{Act, takes, each}
 use Rattle.lasp_drive.specs.Driver.{run_of, stage_of}
 use Rattle.lasp_drive.specs.Acts.{Halts}
-use Rattle.lasp_drive.proofs.ActLaws.{all-parts, append-none, all-taken-stage}
+use Rattle.lasp_drive.proofs.ActLaws.{all-parts, all-taken-stage}
 use Rattle.lasp_delta.specs.Acts.{Went}
 use Rattle.lasp_delta.specs.Seen.{delta_seen}
 use Rattle.lasp_delta.proofs.GoLaws.{went-none}
@@ -45,7 +45,7 @@ loop-p-preserved g c =
     record {
       within = omega (arith, within);
       done = gone-next (flat_map (takes many c.args.i)) (all-parts many c.args.i) c.args.c many (delta_seen g.N.Node.view g.N.Node.read c.args.self.now) c.loop-p.p now next within c.loop-p.invariant.done
-          (subst (λ (all : List Act). Went c.args.c c.args.c now all next) (sym (append-none (takes many c.args.i c.loop-p.p))) (subst (λ (k : ℕ). Went c.args.c c.args.c now (takes k c.args.i c.loop-p.p) next) size c.in-Ok.ensures));
+          (subst (λ (all : List Act). Went c.args.c c.args.c now all next) (sym (append-nil (takes many c.args.i c.loop-p.p))) (subst (λ (k : ℕ). Went c.args.c c.args.c now (takes k c.args.i c.loop-p.p) next) size c.in-Ok.ensures));
     }
 
 pub returns-in-Err : goal.returns-in-Err
@@ -54,7 +54,7 @@ returns-in-Err g c =
     let size : length c.loop-p.self.driver.nodes.items ≡ many = omega (arith, c.loop-p.invariant.done.size, length-map c.args.self.now.driver.nodes.items g.N.Node.view, length-map c.loop-p.self.driver.nodes.items g.N.Node.view) in
     let now = delta_seen g.N.Node.view g.N.Node.read c.loop-p.self in
     gone-stops (flat_map (takes many c.args.i)) (all-parts many c.args.i) c.args.c many (delta_seen g.N.Node.view g.N.Node.read c.args.self.now) c.loop-p.p now c.in-Err.halt (omega (arith, c.loop-p-test.true, c.len-p-end.ensures)) c.loop-p.invariant.done
-    (subst (λ (all : List Act). Halts (each c.args.c (run_of now.driver) all) c.in-Err.halt) (sym (append-none (takes many c.args.i c.loop-p.p)))
+    (subst (λ (all : List Act). Halts (each c.args.c (run_of now.driver) all) c.in-Err.halt) (sym (append-nil (takes many c.args.i c.loop-p.p)))
     (subst (λ (k : ℕ). Halts (each c.args.c (run_of now.driver) (takes k c.args.i c.loop-p.p)) c.in-Err.halt) size c.in-Err.ensures))
 
 pub returns : goal.returns
