@@ -1,8 +1,6 @@
 //! Why calls were given up.
 
-use lasp_fns::LibraryRefused;
-use lasp_graph::{DeclRefused, EvalAll, EvalRefused, GraphRefused};
-use std::alloc::{AllocError, AllocFailed};
+use std::error::Error;
 
 /// Why calls were given up.
 #[derive(Clone, Copy, Debug)]
@@ -19,44 +17,8 @@ pub enum Wrong {
     Refused,
 }
 
-impl From<AllocError> for Wrong {
-    fn from(_error: AllocError) -> Wrong {
-        Wrong::Refused
-    }
-}
-
-impl<T: Drop> From<AllocFailed<T>> for Wrong {
-    fn from(_error: AllocFailed<T>) -> Wrong {
-        Wrong::Refused
-    }
-}
-
-impl From<LibraryRefused> for Wrong {
-    fn from(_why: LibraryRefused) -> Wrong {
-        Wrong::Refused
-    }
-}
-
-impl From<GraphRefused> for Wrong {
-    fn from(_why: GraphRefused) -> Wrong {
-        Wrong::Refused
-    }
-}
-
-impl From<DeclRefused> for Wrong {
-    fn from(_why: DeclRefused) -> Wrong {
-        Wrong::Refused
-    }
-}
-
-impl From<EvalAll> for Wrong {
-    fn from(_why: EvalAll) -> Wrong {
-        Wrong::Refused
-    }
-}
-
-impl From<EvalRefused> for Wrong {
-    fn from(_why: EvalRefused) -> Wrong {
+impl<E: Error> From<E> for Wrong {
+    fn from(_error: E) -> Wrong {
         Wrong::Refused
     }
 }
