@@ -389,6 +389,6 @@ pub fn settle<R: Wait>(
     }
     match settle_all(rt, alloc, store, f, graph, lib) {
         Ok(_) => Ok(()),
-        Err(why) => Err(Wrong::from(why)),
+        Err(_) => Err(Wrong),
     }
 }
