@@ -59,22 +59,20 @@ fn seats_of<'a, R, T, S: Settles<T>>(
     let mut outs_left = outs.into_iter();
     let mut ins_left = ins.into_iter();
     for p in 0..stores.len() {
-        match outs_left.next() {
-            Some(outs) => match ins_left.next() {
-                Some(ins) => {
-                    let feed = feeds.remove(0);
-                    seats.push(Seat {
-                        me: p as u8,
-                        feeder: StoreFeeder::new(rt, alloc, &stores[p], feed, lib, by),
-                        outs,
-                        ins,
-                        diary: None,
-                    })?;
-                }
-                None => unreachable!(),
-            },
-            None => unreachable!(),
-        }
+        let Some(outs) = outs_left.next() else {
+            unreachable!()
+        };
+        let Some(ins) = ins_left.next() else {
+            unreachable!()
+        };
+        let feed = feeds.remove(0);
+        seats.push(Seat {
+            me: p as u8,
+            feeder: StoreFeeder::new(rt, alloc, &stores[p], feed, lib, by),
+            outs,
+            ins,
+            diary: None,
+        })?;
     }
     Ok(seats)
 }

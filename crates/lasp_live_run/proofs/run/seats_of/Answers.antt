@@ -52,7 +52,7 @@ loop-p-preserved g c =
     let mapped = length-map seats (λ (t : Seat Knows). t.feeder) in
     let joined = length-append (map (λ (t : Seat Knows). t.feeder) seats) left in
     let head : left ≡ F ∷ c.remove-feed.new.self.items = head-taken left c.remove-feed.new.self.items F (omega (arith, sizes, mapped, joined, c.loop-p.invariant.size, low, c.requires.feeds.size)) c.remove-feed.ensures.value c.remove-feed.ensures.by_index.2 in
-    let pushed : c.push.new.self.items ≡ seats ++ s ∷ [] = c.in_ok-push-in-Some-next.ensures.items in
+    let pushed : c.push.new.self.items ≡ seats ++ s ∷ [] = c.in_ok-push.ensures.items in
     record {
       end = c.loop-p.invariant.end;
       size = omega (arith, ap (λ (l : List (Seat Knows)). length l) pushed, length-append seats (s ∷ []), c.loop-p.invariant.size);
@@ -61,8 +61,8 @@ loop-p-preserved g c =
           (moved-on (λ (t : Seat Knows). t.feeder) seats s left c.remove-feed.new.self.items c.args.feeds.now.items (head ∙ ap (λ (f : Knows). f ∷ c.remove-feed.new.self.items) (sym c.new.ensures)) c.loop-p.invariant.feeders);
       outlets = subst (λ (l : List (Seat Knows)). map (λ (t : Seat Knows). t.outs) l ++ into_iter_items c.next.new.self ≡ c.args.outs.items) (sym pushed)
           (moved-on (λ (t : Seat Knows). t.outs) seats s (into_iter_items c.loop-p.outs_left) (into_iter_items c.next.new.self) c.args.outs.items c.in-Some.ensures.items c.loop-p.invariant.outlets);
-      inlets = subst (λ (l : List (Seat Knows)). map (λ (t : Seat Knows). t.ins) l ++ into_iter_items c.next-in-Some.new.self ≡ c.args.ins.items) (sym pushed)
-          (moved-on (λ (t : Seat Knows). t.ins) seats s (into_iter_items c.loop-p.ins_left) (into_iter_items c.next-in-Some.new.self) c.args.ins.items c.in-Some-next.ensures.items c.loop-p.invariant.inlets);
+      inlets = subst (λ (l : List (Seat Knows)). map (λ (t : Seat Knows). t.ins) l ++ into_iter_items c.next-in-loop-p.new.self ≡ c.args.ins.items) (sym pushed)
+          (moved-on (λ (t : Seat Knows). t.ins) seats s (into_iter_items c.loop-p.ins_left) (into_iter_items c.next-in-loop-p.new.self) c.args.ins.items c.in-Some-next.ensures.items c.loop-p.invariant.inlets);
     }
 
 pub returns : goal.returns
