@@ -1,7 +1,7 @@
 -- Where the bytes of a delta fail: a reader fails there, and there alone.
-use Rattle.std.proofs.Common.{◌≡◌, ◌≢◌, ◌⊎◌, inl, inr, ℕ, ◌+◌, ◌-◌, ◌<◌, ◌≤◌, Bool, cond, List, [], ◌∷◌, ◌++◌, length, take, Result, Ok, Err, refl, sym, ap, subst, ◌∙◌, append_assoc, arith}
+use Rattle.std.proofs.Common.{◌≡◌, ◌≢◌, ◌⊎◌, inl, inr, ℕ, ◌+◌, ◌-◌, ◌<◌, ◌≤◌, Bool, cond, List, [], ◌∷◌, ◌++◌, length, Result, Ok, Err, refl, sym, ap, subst, ◌∙◌, append_assoc, arith}
 use Rattle.std.proofs.lemmas.Bool.{eqb-true, eq-eqb}
-use Rattle.std.proofs.lemmas.List.{length-append, take_at}
+use Rattle.std.proofs.lemmas.List.{length-append}
 use Rattle.std.proofs.Math.Dec.{eqb-suc-zero}
 use Rattle.model_graph.specs.Chain.{◌>>=◌}
 use Rattle.model_graph.proofs.PlaceLaws.{below-or-not, at-past}
@@ -14,10 +14,9 @@ use Rattle.model_wire.specs.Reader.{Reading, paired, remade, both_at}
 use Rattle.model_wire.specs.Message.{sources_at, message_made, nothing_behind, placed, decoded_from}
 use Rattle.model_wire.specs.Lawful.{IsBytes}
 use Rattle.model_wire.specs.Stuck.{FailsSources}
-use Rattle.model_wire.proofs.Codecs.{within_take}
 use Rattle.model_wire.proofs.MessageLaws.{spelled_all_counts}
 use Rattle.model_wire.proofs.Within.{Inside, sources_inside}
-use Rattle.model_wire.proofs.PrefixLaws.{behind_named}
+use Rattle.model_wire.proofs.PrefixLaws.{behind_named, front_fits}
 use Rattle.model_wire.proofs.PrefixLaws as letters
 use Rattle.model_wire.proofs.Failing.{Told, Failed, at_first, at_next, failed, error, pure}
 use Rattle.model_deltas.specs.Delta.{Delta}
@@ -25,7 +24,7 @@ use Rattle.model_deltas.specs.Before.{IsDelta}
 use Rattle.model_deltas.specs.Spelling.{spelled_delta}
 use Rattle.model_deltas.specs.Reader.{Span, span_at, delta_made, delta_body_at, delta_version_at, delta_at, nothing_behind_it, read_delta, decoded_delta}
 use Rattle.model_deltas.specs.Stuck.{IsSpan, spelled_span, FailsDeltaBody, delta_beginning, IsStuckDelta, in_beginning, in_body, behind_delta}
-use Rattle.model_deltas.proofs.CodecLaws.{SpanHas, AreLater, span_codec, version_codec, delta_codec, spelled_parts, delta_spelled}
+use Rattle.model_deltas.proofs.CodecLaws.{SpanHas, span_codec, version_codec, delta_codec, spelled_parts, delta_spelled}
 use Rattle.model_deltas.proofs.CodecLaws as codecs
 use Rattle.model_deltas.proofs.CountFails.{version_fail, span_fail}
 use Rattle.model_deltas.proofs.SourceFails.{sources_told, letter_decoded, letter_refused}
@@ -45,9 +44,6 @@ has_span span h = ((h.from.nodes, h.from.each), (h.wide, h.later.each, each)) wh
     choose (inr past) = let nothing : count_at span.0 q ≡ 0 = at-past span.0 q 0 (let same = h.wide in omega (arith, past, same)) in omega (arith, nothing)
 
 -- ---- a reader that fails says where
-
-front_fits : (bytes front rest : List ℕ) → bytes ≡ front ++ rest → IsBytes bytes → IsBytes front
-front_fits bytes front rest parts fits = subst IsBytes (ap (take (length front)) parts ∙ take_at front rest (length front) refl) (within_take (length front) bytes fits)
 
 longer : (bytes front rest : List ℕ) → bytes ≡ front ++ rest → length bytes ≡ length front + length rest
 longer bytes front rest parts = ap (λ (b : List ℕ). length b) parts ∙ length-append front rest

@@ -100,7 +100,7 @@ taken_decoded bytes l rest t =
     let one : message_at t.taken ≡ Ok (l, []) = ap message_at (sym (append-nil t.taken)) ∙ t.again 0 [] in
     ap (λ (r : Reading Letter). decoded_from t.taken (r >>= nothing_behind)) one
 
-front_fits : (bytes front rest : List ℕ) → bytes ≡ front ++ rest → IsBytes bytes → IsBytes front
+pub front_fits : (bytes front rest : List ℕ) → bytes ≡ front ++ rest → IsBytes bytes → IsBytes front
 front_fits bytes front rest parts fits =
     subst IsBytes (ap (take (length front)) parts ∙ take_at front rest (length front) refl) (within_take (length front) bytes fits)
 
