@@ -106,7 +106,7 @@ abbrev pub replica_of : List Decl → List Message → Option Peer
 replica_of g [] = None
 replica_of g (m ∷ ms) = Some (joined g (m ∷ ms))
 
-taking-push : (g : List Decl) (r : Peer) (ms : List Message) (m : Message) → taking g r (ms ++ m ∷ []) ≡ delivered g m (taking g r ms)
+pub taking-push : (g : List Decl) (r : Peer) (ms : List Message) (m : Message) → taking g r (ms ++ m ∷ []) ≡ delivered g m (taking g r ms)
 taking-push g r [] m = refl
 taking-push g r (k ∷ ms) m = taking-push g (delivered g k r) ms m
 

@@ -17,12 +17,12 @@ use Rattle.model_scripts.specs.declared.script_why.ScriptWhy.{ScriptWhy}
 use Rattle.model_scripts.specs.declared.script_why.ScriptWhy.TheVariants.{NoSuchNode}
 use Rattle.model_states.specs.Update.{Op}
 use Rattle.model_world.specs.Command.{Command, Script}
-use Rattle.model_world.specs.World.{Peer, fresh_peer, delivered, message_at, shown_at}
-use Rattle.model_program.specs.Merge.{taking}
+use Rattle.model_world.specs.World.{Peer, fresh_peer, message_at, shown_at}
 use Rattle.model_program.specs.Plan.{word_at, file_limit}
 use Rattle.model_program.specs.Program.{node_word}
 use Rattle.model_program.specs.Told.{IsFileTold}
 use Rattle.model_program.specs.declared.refusal.Refusal.TheVariants as shared
+use Rattle.model_program.proofs.MergeLaws.{taking-push}
 use Rattle.model_site.specs.Cause.{file_long, HasCause, usage, graph_long, graph_bad, script_long, script_bad, no_such_node, not_local, state_refused, file_refused, update_refused, variable_large, written}
 use Rattle.model_site.specs.Plan.{Answer, Plan, Says, checked, given, within, reading, told_answer}
 use Rattle.model_site.specs.Program.{graph_file, state_file, script_file, first_file, site_of, graph_refused, script_refused, local_refused, is_for, site_answer, filing_more, taking_in, scripted, plan_of, plan}
@@ -67,11 +67,6 @@ module _ (content : List ℕ → Option (List ℕ)) (words : List (List ℕ)) wh
       → ((e : E) × (r ≡ Err e) × (Err (refuse e) ≡ a)) ⊎ ((x : A) × (r ≡ Ok x) × (told (next x) ≡ Some a))
   checked-cases refuse (Ok x) next a h = inr (x, refl, h)
   checked-cases refuse (Err e) next a h = inl (e, refl, says (Err (refuse e)) a h)
-
--- one message more
-pub heard-more : (g : List Decl) (r : Peer) (ms : List Message) (m : Message) → taking g r (ms ++ m ∷ []) ≡ delivered g m (taking g r ms)
-heard-more g r [] m = refl
-heard-more g r (k ∷ ms) m = heard-more g (delivered g k r) ms m
 
 local-found : (o : Option ℕ) (e : SiteRefusal) → local_refused o ≡ Err e → (number : ℕ) × (o ≡ Some number) × (NotLocal number ≡ e)
 local-found None e h = absurd cc
@@ -143,7 +138,7 @@ module _ (lib : Library) (content : List ℕ → Option (List ℕ)) (words : Lis
       go_on later bytes file (inr (next, passed, h)) =
           let it = file-passed content words p g f r bytes file next passed in
           later (ms ++ it.0 ∷ []) (more taken it.1)
-          (subst (λ (x : Peer). told content words (filing_more p g s (f + 1) left x) ≡ Some a) (it.2 ∙ sym (heard-more g (fresh_peer g s.nodes) ms it.0)) h)
+          (subst (λ (x : Peer). told content words (filing_more p g s (f + 1) left x) ≡ Some a) (it.2 ∙ sym (taking-push g (fresh_peer g s.nodes) ms it.0)) h)
 
       read : Later → HasRead content words f (λ bytes. given (file_taken p g f r bytes) (λ next. filing_more p g s (f + 1) left next)) a → Caused a
       read later (long bytes is many e) = subst Caused e (file_refused site taken low (file_long is many))

@@ -14,6 +14,7 @@ use Rattle.model_world.specs.World.{Peer, Run, fresh_peer, delivered, peer_at, m
 use Rattle.model_program.specs.Ends.{Writing}
 use Rattle.model_program.specs.Follows.{View}
 use Rattle.model_program.specs.Told.{IsFileTold}
+use Rattle.model_program.proofs.MergeLaws.{taking-push}
 use Rattle.model_site.specs.Call.{Writes, TellsSite}
 use Rattle.model_site.specs.Ends.{Ends, Settles}
 use Rattle.model_site.specs.Follows.{Follows}
@@ -25,7 +26,7 @@ use Rattle.model_site.specs.World.{IsSiteWorld}
 use Rattle.model_site.specs.declared.site_refusal.SiteRefusal.{SiteRefusal}
 use Rattle.model_site.specs.declared.site_failure.SiteFailure.{SiteFailure}
 use Rattle.model_site.proofs.AnswerLaws.{follows-told, done-ends}
-use Rattle.model_site.proofs.CauseLaws.{heard-more, site-many}
+use Rattle.model_site.proofs.CauseLaws.{site-many}
 use Rattle.model_site.proofs.SiteLaws.{large-passed, ok-same}
 use Rattle.model_site.proofs.TellLaws.{told-file, told-checked, file-taken, some-bytes, is-for}
 use Rattle.model_site.proofs.WorldLaws.{site-world}
@@ -62,7 +63,7 @@ module _ (lib : Library) (content : List ℕ → Option (List ℕ)) (words : Lis
   files-told _ left files _ (more {f = f} {ms = ms} {m = m} before taken) e =
       files-told f (suc left) files ms before (omega (arith, e))
       ∙ filing-next f left (heard g s.nodes ms) m taken
-      ∙ ap (λ (r : Peer). told (filing_more p g s (f + 1) left r)) (sym (heard-more g (fresh_peer g s.nodes) ms m))
+      ∙ ap (λ (r : Peer). told (filing_more p g s (f + 1) left r)) (sym (taking-push g (fresh_peer g s.nodes) ms m))
 
   script-told : (files : ℕ) → IsSite lib content words p g s → told (scripted lib p files g) ≡ told (taking_in p g s files)
   script-told files site =
