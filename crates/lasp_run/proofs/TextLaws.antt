@@ -1,15 +1,12 @@
 -- The lines of what variables show, one after the other.
-use Rattle.std.proofs.Common.{◌≡◌, ℕ, ◌+◌, ◌<◌, List, [], ◌∷◌, ◌++◌, length, drop, Some, sym, ap, ◌∙◌, append_assoc, arith}
+use Rattle.std.proofs.Common.{◌≡◌, ℕ, ◌+◌, List, [], ◌∷◌, ◌++◌, drop, Some, sym, ap, ◌∙◌, append_assoc}
 use Rattle.std.specs.Prelude.{slice_get}
 use Rattle.model_values.proofs.ListLaws.{drop-at}
 use Rattle.model_states.specs.Content.{Content}
 use Rattle.model_graph.specs.Graph.{Decl}
-use Rattle.model_graph.specs.Evaluation.{content_at, first_large}
-use Rattle.model_graph.proofs.EvalLaws.{eval-length}
-use Rattle.model_runs.proofs.StopLaws.{first-low}
+use Rattle.model_graph.specs.Evaluation.{content_at}
 use Rattle.model_program.specs.Merge.{value_lines}
 use Rattle.model_world.specs.Line.{line, shown_content}
-use Rattle.model_world.specs.World.{Peer, shown_at}
 
 -- one line more
 pub values-next : (g : List Decl) (x : ℕ) (d : Decl) (shown : List Content) (drawn text more whole : List ℕ) → slice_get g x ≡ Some d → drawn ≡ shown_content d.kind (content_at shown x)
@@ -21,7 +18,3 @@ values-next g x d shown drawn text more whole at is new before =
     ∙ ap (λ (t : List ℕ). text ++ (line (d.name ∷ t ∷ []) ++ rest)) is
     ∙ ap (λ (ds : List Decl). text ++ value_lines x ds shown) (sym (drop-at g x d at))
     ∙ before
-
--- a variable that shows too much is one of the graph
-pub shown-low : (g : List Decl) (r : Peer) (x : ℕ) → first_large 0 (shown_at g r) ≡ Some x → x < length g
-shown-low g r x large = omega (arith, first-low 0 (shown_at g r) x large, eval-length g r.contents)

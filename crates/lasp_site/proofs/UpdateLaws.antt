@@ -11,15 +11,13 @@ use Rattle.model_states.specs.Content.{size_of, row_limit}
 use Rattle.model_states.specs.Counts.{count_at}
 use Rattle.model_states.specs.Update as plain
 use Rattle.model_graph.specs.Chain.{◌>>=◌, check}
-use Rattle.model_graph.specs.Evaluation.{content_at, first_large}
+use Rattle.model_graph.specs.Evaluation.{content_at}
 use Rattle.model_graph.specs.Graph.{Kind, OrSet, GSet, Counter, MaxReg, Decl, kind_at, name_at}
 use Rattle.model_graph.specs.Lawful.{shape_of}
-use Rattle.model_graph.proofs.EvalLaws.{eval-length}
 use Rattle.model_world.specs.Command.{Command}
 use Rattle.model_world.specs.Lawful.{opening_stage, stage_after, MayBeDone, AreLawful}
-use Rattle.model_world.specs.World.{Peer, updated, shown_at}
+use Rattle.model_world.specs.World.{Peer, updated}
 use Rattle.model_runs.specs.Held.{IsUpdate}
-use Rattle.model_runs.proofs.StopLaws.{first-low}
 use Rattle.model_program.specs.declared.refusal.Refusal.TheVariants as shared
 use Rattle.model_site.specs.Follows.{Gives}
 use Rattle.model_site.specs.Site.{own_where, own, IsOwn, adds, removes, inserts, counts, raises, AreOwn, update_limit, update_done, done_by, updates_done, large_refused}
@@ -194,6 +192,3 @@ commands-end p g c r ks i past = ap (updates_done p g c r) (drop_all i ks past) 
 
 abbrev pub then_written : List ℕ → ℕ → List Decl → ℕ → Option ℕ → Result (List ℕ) SiteRefusal
 then_written bytes p g c o = large_refused (λ x. Shared (shared.TooLarge c p (name_at g x))) o >>= (λ _. Ok bytes)
-
-pub shown-low : (g : List Decl) (r : Peer) (x : ℕ) → first_large 0 (shown_at g r) ≡ Some x → x < length g
-shown-low g r x large = omega (arith, first-low 0 (shown_at g r) x large, eval-length g r.contents)

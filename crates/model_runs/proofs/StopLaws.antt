@@ -50,6 +50,10 @@ first-low n (s ∷ ss) x e = choose (λ h. first-low (n + 1) ss x h) (nat_lt row
   choose later true h = let same : n ≡ x = cc in omega (arith, same)
   choose later false h = omega (arith, later h)
 
+-- a variable that shows too much is one of the graph
+pub shown-low : (g : List Decl) (r : Peer) (x : ℕ) → first_large 0 (shown_at g r) ≡ Some x → x < length g
+shown-low g r x large = omega (arith, first-low 0 (shown_at g r) x large, eval-length g r.contents)
+
 each-at : (n : ℕ) (peers : List Peer) (p : ℕ) → AllByRecursion (λ r. length r.contents ≤ n) peers → length (peer_at peers p).contents ≤ n
 each-at n [] zero h = omega arith
 each-at n [] (suc p) h = omega arith

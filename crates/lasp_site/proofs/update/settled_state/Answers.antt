@@ -4,7 +4,7 @@ use Rattle.model_graph.specs.Graph.{Decl}
 use Rattle.model_world.specs.World.{shown_at}
 use Rattle.lasp_drive.specs.Node.{Settles}
 use Rattle.lasp_drive.specs.declared.node.NodeStop.{NodeStop}
-use Rattle.lasp_site.proofs.UpdateLaws.{shown-low}
+use Rattle.model_runs.proofs.StopLaws.{shown-low}
 use Rattle.lasp_site.proofs.update.settled_state.Goals as goal
 
 pub too_large-requires : goal.too_large-requires
