@@ -17,11 +17,7 @@ use Rattle.lasp_graph.specs.States.{Held, held_of, held_at, grown, AreJoinable}
 use Rattle.lasp_graph.proofs.DeltaLaws.{set-flat}
 use Rattle.lasp_replica.specs.Delivery.{IsTaken}
 use Rattle.lasp_replica.proofs.TakenLaws.{held-here, joined-set, taken-still}
-
-new-behind : (rows : List Row) → changed [] rows ≡ rows
-new-behind [] = refl
-new-behind ((k, true) ∷ rows) = ap (λ (s : List Row). (k, true) ∷ s) (new-behind rows)
-new-behind ((k, false) ∷ rows) = ap (λ (s : List Row). (k, false) ∷ s) (new-behind rows)
+use Rattle.lasp_logset.proofs.BehindLaws.{all-new as new-behind}
 
 -- to a set without rows each row is new
 pub all-new : (before after : List Row) → length before ≡ 0 → changed before after ≡ after
