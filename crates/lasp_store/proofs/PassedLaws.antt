@@ -10,14 +10,14 @@ use Rattle.lasp_store.specs.Passed.{IsNeeded, AreOnce, HasPassed}
 use Rattle.lasp_store.proofs.TurnLaws.{turn-seen, turn-frame}
 use Rattle.lasp_store.proofs.SettleLaws.{settled-frame}
 
-later : (a b c : List Entry) → GoesOn a b → GoesOn b c → GoesOn a c
-later a b c x y = (x.0 ++ y.0, y.1 ∙ ap (λ (l : List Entry). l ++ y.0) x.1 ∙ append_assoc a x.0 y.0)
+pub goes-on-chain : (a b c : List Entry) → GoesOn a b → GoesOn b c → GoesOn a c
+goes-on-chain a b c x y = (x.0 ++ y.0, y.1 ∙ ap (λ (l : List Entry). l ++ y.0) x.1 ∙ append_assoc a x.0 y.0)
 
 abbrev needed-later : (X : Frame) (h k : List Entry) (from to most : ℕ) (e : Entry) → GoesOn h k → to ≤ most → IsNeeded X h from to e → IsNeeded X k from most e
 needed-later X h k from to most e on wide n = record {
   var = n.var;
   at = n.at;
-  begins = later n.at h k n.begins on;
+  begins = goes-on-chain n.at h k n.begins on;
   result = n.result;
   unclean = n.unclean;
   low = n.low;

@@ -1,5 +1,5 @@
 -- What a feed that was lent keeps.
-use Rattle.std.proofs.Common.{◌≡◌, ℕ, List, [], ◌++◌, Option, Some, None, Result, Ok, Err, refl, sym, ap, subst, ◌∙◌, append-nil, append_assoc, arith}
+use Rattle.std.proofs.Common.{◌≡◌, ℕ, List, [], Option, Some, None, Result, Ok, Err, refl, sym, ap, subst, ◌∙◌, append-nil, arith}
 use Rattle.std.specs.Prelude.{OnOk, IfOk}
 use Rattle.model_states.specs.Content.{Content}
 use Rattle.model_states.specs.Threshold.{Threshold, AtLeast, Above, Count, Added, Removed}
@@ -18,7 +18,6 @@ use Rattle.lasp_histlock.specs.Names.{LockId}
 use Rattle.lasp_histlock.specs.Passes.{after_miss}
 use Rattle.lasp_drive.specs.Node.{Learns, LearnsAnd, OnlyLearns}
 use Rattle.lasp_drive.specs.Reads.{Grows, Reads, as_they_are}
-use Rattle.lasp_core.specs.Listed.{GoesOn}
 use Rattle.lasp_store.specs.Turn.{Knows, HadTurn, TriedTurn, frame_in}
 use Rattle.lasp_store.specs.Settled.{KnowsOwn}
 use Rattle.lasp_store.specs.Tried.{IfRefused}
@@ -27,6 +26,7 @@ use Rattle.lasp_node.specs.declared.node.LastSent.{LastSent}
 use Rattle.lasp_store_node.specs.View.{Seen, seen, IsEarly, node_of, node_seen, Place, IsFeed}
 use Rattle.lasp_store_node.specs.Lent.{IsHeld, IsLent, IsLentFrom}
 use Rattle.lasp_store_node.proofs.FeedLaws.{posted-later, learns-whatever, turn-learns, turn-place}
+use Rattle.lasp_store.proofs.PassedLaws.{goes-on-chain}
 
 -- what a node learns by two calls it learns by both
 pub learns-chain : (change : List Content → Reads → Reads) (a b c : Seen) → OnlyLearns (node_seen a) (node_seen b) → OnlyLearns (node_seen b) (node_seen c) → LearnsAnd change (node_seen a) (node_seen c)
@@ -61,9 +61,6 @@ its-own store p f = record { seated = record { lock = refl; idle = f.seated.idle
 -- a feed that is lent
 pub just-lent : (start : Option Knows) (store : LockId) (p : Knows) → start ≡ Some p → IsFeed store p → IsLentFrom start p
 just-lent start store p is f = subst (λ (o : Option Knows). IsLentFrom o p) (sym is) (record { feed = its-own store p f; place = refl; learns = learns-nothing p; goes_on = ([], sym (append-nil p.seen)) })
-
-goes-on-chain : (a b c : List Entry) → GoesOn a b → GoesOn b c → GoesOn a c
-goes-on-chain a b c x y = (x.0 ++ y.0, y.1 ∙ ap (λ (l : List Entry). l ++ y.0) x.1 ∙ append_assoc a x.0 y.0)
 
 lent-turn : (start old new : Knows) → IsLent start old → KnowsOwn old → KnowsOwn new → HadTurn [] old new → IsLent start new
 lent-turn start old new l own-old own-new t = record {
