@@ -11,7 +11,7 @@ use Rattle.lasp_live.specs.Posted.{AreOfTheSame, IsPutTo, ArePutBefore, HavePut}
 
 -- ---- numbers of mailboxes
 
-times-most : (k q n : ℕ) → k ≤ q → k * n ≤ q * n
+pub times-most : (k q n : ℕ) → k ≤ q → k * n ≤ q * n
 times-most zero q n low = omega arith
 times-most (suc k) zero n low = absurd (omega (arith, low))
 times-most (suc k) (suc q) n low = let rest = times-most k q n (omega (arith, low)) in omega (arith, rest)

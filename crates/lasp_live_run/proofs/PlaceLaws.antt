@@ -1,7 +1,8 @@
 -- Places in lists that grow and shrink at their ends, and of pairs that are counted row by row.
-use Rattle.std.proofs.Common.{◌≡◌, ℕ, zero, suc, ◌+◌, ◌*◌, ◌<◌, ◌≤◌, ◌⊎◌, inl, inr, List, [], ◌∷◌, ◌++◌, length, Some, refl, sym, ap, ◌∙◌, arith}
+use Rattle.std.proofs.Common.{◌≡◌, ℕ, zero, suc, ◌+◌, ◌*◌, ◌<◌, ◌⊎◌, inl, inr, List, [], ◌∷◌, ◌++◌, length, Some, refl, sym, ap, ◌∙◌, arith}
 use Rattle.std.specs.Prelude.{slice_get}
 use Rattle.std.proofs.lemmas.Option.{same_Some}
+use Rattle.lasp_live.proofs.PostLaws.{times-most}
 
 module _ {A : Type 0} where
   -- what is there is there where one more stands behind
@@ -44,11 +45,6 @@ module _ {A : Type 0} where
 pub rows-more : (q n : ℕ) → (q + 1) * n ≡ q * n + n
 rows-more q n = ap (λ (m : ℕ). m * n) (let next : q + 1 ≡ suc q = omega arith in next) ∙ omega arith
 
-pub rows-most : (k q n : ℕ) → k ≤ q → k * n ≤ q * n
-rows-most zero q n low = omega arith
-rows-most (suc k) zero n low = absurd (omega (arith, low))
-rows-most (suc k) (suc q) n low = let rest = rows-most k q n (omega (arith, low)) in omega (arith, rest)
-
 -- a place of an earlier row stands before a later row
 pub rows-below : (k q n j : ℕ) → k < q → j < n → k * n + j < q * n
-rows-below k q n j low less = let next = rows-most (k + 1) q n (omega (arith, low)) in let more = rows-more k n in omega (arith, next, more, less)
+rows-below k q n j low less = let next = times-most (k + 1) q n (omega (arith, low)) in let more = rows-more k n in omega (arith, next, more, less)
