@@ -16,7 +16,7 @@ use crate::read::{ReadNo, Released};
 use crate::upkeep::{ready_read, ready_reads};
 use lasp_fns::StepLib;
 use lasp_graph::{Decl, EvalRefused, Graph, States};
-use lasp_replica::{DeliverRefused, Entry, Job, NotYet, Replica, Unread, UpdateRefused};
+use lasp_replica::{DeliverRefused, Entry, GivenUp, Job, NotYet, Replica, Unread, UpdateRefused};
 use lasp_state::{Op, State, Threshold};
 use lasp_wire::{Counts, Message};
 use model_core::first_entries_stand_below;
@@ -251,8 +251,16 @@ impl Core {
         requires { IsDerived (journal.graph self.old.frame self.old.entries) job.var }
         ensures { self.new ≡ returned job.var self.old }
     {
-        let parts = job.into_parts();
-        self.replica.stop(parts.var);
+        self.take_back(job.give_up())
+    }
+
+    /// Takes back what is left of a job that was given up: its variable is busy once less.
+    pub fn take_back(&mut self, job: GivenUp)
+        requires { IsDerived (journal.graph self.old.frame self.old.entries) job.var }
+        ensures { self.new ≡ returned job.var self.old }
+    {
+        let GivenUp { var } = job;
+        self.replica.stop(var);
     }
 
     /// Whether a derived variable has taken in its inputs as they are.

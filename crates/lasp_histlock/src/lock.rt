@@ -14,7 +14,14 @@ use std::alloc::{AllocError, Global};
 use std::marker::{Brand, Model};
 use std::snapshot::Snapshot;
 use std::sync::Wait;
-use std::thread::yield_now;
+use std::thread::{Parker, yield_now};
+use std::time::Duration;
+
+/// Behind how many tries that found the value taken a pass rests.
+const TURNS: u32 = 64;
+
+/// How long it rests between two tries at most, in microseconds.
+const LONGEST_REST: u32 = 512;
 
 /// A value under a lock, which counts the history of the value. Contracts see it as which lock it is.
 #[derive(Drop)]
@@ -75,7 +82,7 @@ impl<T: Kept + Drop> HistLock<T> {
         Some(Held { value, taken })
     }
 
-    /// Takes the value. It tries until it has it, so it may wait for another thread, and lets others run between two tries.
+    /// Takes the value. It tries until it has it, so it may wait for another thread. Between two tries it lets others run, and rests from the 64th on, half a millisecond at most.
     pub fn take<R: Wait>(&self, rt: &R, p: &mut Pass<T>) -> Held<T>
         requires lock { p.old.lock ≡ self.now }
         requires idle { p.old.turn ≡ false }
@@ -86,11 +93,13 @@ impl<T: Kept + Drop> HistLock<T> {
         ensures frame { Some (T.frame result.value) ≡ p.old.frame }
         ensures taken { result.taken.value ≡ result.value }
     {
+        let mut tries: u32 = 0;
         for _ in rt.forever() {
             if let Some(held) = self.try_take(p) {
                 return held;
             }
-            yield_now();
+            give_way(rt, tries);
+            tries = tries.saturating_add(1);
         }
         unreachable!()
     }
@@ -185,5 +194,15 @@ impl<T: Kept + Drop> HistLock<T> {
             return None;
         }
         Some(turns::begin(board, &mut seat))
+    }
+}
+
+/// Lets others go on behind so many tries in a row that found the value taken.
+fn give_way<R: Wait>(rt: &R, tries: u32) {
+    if tries < TURNS {
+        yield_now();
+    } else {
+        let micros = LONGEST_REST.min(tries);
+        Parker::new().park_timeout(rt, Duration::from_micros(u64::from(micros)));
     }
 }

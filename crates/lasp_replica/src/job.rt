@@ -12,6 +12,7 @@ ghost use Rattle.lasp_graph.specs.Delta.{gained};
 ghost use Rattle.lasp_graph.specs.Evaluated.{process, Becomes, seen, derived_shape, number_by, second_of};
 ghost use Rattle.lasp_replica.specs.Asked.{IsAsked, IsAsked-prop, IsGained, IsGained-prop};
 
+use super::given_up::GivenUp;
 use super::parts::JobParts;
 use lasp_fns::StepLib;
 use lasp_graph::{EvalRefused, Graph, Inputs, node_gain};
@@ -123,6 +124,14 @@ impl Job {
         )?;
         self.gain = Some(gain.rows);
         Ok(gain.state)
+    }
+
+    /// Gives the job up, and with it all that it shares.
+    pub fn give_up(self) -> GivenUp
+        ensures { result.var ≡ self.var }
+    {
+        let parts = self.into_parts();
+        GivenUp { var: parts.var }
     }
 
     /// Takes the job apart.

@@ -4,6 +4,7 @@
 #![tactic(auto)]
 
 mod entry;
+mod given_up;
 mod growth;
 mod history;
 mod job;
@@ -19,6 +20,7 @@ mod sources;
 mod unread;
 
 pub use entry::{Act, Entry};
+pub use given_up::GivenUp;
 pub use history::History;
 pub use job::Job;
 pub use kept::{binds_are_kept, declarations_are_kept, deliveries_are_kept, updates_are_kept};

@@ -8,7 +8,7 @@ use crate::store::{Hand, Store};
 use lasp_core::{
     Core, NotYet, Released, Try, jobs_stay, states_are_those_after_the_entries, variables_stay,
 };
-use lasp_replica::Job;
+use lasp_replica::{GivenUp, Job};
 use lasp_state::State;
 use std::alloc::AllocError;
 use std::sync::{Arc, Wait};
@@ -134,18 +134,18 @@ impl Store {
         self.end_finish(h, core, job, state)
     }
 
-    fn end_back(&self, h: &mut Hand, mut core: Box<Core>, job: Job)
+    fn end_back(&self, h: &mut Hand, mut core: Box<Core>, job: GivenUp)
         requires turn { IsInTurn self.now h.old core.value }
         requires derived { IsDerived (graph_seen h.old) job.var }
         ensures { HasEnded [] h.old h.new }
     {
         core.recall();
-        core.give_back(job);
+        core.take_back(job);
         core.recall();
         self.end(h, core);
     }
 
-    /// Takes a job back that wasn't done. It may wait for others.
+    /// Takes a job back that wasn't done. It may wait for others, who can write in place by then what the job shared.
     pub fn give_back<R: Wait>(&self, rt: &R, h: &mut Hand, job: Job)
         requires lock { h.old.lock ≡ self.now }
         requires idle { h.old.turn ≡ false }
@@ -153,6 +153,7 @@ impl Store {
         ensures { HadTurn [] h.old h.new }
     {
         variables_stay();
+        let job = job.give_up();
         let core = self.begin(rt, h);
         self.end_back(h, core, job)
     }
