@@ -13,3 +13,5 @@ pub mod PlaceLaws
 pub mod NearLaws
 pub mod AnyLaws
 pub mod WeightLaws
+pub mod TakenLaws
+pub mod RowListLaws

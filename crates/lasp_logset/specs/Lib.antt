@@ -11,3 +11,4 @@ pub mod Asked
 pub mod Passes
 pub mod Shown
 pub mod Weights
+pub mod Taken

@@ -10,6 +10,7 @@ ghost use Rattle.lasp_logset.specs.Chains.{AreChained};
 ghost use Rattle.lasp_logset.specs.Few.{AreSeen};
 ghost use Rattle.lasp_logset.specs.Kept.{AreKept};
 ghost use Rattle.lasp_logset.specs.Places.{AreFound};
+ghost use Rattle.lasp_logset.specs.Taken.{IsTaken};
 ghost use Rattle.lasp_logset.specs.Weights.{IsBounded, rows_weight};
 
 use super::chains::Chains;
@@ -22,6 +23,7 @@ use super::near::{Hint, level_near, raises_near};
 use super::past::Past;
 use super::places::Places;
 use super::table::{arriving, brings_nothing, news, put_in, put_news, raises, table_of};
+use super::telling::{in_turn, put_told};
 use indexmap::IndexMap;
 use lasp_log::Items;
 use lasp_value::Value;
@@ -343,6 +345,21 @@ impl LogSet {
         put_news(&mut self.rows, &mut self.log, news);
         self.log.seal();
         Ok(())
+    }
+
+    /// Puts rows in of which several may have one key, and gives those that told more. Each costs a look-up, and each that told more another one. All memory is taken first.
+    pub(crate) fn take_rows(&mut self, rows: Vec<Entry>) -> Result<Vec<Entry>, AllocError>
+        ensures taken { IfOk result (λ told. IsTaken self.old rows.items self.new told.items) }
+        ensures err { OnErr result (self.new ≡ self.old) }
+    {
+        let alloc = self.log.allocator();
+        let coming = in_turn(alloc, rows)?;
+        let mut told = Vec::with_capacity(alloc, coming.len())?;
+        self.rows.reserve(coming.len())?;
+        self.log.reserve(coming.len())?;
+        put_told(&mut self.rows, &mut self.log, &mut told, coming);
+        self.log.seal();
+        Ok(told)
     }
 
     /// The state as it is now. It costs what a share of the log does, and stays as it is when the set grows.

@@ -16,4 +16,6 @@ mod sets;
 #[cfg(test)]
 mod spelling;
 #[cfg(test)]
+mod taking;
+#[cfg(test)]
 mod value;
