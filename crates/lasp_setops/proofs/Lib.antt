@@ -11,3 +11,4 @@ pub mod PassLaws
 pub mod FoldLaws
 pub mod ModuloLaws
 pub mod LimitLaws
+pub mod ListedLaws

@@ -6,6 +6,7 @@ mod filter;
 mod fold;
 mod increments;
 mod laws;
+mod listed;
 mod map;
 mod pairs;
 mod refused;
@@ -19,6 +20,7 @@ pub use increments::{
     filter_increment, intersect_increment, map_increment, product_increment, union_increment,
 };
 pub use laws::{processes_follow_any_change, processes_keep_widths};
+pub use listed::{filter_rows, map_rows, share_rows, union_rows};
 pub use map::map_set;
 pub use pairs::{intersect_sets, product_sets};
 pub use refused::SetRefused;
