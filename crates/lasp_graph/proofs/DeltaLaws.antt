@@ -1,11 +1,11 @@
 -- Processes after changes of their inputs.
-use Rattle.std.proofs.Common.{◌≡◌, ◌∙◌, refl, sym, ap, subst, ◌<◌, ◌≤◌, List, [], ◌∷◌, length, map, flat_map, filter, ℕ, Result, Ok, Err, IfOk, arith}
+use Rattle.std.proofs.Common.{◌≡◌, ◌∙◌, refl, sym, ap, subst, ◌<◌, ◌≤◌, List, [], length, map, ℕ, Result, Ok, Err, IfOk, arith}
 use Rattle.model_values.specs.Row.{Row}
 use Rattle.model_functions.specs.Map.{mapped}
 use Rattle.model_functions.specs.Predicate.{passes}
-use Rattle.model_sets.specs.Rows.{mark, IsAscending, of_rows, join, is_of}
-use Rattle.model_sets.specs.Equations.{changed, map_set, filter_set, product_set, intersect_set, paired, met, moved}
-use Rattle.model_sets.proofs.RowLaws.{ascending-join, ascending-of_rows, join-left, join-right, join-nothing, of_rows-ascending}
+use Rattle.model_sets.specs.Rows.{mark, IsAscending, join}
+use Rattle.model_sets.specs.Equations.{changed, map_set, filter_set, product_set, intersect_set, moved}
+use Rattle.model_sets.proofs.RowLaws.{ascending-join, ascending-of_rows, join-right}
 use Rattle.model_sets.proofs.EquationLaws.{ascending-changed, join-changed, map-grown, filter-grown, union-grown, product-grown, intersect-grown, filter-ascending}
 use Rattle.model_states.specs.Content.{Content, of_set, at_row, IsContentAtMost, size_of}
 use Rattle.model_graph.specs.Graph.{Kind, OrSet, GSet, Counter, MaxReg, Union, Product, Intersection, Map, Filter, Fold}
@@ -17,7 +17,6 @@ use Rattle.model_states.proofs.SizeLaws.{length-at_most}
 use Rattle.lasp_graph.specs.Evaluated.{process}
 use Rattle.lasp_graph.specs.Delta.{IsSetBefore, IsStateBefore, IsStateOf, gained}
 use Rattle.model_graph.specs.Increment.{IsChange}
-use Rattle.lasp_setops.specs.Grown.{IsGrown}
 use Rattle.lasp_setops.specs.Width.{IsSetOfWidth}
 use Rattle.lasp_setops.proofs.FoldLaws.{change-below}
 
@@ -95,34 +94,6 @@ long-joined n k x_change x y_change y rows more all h is joined long =
 
 pub joined-rows : (all old rows new : List Row) → all ≡ old → new ≡ join all rows → new ≡ join old rows
 joined-rows all old rows new copy joined = joined ∙ ap (λ (s : List Row). join s rows) copy
-
-product-nothing : (x : List Row) → flat_map (λ r. map (paired r) []) x ≡ []
-product-nothing [] = refl
-product-nothing (r ∷ x) = product-nothing x
-
-intersect-nothing : (x : List Row) → flat_map (λ r. map (met r) (filter (is_of r.0.0) [])) x ≡ []
-intersect-nothing [] = refl
-intersect-nothing (r ∷ x) = intersect-nothing x
-
--- nothing changed in the first set, and the second one is all new
-pub unchanged : (nothing x : List Row) → nothing ≡ [] → IsAscending x → IsGrown x nothing x
-unchanged nothing x none up = record { ascends = up; joined = ap (join x) none ∙ join-nothing x up }
-
-pub all-new : (d : List Row) → IsAscending d → IsGrown [] d d
-all-new d up = record { ascends = refl; joined = of_rows-ascending d up }
-
-pub product-none : (nothing x : List Row) → nothing ≡ [] → nothing ≡ product_set x []
-product-none nothing x none = none ∙ sym (ap of_rows (product-nothing x))
-
-pub intersect-none : (nothing x : List Row) → nothing ≡ [] → nothing ≡ intersect_set x []
-intersect-none nothing x none = none ∙ sym (ap of_rows (intersect-nothing x))
-
--- what is too long is so with more joined in
-pub longer-left : (n : ℕ) (s t : List Row) → IsAscending s → n < length s → n < length (join s t)
-longer-left n s t up long = let most = length-at_most s (join s t) up (ascending-join s t) (join-left s t) in omega (arith, long, most)
-
-pub longer-right : (n : ℕ) (s t : List Row) → IsAscending t → n < length t → n < length (join s t)
-longer-right n s t up long = let most = length-at_most t (join s t) up (ascending-join s t) (join-right s t) in omega (arith, long, most)
 
 -- ---- the states that a process had before
 

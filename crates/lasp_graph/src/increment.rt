@@ -1,7 +1,7 @@
 //! What one process gains after its inputs changed, on the sets themselves.
 
-ghost use Rattle.std.specs.Prelude.{◌≡◌, ◌+◌, ◌<◌, ◌≤◌, Err, Some, IfOk, IsFalse, IsTrue, length};
-ghost use Rattle.lasp_graph.specs.Prelude.{mapped, passes, operations_at, IsAtMost, join, map_set, filter_set, product_set, intersect_set, of_set, size_of, row_limit, set, fold, is_source, IsFoldOp, IsKind, fold_rows, IsChange, Fits, lift_op_of, maps_of, predicates_of, lifts_of, lift_op_at, IsWithinLimits, IsSetOfWidth, content_of, number_of, library_of, kind_of, process, Becomes, seen, derived_shape, number_by, IsStateBefore, IsSetBefore, gained};
+ghost use Rattle.std.specs.Prelude.{◌≡◌, ◌+◌, ◌<◌, ◌≤◌, Err, Some, IfOk, IsFalse, length};
+ghost use Rattle.lasp_graph.specs.Prelude.{mapped, passes, operations_at, join, map_set, filter_set, of_set, size_of, row_limit, set, fold, is_source, IsFoldOp, IsKind, fold_rows, IsChange, Fits, lift_op_of, maps_of, predicates_of, lifts_of, lift_op_at, IsWithinLimits, IsSetOfWidth, content_of, number_of, library_of, kind_of, process, Becomes, seen, derived_shape, number_by, IsStateBefore, IsSetBefore, gained};
 ghost use Rattle.lasp_fns.specs.Steps as counted;
 ghost use Rattle.lasp_state.specs.State.{shape_of};
 ghost use Rattle.lasp_graph.specs.Kind.{fold_op_of};
@@ -11,8 +11,8 @@ use super::kind::{FoldOp, Kind, LiftRef, MapRef, PredRef};
 use lasp_fns::StepLib;
 use lasp_logset::OrSet;
 use lasp_setops::{
-    Modulo, SetRefused, Sum, Xor, filter_counted, fold_increment, intersect_increment,
-    intersect_sets, map_counted, product_increment, product_sets, union_sets,
+    Modulo, Pairing, SetRefused, Sum, Xor, filter_counted, fold_increment, map_counted, pair_gain,
+    union_sets,
 };
 use lasp_state::State;
 use std::alloc::{AllocError, Global};
@@ -227,8 +227,10 @@ fn gained_rows(
 {
     match kind {
         Kind::Union(_, _) => union_sets(x_change, y_change),
-        Kind::Product(_, _) => product_gain(alloc, x, x_change, y, y_change),
-        Kind::Intersection(_, _) => intersect_gain(alloc, x, x_change, y, y_change),
+        Kind::Product(_, _) => pair_gain(alloc, Pairing::Product, x, x_change, y, y_change),
+        Kind::Intersection(_, _) => {
+            pair_gain(alloc, Pairing::Intersection, x, x_change, y, y_change)
+        }
         Kind::Map(_, f) => match map_gain(alloc, lib, f, x_change) {
             Ok(set) => Ok(set),
             Err(_) => Err(SetRefused::Memory),
@@ -239,60 +241,6 @@ fn gained_rows(
         },
         _ => unreachable!(),
     }
-}
-
-/// Whether all rows of the first set changed, as at first, so that the changed rows of the second meet no other ones. It costs a look-up for each changed row at most.
-fn has_all(x: &OrSet, x_change: &OrSet, y: &OrSet, y_change: &OrSet) -> bool
-    ensures first { IsTrue result → IsAtMost x.now x_change.now }
-    ensures second { IsTrue result → IsAtMost y_change.now y.now }
-{
-    x.le(x_change) && y_change.le(y)
-}
-
-/// The changed rows of the first set with the second set, and the first set with the changed rows of the second, each gone through by the changed rows.
-fn product_gain(
-    alloc: Global,
-    x: &OrSet,
-    x_change: &OrSet,
-    y: &OrSet,
-    y_change: &OrSet,
-) -> Result<OrSet, SetRefused>
-    ensures ok { IfOk result (λ s. s ≡ join (product_set x_change.now y.now) (product_set x.now y_change.now)) }
-    ensures too_many { result ≡ Err SetRefused.TooManyRows → row_limit < length (join (product_set x_change.now y.now) (product_set x.now y_change.now)) }
-{
-    let nothing = x.empty();
-    let mut rows = product_sets(alloc, x_change, y)?;
-    if has_all(x, x_change, y, y_change) {
-        return Ok(rows);
-    }
-    x.ascends();
-    y_change.ascends();
-    let more = product_increment(alloc, &nothing, x, &nothing, y_change, y_change)?;
-    rows.join_in(&more)?;
-    Ok(rows)
-}
-
-/// The same of two sets' rows that have one value.
-fn intersect_gain(
-    alloc: Global,
-    x: &OrSet,
-    x_change: &OrSet,
-    y: &OrSet,
-    y_change: &OrSet,
-) -> Result<OrSet, SetRefused>
-    ensures ok { IfOk result (λ s. s ≡ join (intersect_set x_change.now y.now) (intersect_set x.now y_change.now)) }
-    ensures too_many { result ≡ Err SetRefused.TooManyRows → row_limit < length (join (intersect_set x_change.now y.now) (intersect_set x.now y_change.now)) }
-{
-    let nothing = x.empty();
-    let mut rows = intersect_sets(alloc, x_change, y)?;
-    if has_all(x, x_change, y, y_change) {
-        return Ok(rows);
-    }
-    x.ascends();
-    y_change.ascends();
-    let more = intersect_increment(alloc, &nothing, x, &nothing, y_change, y_change)?;
-    rows.join_in(&more)?;
-    Ok(rows)
 }
 
 /// What a function of the library makes of the changed rows.

@@ -108,19 +108,15 @@ long-fresh n s t none up h = subst (λ (u : List Row). n < length u) (join-fresh
 
 -- ---- a gain that is made of two parts and joined in at once
 
+-- what is too long is so with more joined in
+pub long-left : (n : ℕ) (s t : List Row) → IsAscending s → n < length s → n < length (join s t)
+long-left n s t up h = omega (arith, h, length-grows s t up)
+
 long-right : (n : ℕ) (s t : List Row) → IsAscending t → n < length t → n < length (join s t)
 long-right n s t up h = let turned : length (join t s) ≡ length (join s t) = ap length (join-commutative t s) in omega (arith, h, turned, length-grows t s up)
 
-pub gain-first : (n : ℕ) (none old a b whole : List Row) → none ≡ [] → IsAscending a → join (join old a) b ≡ whole → n < length (join none a) → n < length whole
-gain-first n none old a b whole empty up is h =
-    let same : length (join (join old a) b) ≡ length whole = ap length is in
-    omega (arith, same, long-right n old a up (long-fresh n none a empty up h), length-grows (join old a) b (ascending-join old a))
+pub gain-long : (n : ℕ) (old a b whole : List Row) → join (join old a) b ≡ whole → n < length (join a b) → n < length whole
+gain-long n old a b whole is h = subst (λ (s : List Row). n < length s) (sym (join-associative old a b) ∙ is) (long-right n old (join a b) (ascending-join a b) h)
 
-pub gain-second : (n : ℕ) (none first old a b whole : List Row) → none ≡ [] → IsAscending a → first ≡ join none a → join (join old a) b ≡ whole → n < length (join first b) → n < length whole
-gain-second n none first old a b whole empty up one is h =
-    let more : n < length (join a b) = subst (λ (s : List Row). n < length (join s b)) (one ∙ join-fresh none a empty up) h in
-    subst (λ (s : List Row). n < length s) (sym (join-associative old a b) ∙ is) (long-right n old (join a b) (ascending-join a b) more)
-
-pub gain-joined : (none first gain old a b whole : List Row) → none ≡ [] → IsAscending a → first ≡ join none a → gain ≡ join first b → join (join old a) b ≡ whole → join old gain ≡ whole
-gain-joined none first gain old a b whole empty up one two is =
-    ap (join old) (two ∙ ap (λ (s : List Row). join s b) (one ∙ join-fresh none a empty up)) ∙ sym (join-associative old a b) ∙ is
+pub gain-joined : (gain old a b whole : List Row) → gain ≡ join a b → join (join old a) b ≡ whole → join old gain ≡ whole
+gain-joined gain old a b whole made is = ap (join old) made ∙ sym (join-associative old a b) ∙ is

@@ -1,11 +1,11 @@
 -- The laws of both ways to make a set of two row by row.
 use Rattle.std.proofs.Common.{◌≡◌, ◌∙◌, ℕ, ◌<◌, Bool, true, false, if◌then◌else◌, List, [], ◌∷◌, map, filter, flat_map, length, Result, Ok, Err, OnOk, sym, ap, subst}
 use Rattle.model_values.specs.Row.{Row}
-use Rattle.model_sets.specs.Rows.{IsAscending, put, of_rows, join, is_of}
+use Rattle.model_sets.specs.Rows.{IsAscending, IsAtMost, put, of_rows, join, is_of}
 use Rattle.model_sets.specs.Rises.{AreApart}
 use Rattle.model_sets.specs.Equations.{paired, met}
 use Rattle.model_sets.proofs.RowLaws.{join-row, join-nothing, join-of_rows}
-use Rattle.model_sets.proofs.EquationLaws.{ascending-product, ascending-intersect}
+use Rattle.model_sets.proofs.EquationLaws.{ascending-product, ascending-intersect, product-monotone, intersect-monotone}
 use Rattle.lasp_setops.specs.Grown.{IsGrown}
 use Rattle.lasp_setops.specs.Pairs.{gives, gives_from, pair_set, pair_set_from, partners}
 use Rattle.lasp_setops.specs.declared.pairs.Pairing.{Pairing}
@@ -55,6 +55,10 @@ partners-any Intersection Second s r rows y apart is = met_by-any s r rows y apa
 pub ascending-pairs : (p : Pairing) (x y : List Row) → IsAscending (pair_set p x y)
 ascending-pairs Product x y = ascending-product x y
 ascending-pairs Intersection x y = ascending-intersect x y
+
+pub pairs-monotone : (p : Pairing) (x x' y y' : List Row) → IsAtMost x x' → IsAtMost y y' → IsAtMost (pair_set p x y) (pair_set p x' y')
+pairs-monotone Product x x' y y' = product-monotone x x' y y'
+pairs-monotone Intersection x x' y y' = intersect-monotone x x' y y'
 
 -- row by row of the first set, and of that on either side
 pairs-first : (p : Pairing) (s x y : List Row) → join s (by_first (gives p) x y) ≡ join s (pair_set p x y)

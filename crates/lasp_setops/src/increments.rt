@@ -1,7 +1,7 @@
 //! Each process after its inputs changed: from the result before, the changed rows, and for two inputs the sets as they are now. The cost is that of the changed rows and of the rows that they give, and a share of the log of the result: what a change gives is made apart and joined in at once.
 
-ghost use Rattle.std.specs.Prelude.{◌≡◌, ◌<◌, ◌≤◌, ◌+◌, Err, IfOk, List, length};
-ghost use Rattle.lasp_setops.specs.Prelude.{Row, mapped, passes, map_set, filter_set, union_set, product_set, intersect_set, pair_set, row_limit, maps_of, predicates_of, map_ops_at, pred_ops_at, library_of, ticks_of, IsSetOfWidth, IsGrown};
+ghost use Rattle.std.specs.Prelude.{◌≡◌, ◌<◌, ◌≤◌, ◌+◌, Err, IfOk, IsTrue, List, length};
+ghost use Rattle.lasp_setops.specs.Prelude.{Row, mapped, passes, join, IsAtMost, map_set, filter_set, union_set, product_set, intersect_set, pair_set, row_limit, maps_of, predicates_of, map_ops_at, pred_ops_at, library_of, ticks_of, IsSetOfWidth, IsGrown};
 
 use crate::counted::{filter_counted, map_counted};
 use crate::pairs::{Pairing, Side};
@@ -93,7 +93,7 @@ pub fn intersect_increment(
     pair_increment(alloc, Pairing::Intersection, old, x, x_change, y, y_change)
 }
 
-/// The product or the intersection after changes, each row that changed with the rows that the other set has now.
+/// The product or the intersection after changes, from that before.
 fn pair_increment(
     alloc: Global,
     pairing: Pairing,
@@ -107,8 +107,34 @@ fn pair_increment(
     ensures small { IfOk result (λ s. length s ≤ row_limit) }
     ensures too_many { result ≡ Err SetRefused.TooManyRows → (x_before y_before : List Row) → IsGrown x_before x_change.now x.now → IsGrown y_before y_change.now y.now → old.now ≡ pair_set pairing x_before y_before → row_limit < length (pair_set pairing x.now y.now) }
 {
-    let mut gain = old.empty();
-    pairing.add(alloc, &mut gain, Side::First, x_change, y)?;
-    pairing.add(alloc, &mut gain, Side::Second, y_change, x)?;
+    let gain = pair_gain(alloc, pairing, x, x_change, y, y_change)?;
     union_sets(old, &gain)
+}
+
+/// What changes of both sets give to what is made of the two: each row that changed with the rows that the other set has now. It costs the changed rows and the rows that they give. Where all rows of the first set changed, as at first, those that changed in the second meet no other ones and aren't gone through.
+pub fn pair_gain(
+    alloc: Global,
+    pairing: Pairing,
+    x: &OrSet,
+    x_change: &OrSet,
+    y: &OrSet,
+    y_change: &OrSet,
+) -> Result<OrSet, SetRefused>
+    ensures ok { IfOk result (λ s. s ≡ join (pair_set pairing x_change.now y.now) (pair_set pairing x.now y_change.now)) }
+    ensures too_many { result ≡ Err SetRefused.TooManyRows → row_limit < length (join (pair_set pairing x_change.now y.now) (pair_set pairing x.now y_change.now)) }
+{
+    let mut rows = pairing.of(alloc, x_change, y)?;
+    if has_all(x, x_change, y, y_change) {
+        return Ok(rows);
+    }
+    pairing.add(alloc, &mut rows, Side::Second, y_change, x)?;
+    Ok(rows)
+}
+
+/// Whether all rows of the first set changed, and those of the second are among it. It costs a look-up for each changed row at most.
+fn has_all(x: &OrSet, x_change: &OrSet, y: &OrSet, y_change: &OrSet) -> bool
+    ensures first { IsTrue result → IsAtMost x.now x_change.now }
+    ensures second { IsTrue result → IsAtMost y_change.now y.now }
+{
+    x.le(x_change) && y_change.le(y)
 }

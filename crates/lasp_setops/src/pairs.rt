@@ -30,7 +30,7 @@ pub fn intersect_sets(alloc: Global, x: &OrSet, y: &OrSet) -> Result<OrSet, SetR
 
 /// What is made of two sets, row by row.
 #[derive(Clone, Copy)]
-pub(crate) enum Pairing {
+pub enum Pairing {
     /// Of each row with each row.
     Product,
     /// Of each row with each row of its value.
@@ -45,7 +45,7 @@ pub(crate) enum Side {
 }
 
 impl Pairing {
-    fn of(self, alloc: Global, x: &OrSet, y: &OrSet) -> Result<OrSet, SetRefused>
+    pub(crate) fn of(self, alloc: Global, x: &OrSet, y: &OrSet) -> Result<OrSet, SetRefused>
         ensures ok { IfOk result (λ s. s ≡ pair_set self x.now y.now) }
         ensures small { IfOk result (λ s. length s ≤ row_limit) }
         ensures too_many { result ≡ Err SetRefused.TooManyRows → row_limit < length (pair_set self x.now y.now) }
