@@ -58,11 +58,11 @@ set-gained (Filter i place ops) x_change x y_change y rows h =
     ap of_set (filter-grown (passes ops) h.first x_change x h.first_grown.was h.first_grown.ascends h.first_grown.joined ∙ ap (λ (s : List Row). join s (filter_set (passes ops) x_change)) (sym (rows-were rows _ h.was)))
 set-gained (Fold i op place lift) x_change x y_change y rows h = ap of_set (sym h.first_grown.joined ∙ ap (λ (s : List Row). join s x_change) (sym (rows-were rows _ h.was)))
 
--- the same of an answer
-pub ok-gained : {E : Type 0} (r : Result (List Row) E) (k : Kind) (x_change x y_change y rows : List Row) → IsSetBefore k x_change x y_change y rows → IfOk r (λ s. s ≡ gained k x_change x y_change y)
-    → IfOk r (λ s. process k (of_set x) (of_set y) ≡ of_set (join rows s))
-ok-gained (Ok s) k x_change x y_change y rows h is = set-gained k x_change x y_change y rows h ∙ ap (λ (more : List Row). of_set (join rows more)) (sym is)
-ok-gained (Err e) k x_change x y_change y rows h is = tt
+-- the same of an answer, whose rows are in a list
+pub ok-gained : {A E : Type 0} (rows_of : A → List Row) (r : Result A E) (k : Kind) (x_change x y_change y rows : List Row) → IsSetBefore k x_change x y_change y rows → IfOk r (λ s. rows_of s ≡ gained k x_change x y_change y)
+    → IfOk r (λ s. process k (of_set x) (of_set y) ≡ of_set (join rows (rows_of s)))
+ok-gained rows_of (Ok s) k x_change x y_change y rows h is = set-gained k x_change x y_change y rows h ∙ ap (λ (more : List Row). of_set (join rows more)) (sym is)
+ok-gained rows_of (Err e) k x_change x y_change y rows h is = tt
 
 ascending-gained : (k : Kind) (x_change x y_change y : List Row) → IsAscending x_change → IsAscending (gained k x_change x y_change y)
 ascending-gained OrSet x_change x y_change y up = refl

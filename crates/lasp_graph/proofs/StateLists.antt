@@ -20,7 +20,7 @@ pub held-found : {Z : Type 0} (states : List (Arc State Z)) (i : ℕ) (old : Arc
 held-found {Z = Z} states i old within found = ap (λ (s : Arc State Z). shown s) found ∙ sym (get_or-map (λ (s : Arc State Z). shown s) states i old _ within)
 
 -- a list of shared states in which one became another one
-pub turn-at-ok : {E Z : Type 0} (r : Result (Unit {0}) E) (states : List (Arc State Z)) (i : ℕ) (old new : Arc State Z) (turned : Held → Held) → i < length states → old ≡ get_or states i old
+pub turn-at-ok : {A E Z : Type 0} (r : Result A E) (states : List (Arc State Z)) (i : ℕ) (old new : Arc State Z) (turned : Held → Held) → i < length states → old ≡ get_or states i old
     → OnOk r (shown new ≡ turned (shown old)) → OnOk r (all_shown (slice_set states i new) ≡ slice_set (all_shown states) i (turned (held_at (all_shown states) i)))
 turn-at-ok {Z = Z} (Ok done) states i old new turned within found h =
     map-set (λ (s : Arc State Z). shown s) states i new
@@ -31,7 +31,7 @@ turn-at-ok (Err e) states i old new turned within found h = tt
 pub same-at : {Z : Type 0} (states : List (Arc State Z)) (i : ℕ) (old new : Arc State Z) → old ≡ get_or states i old → arc_value new ≡ arc_value old → all_shown (slice_set states i new) ≡ all_shown states
 same-at {Z = Z} states i old new found h = map-set_same (λ (s : Arc State Z). shown s) states i new old (ap held_of h ∙ ap (λ (s : Arc State Z). shown s) found)
 
-pub turn-at-err : {E Z : Type 0} (r : Result (Unit {0}) E) (states : List (Arc State Z)) (i : ℕ) (old new : Arc State Z) → old ≡ get_or states i old
+pub turn-at-err : {A E Z : Type 0} (r : Result A E) (states : List (Arc State Z)) (i : ℕ) (old new : Arc State Z) → old ≡ get_or states i old
     → OnErr r (shown new ≡ shown old) → OnErr r (all_shown (slice_set states i new) ≡ all_shown states)
 turn-at-err (Ok done) states i old new found h = tt
 turn-at-err {Z = Z} (Err e) states i old new found h =

@@ -2,7 +2,7 @@
 pub use Rattle.std.specs.Arc.{arc_value}
 pub use Rattle.serde_json.specs.View.{number_view, view}
 pub use Rattle.model_sets.specs.Equations.{changed, filter_set, intersect_set, map_set, product_set}
-pub use Rattle.model_sets.specs.Rows.{IsAtMost, join}
+pub use Rattle.model_sets.specs.Rows.{IsAtMost, join, of_rows}
 pub use Rattle.model_functions.specs.Library.{operations_at}
 pub use Rattle.model_functions.specs.Map.{mapped}
 pub use Rattle.model_functions.specs.Predicate.{passes}

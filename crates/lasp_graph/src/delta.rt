@@ -1,7 +1,7 @@
 //! One process after its inputs changed: from its state before and the changed rows, its state and what it gained.
 
 ghost use Rattle.std.specs.Prelude.{◌≡◌, ◌+◌, ◌<◌, ◌≤◌, Err, IfOk, IsFalse, length};
-ghost use Rattle.lasp_graph.specs.Prelude.{arc_value, join, changed, of_set, size_of, row_limit, IsContentAtMost, set, kind_at, is_source, IsChange, HasWidth, FitsAll, content_of, number_of, library_of, process, Becomes, seen, derived_shape, number_by, second_of, IsStateOf, IsStateBefore, IsForMemory, gained};
+ghost use Rattle.lasp_graph.specs.Prelude.{arc_value, join, of_rows, changed, of_set, size_of, row_limit, IsContentAtMost, set, kind_at, is_source, IsChange, HasWidth, FitsAll, content_of, number_of, library_of, process, Becomes, seen, derived_shape, number_by, second_of, IsStateOf, IsStateBefore, IsForMemory, gained};
 ghost use Rattle.lasp_fns.specs.Steps as counted;
 ghost use Rattle.lasp_state.specs.State.{shape_of};
 
@@ -9,7 +9,7 @@ use super::graph::Graph;
 use super::increment::{Gain, RowsGained, eval_gain, eval_rows_gained};
 use super::inputs::{EvalRefused, Inputs};
 use lasp_fns::StepLib;
-use lasp_logset::{OrSet, changed};
+use lasp_logset::{OrSet, RowList, changed};
 use lasp_state::State;
 use std::alloc::Global;
 
@@ -123,9 +123,9 @@ pub fn node_rows_gained(
     var: u8,
     old: &State,
     x: &State,
-    first: &OrSet,
+    first: &RowList,
     y: &State,
-    second: &OrSet,
+    second: &RowList,
 ) -> Result<RowsGained, EvalRefused>
     requires declared { var < length g.now }
     requires derived { IsFalse (is_source (kind_at g.now var)) }
@@ -134,8 +134,8 @@ pub fn node_rows_gained(
     requires old { IsStateBefore (kind_at g.now var) first.now (content_of x.now).rows second.now (content_of y.now).rows old.now }
     requires width { HasWidth 16 (content_of x.now) }
     requires small { size_of (content_of x.now) ≤ row_limit }
-    ensures rows { IfOk result (λ a. a.rows ≡ gained (kind_at g.now var) first.now (content_of x.now).rows second.now (content_of y.now).rows) }
-    ensures whole { IfOk result (λ a. process (kind_at g.now var) (content_of x.now) (content_of y.now) ≡ of_set (join (content_of old.now).rows a.rows)) }
+    ensures rows { IfOk result (λ a. of_rows a.rows.items ≡ gained (kind_at g.now var) first.now (content_of x.now).rows second.now (content_of y.now).rows) }
+    ensures whole { IfOk result (λ a. process (kind_at g.now var) (content_of x.now) (content_of y.now) ≡ of_set (join (content_of old.now).rows (of_rows a.rows.items))) }
     ensures number { IfOk result (λ a. a.number ≡ number_by (kind_at g.now var) (process (kind_at g.now var) (content_of x.now) (content_of y.now))) }
     ensures large { result ≡ Err EvalRefused.TooManyRows → row_limit < size_of (process (kind_at g.now var) (content_of x.now) (content_of y.now)) }
     ensures library { counted.library_of lib.new ≡ counted.library_of lib.old }

@@ -1,7 +1,7 @@
 //! What one process gains after its inputs changed, on the sets themselves.
 
 ghost use Rattle.std.specs.Prelude.{◌≡◌, ◌+◌, ◌<◌, ◌≤◌, Err, Some, IfOk, IsFalse, length};
-ghost use Rattle.lasp_graph.specs.Prelude.{mapped, passes, operations_at, join, map_set, filter_set, of_set, size_of, row_limit, set, fold, is_source, IsFoldOp, IsKind, fold_rows, IsChange, Fits, lift_op_of, maps_of, predicates_of, lifts_of, lift_op_at, IsWithinLimits, IsSetOfWidth, content_of, number_of, library_of, kind_of, process, Becomes, seen, derived_shape, number_by, IsStateBefore, IsSetBefore, gained};
+ghost use Rattle.lasp_graph.specs.Prelude.{mapped, passes, operations_at, join, of_rows, map_set, filter_set, of_set, size_of, row_limit, set, fold, is_source, IsFoldOp, IsKind, fold_rows, IsChange, Fits, lift_op_of, maps_of, predicates_of, lifts_of, lift_op_at, IsWithinLimits, IsSetOfWidth, content_of, number_of, library_of, kind_of, process, Becomes, seen, derived_shape, number_by, IsStateBefore, IsSetBefore, gained};
 ghost use Rattle.lasp_fns.specs.Steps as counted;
 ghost use Rattle.lasp_state.specs.State.{shape_of};
 ghost use Rattle.lasp_graph.specs.Kind.{fold_op_of};
@@ -9,10 +9,10 @@ ghost use Rattle.lasp_graph.specs.Kind.{fold_op_of};
 use super::inputs::EvalRefused;
 use super::kind::{FoldOp, Kind, LiftRef, MapRef, PredRef};
 use lasp_fns::StepLib;
-use lasp_logset::OrSet;
+use lasp_logset::{Entry, OrSet, RowList};
 use lasp_setops::{
-    Modulo, Pairing, SetRefused, Sum, Xor, filter_counted, fold_increment, map_counted, pair_gain,
-    union_sets,
+    Modulo, Pairing, SetRefused, Sum, Xor, filter_counted, filter_rows, fold_increment,
+    map_counted, map_rows, pair_gain, share_rows, union_rows, union_sets,
 };
 use lasp_state::State;
 use std::alloc::{AllocError, Global};
@@ -29,8 +29,8 @@ pub struct Gain {
 /// What a process gained after its inputs changed.
 #[derive(Drop)]
 pub struct RowsGained {
-    /// The rows that, joined into those it had, give the rows that it has on its inputs: exactly what the changed rows of its inputs give. Some of them it may have had before.
-    pub rows: OrSet,
+    /// The rows that, joined into those it had, give the rows that it has on its inputs: exactly what the changed rows of its inputs give, in any order. Some of them it may have had before, and a key may come twice.
+    pub rows: Vec<Entry>,
     /// Its number on its inputs where it is a fold, else 0.
     pub number: i128,
 }
@@ -88,9 +88,9 @@ pub(crate) fn eval_rows_gained(
     lib: &mut StepLib,
     old: &State,
     x: &OrSet,
-    x_change: &OrSet,
+    x_change: &RowList,
     y: &OrSet,
-    y_change: &OrSet,
+    y_change: &RowList,
 ) -> Result<RowsGained, EvalRefused>
     requires derived { IsFalse (is_source (kind_of kind.now)) }
     requires fits { Fits (library_of (counted.library_of lib.old)) (kind_of kind.now) }
@@ -98,8 +98,8 @@ pub(crate) fn eval_rows_gained(
     requires old { IsStateBefore (kind_of kind.now) x_change.now x.now y_change.now y.now old.now }
     requires width { IsSetOfWidth 16 x.now }
     requires small { length x.now ≤ row_limit }
-    ensures rows { IfOk result (λ a. a.rows ≡ gained (kind_of kind.now) x_change.now x.now y_change.now y.now) }
-    ensures whole { IfOk result (λ a. process (kind_of kind.now) (of_set x.now) (of_set y.now) ≡ of_set (join (content_of old.now).rows a.rows)) }
+    ensures rows { IfOk result (λ a. of_rows a.rows.items ≡ gained (kind_of kind.now) x_change.now x.now y_change.now y.now) }
+    ensures whole { IfOk result (λ a. process (kind_of kind.now) (of_set x.now) (of_set y.now) ≡ of_set (join (content_of old.now).rows (of_rows a.rows.items))) }
     ensures number { IfOk result (λ a. a.number ≡ number_by (kind_of kind.now) (process (kind_of kind.now) (of_set x.now) (of_set y.now))) }
     ensures large { result ≡ Err EvalRefused.TooManyRows → row_limit < size_of (process (kind_of kind.now) (of_set x.now) (of_set y.now)) }
     ensures library { counted.library_of lib.new ≡ counted.library_of lib.old }
@@ -107,7 +107,7 @@ pub(crate) fn eval_rows_gained(
 {
     match (kind, old) {
         (Kind::Fold(_, op, l), State::Fold(before, number)) => {
-            match fold_rows_gained(lib, op, l, *number, before, x_change, x) {
+            match fold_rows_gained(alloc, lib, op, l, *number, before, x_change, x) {
                 Ok(gained) => Ok(gained),
                 Err(_) => Err(EvalRefused::Memory),
             }
@@ -130,32 +130,33 @@ fn set_rows_gained(
     lib: &mut StepLib,
     old: &OrSet,
     x: &OrSet,
-    x_change: &OrSet,
+    x_change: &RowList,
     y: &OrSet,
-    y_change: &OrSet,
-) -> Result<OrSet, SetRefused>
+    y_change: &RowList,
+) -> Result<Vec<Entry>, SetRefused>
     requires derived { IsFalse (is_source (kind_of kind.now)) }
     requires set { derived_shape (kind_of kind.now) ≡ set }
     requires fits { Fits (library_of (counted.library_of lib.old)) (kind_of kind.now) }
     requires old { IsSetBefore (kind_of kind.now) x_change.now x.now y_change.now y.now old.now }
     requires width { IsSetOfWidth 16 x.now }
-    ensures rows { IfOk result (λ rows. rows ≡ gained (kind_of kind.now) x_change.now x.now y_change.now y.now) }
-    ensures whole { IfOk result (λ rows. process (kind_of kind.now) (of_set x.now) (of_set y.now) ≡ of_set (join old.now rows)) }
+    ensures rows { IfOk result (λ rows. of_rows rows.items ≡ gained (kind_of kind.now) x_change.now x.now y_change.now y.now) }
+    ensures whole { IfOk result (λ rows. process (kind_of kind.now) (of_set x.now) (of_set y.now) ≡ of_set (join old.now (of_rows rows.items))) }
     ensures too_many { result ≡ Err SetRefused.TooManyRows → row_limit < size_of (process (kind_of kind.now) (of_set x.now) (of_set y.now)) }
     ensures library { counted.library_of lib.new ≡ counted.library_of lib.old }
     ensures ticks { counted.ticks_of lib.new ≤ counted.ticks_of lib.old + length x_change.now }
 {
-    gained_rows(alloc, kind, lib, x, x_change, y, y_change)
+    gained_list(alloc, kind, lib, x, x_change, y, y_change)
 }
 
 /// The rows that a fold covers more, and its number with them.
 fn fold_rows_gained(
+    alloc: Global,
     lib: &mut StepLib,
     op: &FoldOp,
     l: &LiftRef,
     old: i128,
     before: &OrSet,
-    change: &OrSet,
+    change: &RowList,
     x: &OrSet,
 ) -> Result<RowsGained, AllocError>
     requires fits { operations_at (lifts_of (counted.library_of lib.old)) l.now.place ≡ Some (lift_op_of l.now.op) }
@@ -164,17 +165,101 @@ fn fold_rows_gained(
     requires change { IsChange before.now change.now x.now }
     requires width { IsSetOfWidth 16 x.now }
     requires small { length x.now ≤ row_limit }
-    ensures rows { IfOk result (λ a. a.rows ≡ change.now) }
-    ensures whole { IfOk result (λ a. x.now ≡ join before.now a.rows) }
+    ensures rows { IfOk result (λ a. of_rows a.rows.items ≡ change.now) }
+    ensures whole { IfOk result (λ a. x.now ≡ join before.now (of_rows a.rows.items)) }
     ensures number { IfOk result (λ a. a.number ≡ fold_rows (fold_op_of op.now) (lift_op_of l.now.op) x.now) }
     ensures library { counted.library_of lib.new ≡ counted.library_of lib.old }
     ensures ticks { counted.ticks_of lib.new ≤ counted.ticks_of lib.old + length change.now }
 {
-    let number = number_after(lib, op, l.place, old, before, change, x)?;
-    Ok(RowsGained {
-        rows: change.try_clone()?,
-        number,
-    })
+    let rows = share_rows(alloc, change.as_slice())?;
+    let set = change.set()?;
+    let number = number_after(lib, op, l.place, old, before, &set, x)?;
+    Ok(RowsGained { rows, number })
+}
+
+/// What the changed rows give to a process that gives a set, as a list.
+fn gained_list(
+    alloc: Global,
+    kind: &Kind,
+    lib: &mut StepLib,
+    x: &OrSet,
+    x_change: &RowList,
+    y: &OrSet,
+    y_change: &RowList,
+) -> Result<Vec<Entry>, SetRefused>
+    requires derived { IsFalse (is_source (kind_of kind.now)) }
+    requires set { derived_shape (kind_of kind.now) ≡ set }
+    requires fits { Fits (library_of (counted.library_of lib.old)) (kind_of kind.now) }
+    requires width { IsSetOfWidth 16 x_change.now }
+    ensures ok { IfOk result (λ rows. of_rows rows.items ≡ gained (kind_of kind.now) x_change.now x.now y_change.now y.now) }
+    ensures too_many { result ≡ Err SetRefused.TooManyRows → row_limit < length (gained (kind_of kind.now) x_change.now x.now y_change.now y.now) }
+    ensures library { counted.library_of lib.new ≡ counted.library_of lib.old }
+    ensures ticks { counted.ticks_of lib.new ≤ counted.ticks_of lib.old + length x_change.now }
+{
+    match kind {
+        Kind::Union(_, _) => Ok(union_rows(alloc, x_change.as_slice(), y_change.as_slice())?),
+        Kind::Map(_, f) => Ok(map_list(alloc, lib, f, x_change)?),
+        Kind::Filter(_, p) => Ok(filter_list(alloc, lib, p, x_change)?),
+        _ => list_of_gained(alloc, kind, lib, x, x_change, y, y_change),
+    }
+}
+
+/// The same by way of sets.
+fn list_of_gained(
+    alloc: Global,
+    kind: &Kind,
+    lib: &mut StepLib,
+    x: &OrSet,
+    x_change: &RowList,
+    y: &OrSet,
+    y_change: &RowList,
+) -> Result<Vec<Entry>, SetRefused>
+    requires derived { IsFalse (is_source (kind_of kind.now)) }
+    requires set { derived_shape (kind_of kind.now) ≡ set }
+    requires fits { Fits (library_of (counted.library_of lib.old)) (kind_of kind.now) }
+    requires width { IsSetOfWidth 16 x_change.now }
+    ensures ok { IfOk result (λ rows. of_rows rows.items ≡ gained (kind_of kind.now) x_change.now x.now y_change.now y.now) }
+    ensures too_many { result ≡ Err SetRefused.TooManyRows → row_limit < length (gained (kind_of kind.now) x_change.now x.now y_change.now y.now) }
+    ensures library { counted.library_of lib.new ≡ counted.library_of lib.old }
+    ensures ticks { counted.ticks_of lib.new ≤ counted.ticks_of lib.old + length x_change.now }
+{
+    let first = x_change.set()?;
+    let second = y_change.set()?;
+    let rows = gained_rows(alloc, kind, lib, x, &first, y, &second)?;
+    let list = RowList::of_set(alloc, &rows)?;
+    Ok(list.into_rows())
+}
+
+/// What a function of the library makes of the changed rows.
+fn map_list(
+    alloc: Global,
+    lib: &mut StepLib,
+    f: &MapRef,
+    change: &RowList,
+) -> Result<Vec<Entry>, AllocError>
+    requires fits { operations_at (maps_of (counted.library_of lib.old)) f.now.place ≡ Some f.now.ops }
+    requires width { IsSetOfWidth 16 change.now }
+    ensures ok { IfOk result (λ rows. of_rows rows.items ≡ map_set (mapped f.now.ops) change.now) }
+    ensures library { counted.library_of lib.new ≡ counted.library_of lib.old }
+    ensures ticks { counted.ticks_of lib.new ≤ counted.ticks_of lib.old + length change.now }
+{
+    map_rows(alloc, lib, f.place, change.as_slice())
+}
+
+/// The changed rows that pass a test of the library.
+fn filter_list(
+    alloc: Global,
+    lib: &mut StepLib,
+    p: &PredRef,
+    change: &RowList,
+) -> Result<Vec<Entry>, AllocError>
+    requires fits { operations_at (predicates_of (counted.library_of lib.old)) p.now.place ≡ Some p.now.ops }
+    requires width { IsSetOfWidth 16 change.now }
+    ensures ok { IfOk result (λ rows. of_rows rows.items ≡ filter_set (passes p.now.ops) change.now) }
+    ensures library { counted.library_of lib.new ≡ counted.library_of lib.old }
+    ensures ticks { counted.ticks_of lib.new ≤ counted.ticks_of lib.old + length change.now }
+{
+    filter_rows(alloc, lib, p.place, change.as_slice())
 }
 
 /// What a process that gives a set has, and the rows of it that it gained.

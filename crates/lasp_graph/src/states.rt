@@ -1,10 +1,10 @@
 //! The states of variables, shared.
 
 ghost use Rattle.std.specs.Prelude.{◌≡◌, ◌<◌, ◌++◌, ◌∷◌, [], pos, length, slice_get, slice_set, Some, IfOk, OnOk, OnErr};
-ghost use Rattle.lasp_graph.specs.Prelude.{arc_value, held_of, held_at, grown, AreJoinable, HasRows, extended, set};
+ghost use Rattle.lasp_graph.specs.Prelude.{changed, of_rows, arc_value, held_of, held_at, grown, AreJoinable, HasRows, extended, set};
 ghost use Rattle.lasp_state.specs.State.{content_of, shape_of, number_of};
 
-use lasp_logset::OrSet;
+use lasp_logset::{Entry, OrSet, RowList};
 use lasp_state::State;
 use std::alloc::{AllocError, Global};
 use std::marker::Model;
@@ -106,6 +106,71 @@ impl States {
         ensures err { OnErr result (self.new ≡ self.old) }
     {
         extend_shared(alloc, &mut self.states[i as usize], rows, number)
+    }
+
+    /// Takes rows into the set at a place, of a fold into the set that it covers, and the fold has this number then; it tells those that made a difference, a row for each key. The rows are in any order, and a key may come twice. It happens in place where nobody shares the state, else in a copy of its list of shares. After a refusal all is as before.
+    pub fn take_in_at(
+        &mut self,
+        alloc: Global,
+        i: u64,
+        rows: Vec<Entry>,
+        number: i128,
+    ) -> Result<RowList, AllocError>
+        requires within { i < length self.old }
+        requires rows { HasRows (held_at self.old i).shape }
+        requires number { (held_at self.old i).shape ≡ set → number ≡ pos 0 }
+        ensures ok { OnOk result (self.new ≡ slice_set self.old i (extended (held_at self.old i) (of_rows rows.items) number)) }
+        ensures told { IfOk result (λ told. told ≡ changed (held_at self.old i).content.rows (of_rows rows.items)) }
+        ensures err { OnErr result (self.new ≡ self.old) }
+    {
+        take_in_shared(alloc, &mut self.states[i as usize], rows, number)
+    }
+}
+
+fn take_in_shared(
+    alloc: Global,
+    shared: &mut Arc<State>,
+    rows: Vec<Entry>,
+    number: i128,
+) -> Result<RowList, AllocError>
+    requires rows { HasRows (shape_of (arc_value shared.old)) }
+    requires number { shape_of (arc_value shared.old) ≡ set → number ≡ pos 0 }
+    ensures ok { OnOk result (held_of (arc_value shared.new) ≡ extended (held_of (arc_value shared.old)) (of_rows rows.items) number) }
+    ensures told { IfOk result (λ told. told ≡ changed (content_of (arc_value shared.old)).rows (of_rows rows.items)) }
+    ensures err { OnErr result (held_of (arc_value shared.new) ≡ held_of (arc_value shared.old)) }
+{
+    if let Some(state) = Arc::get_mut(shared) {
+        return take_in_state(state, rows, number);
+    }
+    let mut copy = shared.try_clone()?;
+    let told = take_in_state(&mut copy, rows, number)?;
+    *shared = Arc::new(alloc, copy)?;
+    Ok(told)
+}
+
+fn take_in_state(state: &mut State, rows: Vec<Entry>, number: i128) -> Result<RowList, AllocError>
+    requires rows { HasRows (shape_of state.old) }
+    requires number { shape_of state.old ≡ set → number ≡ pos 0 }
+    ensures ok { OnOk result (held_of state.new ≡ extended (held_of state.old) (of_rows rows.items) number) }
+    ensures told { IfOk result (λ told. told ≡ changed (content_of state.old).rows (of_rows rows.items)) }
+    ensures err { OnErr result (held_of state.new ≡ held_of state.old) }
+{
+    let told = take_rows(state, rows)?;
+    set_number(state, number);
+    Ok(told)
+}
+
+/// Takes rows into a set, or into the set that a fold covers, whose number stays.
+fn take_rows(state: &mut State, rows: Vec<Entry>) -> Result<RowList, AllocError>
+    requires { HasRows (shape_of state.old) }
+    ensures ok { OnOk result (held_of state.new ≡ extended (held_of state.old) (of_rows rows.items) (number_of state.old)) }
+    ensures told { IfOk result (λ told. told ≡ changed (content_of state.old).rows (of_rows rows.items)) }
+    ensures err { OnErr result (held_of state.new ≡ held_of state.old) }
+{
+    match state {
+        State::Set(set) => set.take_in(rows),
+        State::Fold(set, _) => set.take_in(rows),
+        _ => unreachable!(),
     }
 }
 

@@ -1,12 +1,13 @@
 -- A derived variable that is brought up to its inputs in place.
-use Rattle.std.proofs.Common.{◌≡◌, ℕ, ℤ, pos, ◌<◌, ◌≤◌, ◌↔◌, nat_le, nat_lt, Bool, true, false, IsTrue, IsFalse, List, [], ◌∷◌, ◌++◌, length, map, take, slice_set, Option, Some, None, is_some, IfSome, Result, Ok, Err, IfOk, slice_get, refl, sym, ap, subst, ◌∙◌, arith}
+use Rattle.std.proofs.Common.{◌≡◌, ℕ, ℤ, pos, suc, cond, ◌+◌, ◌<◌, ◌≤◌, ◌↔◌, nat_le, nat_lt, Bool, true, false, IsTrue, IsFalse, List, [], ◌∷◌, ◌++◌, length, map, take, slice_set, Option, Some, None, is_some, IfSome, Result, Ok, Err, IfOk, slice_get, get_or, refl, sym, ap, subst, ◌∙◌, arith, length-append}
 use Rattle.std.proofs.lemmas.Bool.Decides.{nat_tests}
 use Rattle.std.proofs.lemmas.Bool.{leb-true}
 use Rattle.std.proofs.lemmas.List.{take_all, map-append}
 use Rattle.std.specs.Arc.{arc_value}
 use Rattle.model_values.specs.Row.{Row}
-use Rattle.model_sets.specs.Rows.{join, IsAscending}
+use Rattle.model_sets.specs.Rows.{join, of_rows, mark, level, IsAscending}
 use Rattle.model_sets.specs.Equations.{changed}
+use Rattle.model_sets.specs.Rises.{AreRises}
 use Rattle.model_sets.proofs.RowLaws.{ascending-join, at_most-refl}
 use Rattle.model_sets.proofs.RiseLaws.{join-news}
 use Rattle.model_states.specs.Content.{Content, IsContentAtMost, join_contents, of_set, size_of, row_limit}
@@ -29,12 +30,14 @@ use Rattle.lasp_graph.specs.Delta.{IsStateBefore}
 use Rattle.lasp_graph.specs.declared.inputs.Inputs.{Inputs}
 use Rattle.lasp_graph.proofs.SourceLists.{held-content}
 use Rattle.lasp_replica.specs.Asked.{has_two}
-use Rattle.lasp_replica.specs.Parts.{IsBase, history_at, news_of, first_input, second_input}
+use Rattle.lasp_replica.specs.History.{History}
+use Rattle.lasp_replica.specs.Kept.{Kept}
+use Rattle.lasp_replica.specs.Parts.{AreRowsOf, IsBase, history_at, news_of, first_input, second_input}
 use Rattle.lasp_replica.specs.Reading.{HasChanged, IsEarlierInput, IsSmallSet, rows_since}
 use Rattle.lasp_replica.specs.Jobs.{AreShared, unread}
 use Rattle.lasp_replica.specs.Update.{recorded}
 use Rattle.lasp_replica.specs.Replica.{base_on, frame_of, entries_of, parts_of, seen_process, jobs_of, told, IsReplica, Goes, Stays}
-use Rattle.lasp_replica.specs.Unread.{second_rows, IsUnread, AreInputsNow, IsUpToDate, AreNew, IsTakenOn}
+use Rattle.lasp_replica.specs.Unread.{second_rows, rows_with, AreGiven, IsUnread, AreInputsNow, IsUpToDate, AreNew, IsTakenOn}
 use Rattle.lasp_replica.specs.declared.unread.Unread.{Unread}
 use Rattle.lasp_replica.specs.declared.entry.Act.TheVariants.{Bind}
 use Rattle.lasp_replica.specs.declared.entry.Entry.{Entry}
@@ -44,8 +47,9 @@ use Rattle.lasp_replica.proofs.ReplicaLaws.{frame-same}
 use Rattle.lasp_replica.proofs.PartLaws.{held-val}
 use Rattle.lasp_replica.proofs.KindLaws.{equation-process}
 use Rattle.lasp_replica.proofs.ReadLaws.{kept-inputs, kept-based, kept-base, kept-changed, kept-old, kept-width, news-by-gain, news-none}
-use Rattle.lasp_replica.proofs.SettledLaws.{AreInputs, inputs-from, inputs-known}
+use Rattle.lasp_replica.proofs.SettledLaws.{AreInputs, inputs-from, inputs-known, histories-many, history-found}
 use Rattle.lasp_replica.proofs.SizeLaws.{size-set}
+use Rattle.lasp_logset.proofs.WholeLaws.{few-rows}
 use Rattle.lasp_replica.proofs.TakeLaws.{one-alike}
 use Rattle.lasp_replica.proofs.UpdateLaws.{stays}
 use Rattle.lasp_replica.proofs.FinishLaws.{held-found, IsBound, IsReadTo, MayBind, bind_entry, bound-to, held-shape, news-of-set, news-of-other, none-counted}
@@ -167,6 +171,10 @@ module _ (r : Replica) (is : IsReplica r) (y : ℕ) (d : IsDerived (arc_value r.
 
 -- ---- what a replica has of a variable
 
+-- the rows of each change of a variable's history tell more than those before
+pub rises-there : (r : Replica) → IsReplica r → (x : ℕ) → x < length (arc_value r.graph) → (k : Kept) → k ≡ get_or r.histories.items x k → AreRises [] k.history.log
+rises-there r is x low k there = subst (λ (h : History). AreRises [] h.log) (history-found r x k (omega (arith, low, histories-many r is)) there) (is.kept.histories x low).rises
+
 -- a state that a look-up found
 pub held-there : (states : List Held) (i y : ℕ) (s t : State) → i ≡ y → slice_get states i ≡ Some (held_of s) → t ≡ s → held_of t ≡ held_at states y
 held-there states i y s t same found e = sym (held-found states i y t same (found ∙ ap (λ (z : State). Some (held_of z)) (sym e)))
@@ -203,27 +211,44 @@ are-new h gain rows up is =
     let s = h.content.rows in
     is ∙ sym (news-by-gain s s gain (at_most-refl s) up (ascending-join s gain)) ∙ ap (changed s) (sym (join-news s gain) ∙ ap (join s) (sym is))
 
--- the state with what is new of the rows that its inputs give
-pub up-to-date : (r : Replica) (y : ℕ) (gain rows : List Row) (number : ℤ) (few : Bool) → rows ≡ changed (held_at r.states y).content.rows gain
-    → equation (kind_at (arc_value r.graph) y) (contents_of r.states) ≡ of_set (join (held_at r.states y).content.rows gain)
-    → number ≡ number_by (kind_at (arc_value r.graph) y) (equation (kind_at (arc_value r.graph) y) (contents_of r.states))
-    → few ≡ nat_le (size_of (join_contents (of_set (held_at r.states y).content.rows) (of_set rows))) row_limit → few ≡ true → IsUpToDate r y (extended (held_at r.states y) rows number)
-up-to-date r y gain rows number few is whole number_is few_is fits = record {
-  content = same;
-  number = number_is ∙ ap (number_by (kind_at (arc_value r.graph) y)) (sym same);
-  small = omega (arith, size-set (held_at r.states y).content.rows rows, as-many few (size_of (join_contents (of_set (held_at r.states y).content.rows) (of_set rows))) few_is fits);
-} where
-  same : of_set (join (held_at r.states y).content.rows rows) ≡ equation (kind_at (arc_value r.graph) y) (contents_of r.states)
-  same = ap of_set (ap (join (held_at r.states y).content.rows) is ∙ join-news (held_at r.states y).content.rows gain) ∙ sym whole
+-- a variable that has the rows that its inputs give is up to date, where they aren't too many
+pub up-to-date : (r : Replica) (y : ℕ) (rows : List Row) (number : ℤ) → AreGiven r y rows
+    → number ≡ number_by (kind_at (arc_value r.graph) y) (equation (kind_at (arc_value r.graph) y) (contents_of r.states)) → length (rows_with r y rows) ≤ row_limit → IsUpToDate r y (extended (held_at r.states y) rows number)
+up-to-date r y rows number whole number_is few = record {
+  content = sym whole;
+  number = number_is ∙ ap (number_by (kind_at (arc_value r.graph) y)) whole;
+  small = omega (arith, size-set (held_at r.states y).content.rows rows, few);
+}
 
 -- too many rows are too many of the process
-pub too-large : (r : Replica) (y : ℕ) (gain rows : List Row) (few : Bool) → rows ≡ changed (held_at r.states y).content.rows gain
-    → equation (kind_at (arc_value r.graph) y) (contents_of r.states) ≡ of_set (join (held_at r.states y).content.rows gain)
-    → few ≡ nat_le (size_of (join_contents (of_set (held_at r.states y).content.rows) (of_set rows))) row_limit → few ≡ false → row_limit < size_of (equation (kind_at (arc_value r.graph) y) (contents_of r.states))
-too-large r y gain rows few is whole few_is many =
-    let s = (held_at r.states y).content.rows in
-    let same : of_set (join s rows) ≡ equation (kind_at (arc_value r.graph) y) (contents_of r.states) = ap of_set (ap (join s) is ∙ join-news s gain) ∙ sym whole in
-    subst (λ (c : Content). row_limit < size_of c) same (omega (arith, size-set s rows, more-than few (size_of (join_contents (of_set s) (of_set rows))) few_is many))
+pub too-large : (r : Replica) (y : ℕ) (rows : List Row) → AreGiven r y rows → row_limit < length (rows_with r y rows)
+    → row_limit < size_of (equation (kind_at (arc_value r.graph) y) (contents_of r.states))
+too-large r y rows whole many = subst (λ (c : Content). row_limit < size_of c) (sym whole) (omega (arith, size-set (held_at r.states y).content.rows rows, many))
+
+-- the rows that a state lacks fit where all fit that bring them
+module _ (s gain new : List Row) (is : new ≡ changed s gain) where
+  pub join-new : join s new ≡ join s gain
+  join-new = ap (join s) is ∙ join-news s gain
+
+  pub new-fit : (few : Bool) → few ≡ nat_le (size_of (join_contents (of_set s) (of_set new))) row_limit → few ≡ true → length (join s gain) ≤ row_limit
+  new-fit few few_is fits = omega (arith, size-set s new, as-many few (size_of (join_contents (of_set s) (of_set new))) few_is fits, ap (λ (rows : List Row). length rows) join-new)
+
+  pub new-many : (few : Bool) → few ≡ nat_le (size_of (join_contents (of_set s) (of_set new))) row_limit → few ≡ false → row_limit < length (join s gain)
+  new-many few few_is many = omega (arith, size-set s new, more-than few (size_of (join_contents (of_set s) (of_set new))) few_is many, ap (λ (rows : List Row). length rows) join-new)
+
+-- few rows fit, whatever there is of them
+pub few-fit : (s rows : List Row) → length s + length rows ≤ row_limit → length (join s (of_rows rows)) ≤ row_limit
+few-fit s rows few = omega (arith, few, few-rows (s ++ of_rows rows), length-append s (of_rows rows), few-rows rows)
+
+-- no more rows are new than there are
+pub few-new : (s rows new : List Row) → new ≡ changed s (of_rows rows) → length new ≤ length rows
+few-new s rows new is = omega (arith, ap (λ (t : List Row). length t) is, shorter (of_rows rows), few-rows rows) where
+  shorter : (t : List Row) → length (changed s t) ≤ length t
+  shorter [] = omega arith
+  shorter (r ∷ t) = choose (nat_lt (mark s r.0.0 r.0.1) (level r.1)) (shorter t) where
+    choose : (b : Bool) → length (changed s t) ≤ length t → length (cond b (r ∷ changed s t) (changed s t)) ≤ suc (length t)
+    choose true rest = omega (arith, rest)
+    choose false rest = omega (arith, rest)
 
 -- ---- the rows taken on
 
@@ -238,6 +263,32 @@ told-of-set h rows number new shape = new ∙ news-of-set h.shape h.content (ext
 
 pub told-of-fold : (h : Held) (rows : List Row) (number : ℤ) (none : List Row) → none ≡ [] → (h.shape ≡ set → ⊥) → none ≡ news_of h.shape h.content (extended h rows number).content
 told-of-fold h rows number none empty shape = empty ∙ news-of-other h.shape h.content (extended h rows number).content shape
+
+-- rows that were joined in, some of which were new
+module _ (h : Held) (gain new : List Row) (number : ℤ) (up : IsAscending gain) (is : new ≡ changed h.content.rows gain) where
+  new-in : new ≡ changed h.content.rows (extended h gain number).content.rows
+  new-in = is ∙ sym (news-by-gain h.content.rows h.content.rows gain (at_most-refl h.content.rows) up (ascending-join h.content.rows gain))
+
+  pub grows-by : (n : ℕ) → n ≡ length new → IsFalse (nat_lt 0 n) ↔ IsContentAtMost (extended h gain number).content h.content
+  grows-by n many = (
+    λ still. (news-none h.content (extended h gain number).content refl).0 (sym new-in ∙ (none-counted new n many).0 still),
+    λ low. (none-counted new n many).1 (new-in ∙ (news-none h.content (extended h gain number).content refl).1 low),
+  )
+
+  pub told-by-set : (rows : List Row) → h.shape ≡ set → AreRowsOf new rows → AreRowsOf (news_of h.shape h.content (extended h gain number).content) rows
+  told-by-set rows shape of = subst (λ (news : List Row). AreRowsOf news rows) (new-in ∙ news-of-set h.shape h.content (extended h gain number).content shape) of
+
+  pub told-by-fold : (rows : List Row) → (h.shape ≡ set → ⊥) → rows ≡ [] → AreRowsOf (news_of h.shape h.content (extended h gain number).content) rows
+  told-by-fold rows shape none = subst (λ (news : List Row). AreRowsOf news rows) (news-of-other h.shape h.content (extended h gain number).content shape)
+      (subst (AreRowsOf []) (sym none) (record { made = refl; apart = tt }))
+
+  pub told-by : (b : Bool) (rows before : List Row) → IsTrue b ↔ (h.shape ≡ set) → (IsTrue b → AreRowsOf new rows) → (IsFalse b → rows ≡ before) → before ≡ [] → AreRowsOf (news_of h.shape h.content (extended h gain number).content) rows
+  told-by true rows before shape some none empty = told-by-set rows (shape.0 refl) (some refl)
+  told-by false rows before shape some none empty = told-by-fold rows (λ e. let both : false ≡ true = shape.1 e in cc) (none refl ∙ empty)
+
+-- the state with the rows that were new is that with all
+pub extended-new : (h : Held) (gain new : List Row) (number : ℤ) → new ≡ changed h.content.rows gain → extended h new number ≡ extended h gain number
+extended-new h gain new number is = ap (λ (rows : List Row). record { shape = h.shape; content = of_set rows; number = number }) (join-new h.content.rows gain new is)
 
 -- ---- the bind
 

@@ -1,5 +1,5 @@
 -- Rows in any order go on with a log as the rows that they make do.
-use Rattle.std.proofs.Common.{◌≡◌, ℕ, ◌<◌, max, if◌then◌else◌, nat_lt, List, [], ◌∷◌, ◌++◌, sym, ap, subst, ◌∙◌, arith}
+use Rattle.std.proofs.Common.{◌≡◌, ℕ, ◌≤◌, ◌<◌, max, if◌then◌else◌, nat_lt, List, [], ◌∷◌, ◌++◌, take, drop, sym, ap, subst, ◌∙◌, arith}
 use Rattle.std.proofs.lemmas.Bool.Decides.{nat_tests}
 use Rattle.model_values.specs.Value.{Val}
 use Rattle.model_values.specs.Token.{Tok}
@@ -9,7 +9,7 @@ use Rattle.model_sets.specs.Equations.{changed}
 use Rattle.model_sets.specs.Rises.{AreRises, AreApart}
 use Rattle.model_sets.proofs.RowLaws.{own_mark, mark-append, mark-put, mark-of_rows, mark-join, same_from_mark, ascending-of_rows, ascending-join}
 use Rattle.model_sets.proofs.EquationLaws.{changed-mark}
-use Rattle.model_sets.proofs.RiseLaws.{level-some, row-apart, nothing-marked, rises-append}
+use Rattle.model_sets.proofs.RiseLaws.{level-some, row-apart, nothing-marked, rises-append, rises-rest}
 use Rattle.lasp_replica.specs.Kept.{Kept}
 use Rattle.lasp_replica.specs.Parts.{AreRowsOf}
 
@@ -21,6 +21,19 @@ apart-above s (r ∷ t) apart above = (
       omega (arith, above r.0.0 r.0.1 some, own_mark r, apart.0),
   apart-above (put r s) t apart.1 (λ v w some. omega (arith, mark-put r s v w, row-apart r t apart.0 v w some, above v w (omega (arith, some)))),
 )
+
+-- rows that rise from a state rise from one that says less
+rises-lower : (s t log : List Row) → ((v : Val) (w : Tok) → mark t v w ≤ mark s v w) → AreRises s log → AreRises t log
+rises-lower s t [] low up = tt
+rises-lower s t (r ∷ log) low up = (omega (arith, low r.0.0 r.0.1, up.0), rises-lower (put r s) (put r t) log (λ v w. omega (arith, low v w, mark-put r s v w, mark-put r t v w)) up.1)
+
+-- the last rows of a log rise as all of them do
+pub rises-last : (log last : List Row) (m : ℕ) → last ≡ drop m log → AreRises [] log → AreRises [] last
+rises-last log last m is up = subst (AreRises []) (sym is) (rises-lower (of_rows (take m log)) [] (drop m log) (λ v w. omega arith) (rises-rest log m up))
+
+-- rows that take the place of others, of which none are kept as a set
+pub placed : (first rows items : List Row) → first ≡ [] → of_rows items ≡ rows → AreApart items → AreRowsOf rows (first ++ items)
+placed first rows items none made apart = subst (λ (f : List Row). AreRowsOf rows (f ++ items)) (sym none) (record { made = made; apart = apart })
 
 above-number : (m n c : ℕ) → c ≡ (if nat_lt m n then n else 0) → 0 < c → m < c
 above-number m n c e some = grind (arith, nat_tests, e, some)

@@ -40,8 +40,8 @@ use Rattle.lasp_graph.specs.States.{Held, held_of, held_at, contents_of, grown}
 use Rattle.lasp_wire.specs.Sent as wire
 use Rattle.lasp_replica.specs.History as history
 use Rattle.lasp_replica.specs.History.{History}
-use Rattle.lasp_replica.specs.Kept.{Kept, kept}
-use Rattle.lasp_replica.specs.Replica.{frame_of, entries_of, parts_of, busy_of, told, seen_process as seen, base_of, jobs_of, IsReplica, IsSmall, Goes, Stays, shape_for, is_for, update_check, update_refusal, or_too_many, kept_at}
+use Rattle.lasp_replica.specs.Kept.{Kept}
+use Rattle.lasp_replica.specs.Replica.{frame_of, entries_of, parts_of, busy_of, told, seen_process as seen, base_of, jobs_of, IsReplica, IsSmall, Goes, Stays, shape_for, is_for, update_check, update_refusal, or_too_many, no_kept, kept_at}
 use Rattle.lasp_replica.specs.Update.{IsInFormat, IsGain, IsPrepared, recorded}
 use Rattle.lasp_replica.specs.Entries.{entry_of}
 use Rattle.lasp_replica.specs.declared.entry.Entry.{Entry}
@@ -148,7 +148,7 @@ on-err (Ok a) h = tt
 on-err (Err e) h = h
 
 pub kept-set : (histories : List Kept) (x : ℕ) (new : Kept) → x < length histories → kept_at (slice_set histories x new) x ≡ new
-kept-set histories x new low = at-set (λ (h : Kept). h ≡ new) histories x new (kept [] [] [] false) x low (λ _. refl) (λ apart. absurd (apart refl))
+kept-set histories x new low = at-set (λ (h : Kept). h ≡ new) histories x new no_kept x low (λ _. refl) (λ apart. absurd (apart refl))
 
 pub flipped : (b : Bool) (P : Type 0) → (IsTrue b ↔ P) → IsFalse (not b) ↔ P
 flipped true P f = (λ _. f.0 refl, λ _. refl)
@@ -159,7 +159,7 @@ pub recorded-one : (grows : Bool) (x entry : ℕ) (histories : List Kept) (old n
     → map told (slice_set histories x new) ≡ recorded grows x entry histories
 recorded-one grows x entry histories old new yes_grows low found is =
     map-set (λ (h : Kept). told h) histories x new
-    ∙ ap (λ (t : History). slice_set (map told histories) x t) (is ∙ ap (λ (h : Kept). history.grown h.history h.pending entry) (found ∙ get_or_default histories x old (kept [] [] [] false) low))
+    ∙ ap (λ (t : History). slice_set (map told histories) x t) (is ∙ ap (λ (h : Kept). history.grown h.history h.pending entry) (found ∙ get_or_default histories x old no_kept low))
     ∙ sym (ap (λ (b : Bool). recorded b x entry histories) yes_grows)
 
 -- ---- what an update brings
@@ -403,7 +403,7 @@ updated old mid new by x entry o d grows is within format gain ready graph openi
   }
 
   own : (kept_at mid.histories.items x).history ≡ history_at (map told old.histories.items) x
-  own = sym (at-map (λ (k : Kept). told k) mid.histories.items x (kept [] [] [] false)) ∙ ap (λ (hs : List History). history_at hs x) ready.histories
+  own = sym (at-map (λ (k : Kept). told k) mid.histories.items x no_kept) ∙ ap (λ (hs : List History). history_at hs x) ready.histories
 
   choose : (b : Bool) → (IsFalse b ↔ IsContentAtMost (content_of d) (held_at old.states x).content) → map told new.histories.items ≡ recorded b x entry mid.histories.items → IsKept X h' (parts_of new)
   choose false f told_is =

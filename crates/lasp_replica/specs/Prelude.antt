@@ -35,6 +35,6 @@ pub use Rattle.lasp_replica.specs.Since.{AreSince, IsSince}
 pub use Rattle.lasp_replica.specs.TakenIn.{IsInOrder, IsTakenIn}
 pub use Rattle.lasp_replica.specs.Update.{IsGain, IsInFormat, IsPrepared, recorded}
 pub use Rattle.lasp_replica.specs.Asked.{has_two}
-pub use Rattle.model_sets.specs.Rises.{AreApart}
+pub use Rattle.model_sets.specs.Rises.{AreApart, AreRises}
 pub use Rattle.lasp_replica.specs.Kept.{growth}
-pub use Rattle.lasp_replica.specs.Unread.{AreInputsNow, AreNew, IsTakenOn, IsUnread, IsUpToDate}
+pub use Rattle.lasp_replica.specs.Unread.{AreGiven, AreInputsNow, AreNew, IsTakenOn, IsUnread, IsUpToDate, rows_with}

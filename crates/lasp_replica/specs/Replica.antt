@@ -83,7 +83,7 @@ log_at r x = (history_at (parts_of r).histories x).log
 
 -- a history to which nothing happened
 abbrev pub no_kept : kept.Kept
-no_kept = kept.kept [] [] [] false
+no_kept = kept.kept [] [] [] false 0
 
 -- the history of a variable with what it has made ready
 abbrev pub kept_at : List kept.Kept → ℕ → kept.Kept

@@ -4,7 +4,7 @@ use Rattle.std.specs.Arc.{arc_value}
 use Rattle.model_values.specs.Row.{Row}
 use Rattle.model_sets.specs.Rows.{join}
 use Rattle.model_sets.specs.Equations.{changed}
-use Rattle.model_states.specs.Content.{size_of, row_limit, IsContentAtMost}
+use Rattle.model_states.specs.Content.{of_set, size_of, row_limit, IsContentAtMost}
 use Rattle.model_graph.specs.Graph.{kind_at}
 use Rattle.model_graph.specs.Evaluation.{equation}
 use Rattle.model_journal.specs.Entry.{Entry, Frame}
@@ -48,6 +48,14 @@ pub record IsUpToDate (r : Replica) (y : ℕ) (s : Held) : Type 0 where
   pub content : s.content ≡ equation (kind_at (arc_value r.graph) y) (contents_of r.states)
   pub number : s.number ≡ number_by (kind_at (arc_value r.graph) y) s.content
   pub small : size_of s.content ≤ row_limit
+
+-- the rows of variable y with these joined in
+abbrev pub rows_with : Replica → ℕ → List Row → List Row
+rows_with r y rows = join (held_at r.states y).content.rows rows
+
+-- with these rows variable y has those of its process on its inputs as they are
+abbrev pub AreGiven : Replica → ℕ → List Row → Type 0
+AreGiven r y rows = equation (kind_at (arc_value r.graph) y) (contents_of r.states) ≡ of_set (rows_with r y rows)
 
 -- each of these rows is new in the state
 abbrev pub AreNew : Held → List Row → Type 0

@@ -1,11 +1,10 @@
 //! The history of one variable: what it answers, and how it goes on.
 
-ghost use Rattle.std.specs.Prelude.{◌≡◌, ◌≤◌, ◌↔◌, [], if◌then◌else◌, Bool, true, false, IfOk, OnOk, OnErr, IsTrue, length, take, drop};
-ghost use Rattle.lasp_replica.specs.Prelude.{AreApart, join, of_rows, no_history, grown, version_before, rows_before, AreBelow};
+ghost use Rattle.std.specs.Prelude.{◌≡◌, ◌≤◌, ◌<◌, ◌↔◌, [], if◌then◌else◌, Bool, true, false, IfOk, IfSome, IfNone, OnOk, OnErr, IsTrue, length, take, drop};
+ghost use Rattle.lasp_replica.specs.Prelude.{AreApart, AreRises, AreRowsOf, join, of_rows, no_history, grown, version_before, rows_before, AreBelow};
 
 use super::growth::Growth;
-use super::news::rows_of;
-use lasp_logset::{Entry, OrSet};
+use lasp_logset::{Entry, OrSet, RowList};
 use std::alloc::{AllocError, Global};
 use std::marker::Model;
 use std::mem;
@@ -19,6 +18,7 @@ pub struct History {
     pending_first: OrSet,
     pending: Vec<Entry>,
     prepared: bool,
+    room: usize,
 }
 
 impl Model for History {
@@ -29,9 +29,9 @@ impl Model for History {
 
     ghost coded = { coded_kept };
 
-    ghost view = { λ a. kept (a.first ++ a.log.items) a.growths.items (a.pending_first ++ a.pending.items) a.prepared };
+    ghost view = { λ a. kept (a.first ++ a.log.items) a.growths.items (a.pending_first ++ a.pending.items) a.prepared a.room };
 
-    ghost invariant = { λ a. IsKept a.first a.log.items a.growths.items a.pending_first a.prepared (vec_len a.log + vec_len a.pending) (vec_capacity a.log) (vec_len a.growths) (vec_capacity a.growths) };
+    ghost invariant = { λ a. IsKept a.first a.log.items a.growths.items a.pending_first a.prepared (vec_len a.log + vec_len a.pending) (vec_len a.log + a.room) (vec_capacity a.log) (vec_len a.growths) (vec_capacity a.growths) };
 }
 
 impl History {
@@ -48,6 +48,7 @@ impl History {
             pending_first: OrSet::new(alloc),
             pending: Vec::new(alloc),
             prepared: false,
+            room: 0,
         }
     }
 
@@ -113,16 +114,38 @@ impl History {
         joined(alloc, &self.first, &self.log[..behind_first])
     }
 
+    /// The rows by which the variable changed since the first `n` entries, oldest first, where some had changed it by then.
+    fn later(&self, n: u64) -> Option<&[Entry]>
+        ensures some { IfSome result (λ rows. rows.now ≡ drop (rows_before self.now.history.growths n) self.now.history.log) }
+        ensures none { IfNone result (rows_before self.now.history.growths n ≡ 0) }
+    {
+        let left_out = self.rows_before(n);
+        if left_out == 0 {
+            return None;
+        }
+        let behind_first = (left_out - self.first.rows()) as usize;
+        Some(&self.log[behind_first..])
+    }
+
     /// The rows by which the variable changed since the first `n` entries, as a set. It costs an insertion for each of these rows but the first growth's, which are shared, and a look at each growth since.
     pub fn since(&self, alloc: Global, n: u64) -> Result<OrSet, AllocError>
         ensures { IfOk result (λ s. s ≡ of_rows (drop (rows_before self.now.history.growths n) self.now.history.log)) }
     {
-        let left_out = self.rows_before(n);
-        if left_out == 0 {
-            return self.all_rows(alloc);
+        match self.later(n) {
+            None => self.all_rows(alloc),
+            Some(rows) => OrSet::of_rows(alloc, rows),
         }
-        let behind_first = (left_out - self.first.rows()) as usize;
-        OrSet::of_rows(alloc, &self.log[behind_first..])
+    }
+
+    /// The same rows as a list. It costs a share of each where the first growth isn't among them and all are live, or all dead; else an insertion for each but the first growth's besides; and a look at each growth since.
+    pub fn list_since(&self, alloc: Global, n: u64) -> Result<RowList, AllocError>
+        requires { AreRises [] self.now.history.log }
+        ensures { IfOk result (λ rows. rows ≡ of_rows (drop (rows_before self.now.history.growths n) self.now.history.log)) }
+    {
+        match self.later(n) {
+            None => RowList::of_set(alloc, &self.all_rows(alloc)?),
+            Some(rows) => RowList::of_log(alloc, rows),
+        }
     }
 
     /// Takes all memory that a growth by these rows needs, which are shared, in any order; for a variable that is no set, or that grew without rows, they are none. A growth that was prepared before is forgotten, except on an error. Of the first growth it costs what a share of the set's log does, of others what a list of the rows does.
@@ -137,10 +160,11 @@ impl History {
             return self.prepare_first(news);
         }
         let alloc = *self.log.allocator();
-        let pending = rows_of(alloc, news)?;
+        let pending = RowList::of_set(alloc, news)?.into_rows();
         self.log.reserve(pending.len())?;
         self.growths.reserve(1)?;
         self.pending = pending;
+        self.room = 0;
         self.prepared = true;
         Ok(())
     }
@@ -159,8 +183,38 @@ impl History {
         self.growths.reserve(1)?;
         self.pending_first = rows;
         self.pending = Vec::new(*self.log.allocator());
+        self.room = 0;
         self.prepared = true;
         Ok(())
+    }
+
+    /// Takes all memory that a growth by at most so many rows needs, which isn't the first; until some are put in it is one by none. A growth that was prepared before is forgotten, except on an error.
+    pub fn prepare_for(&mut self, rows: usize) -> Result<(), AllocError>
+        requires { 0 < length self.old.history.growths }
+        ensures history { self.new.history ≡ self.old.history }
+        ensures pending { OnOk result (self.new.pending ≡ []) }
+        ensures room { OnOk result (self.new.room ≡ rows) }
+        ensures prepared { OnOk result (IsTrue self.new.prepared) }
+        ensures err { OnErr result (self.new ≡ self.old) }
+    {
+        self.log.reserve(rows)?;
+        self.growths.reserve(1)?;
+        self.pending = Vec::new(*self.log.allocator());
+        self.room = rows;
+        self.prepared = true;
+        Ok(())
+    }
+
+    /// These are the rows of the growth that is prepared, in place of those that it had. It takes no memory.
+    pub fn put_in(&mut self, rows: RowList)
+        requires later { 0 < length self.old.history.growths }
+        requires prepared { IsTrue self.old.prepared }
+        requires room { length rows ≤ self.old.room }
+        ensures history { self.new.history ≡ self.old.history }
+        ensures pending { AreRowsOf rows self.new.pending }
+        ensures prepared { IsTrue self.new.prepared }
+    {
+        self.pending = rows.into_rows();
     }
 
     /// Records the growth that is prepared at an entry, counted from 0, behind all growths so far. It takes no memory.

@@ -10,7 +10,6 @@ mod history;
 mod job;
 mod kept;
 mod laws;
-mod news;
 mod parts;
 mod process;
 mod reading;

@@ -9,7 +9,7 @@ use super::least::has_two;
 use crate::Job;
 use crate::process::Process;
 use lasp_graph::{Inputs, Kind};
-use lasp_logset::OrSet;
+use lasp_logset::{OrSet, RowList};
 use lasp_state::State;
 use std::alloc::AllocError;
 use std::sync::Arc;
@@ -42,6 +42,23 @@ impl Replica {
         }
         match &**self.states.at(u64::from(x)) {
             State::Set(rows) => rows.past(),
+            _ => unreachable!(),
+        }
+    }
+
+    /// The same rows as a list. It costs a share of each, and what `History::list_since` does where not all of them changed.
+    pub(super) fn changed_rows(&self, x: u8, n: u64) -> Result<RowList, AllocError>
+        requires replica { IsReplica self.now }
+        requires var { x < length (arc_value self.now.graph) }
+        requires set { IsTrue (is_set (kind_at (arc_value self.now.graph) x)) }
+        ensures { IfOk result (λ rows. rows ≡ of_rows (drop (rows_before (growths_at self.now x) n) (log_at self.now x))) }
+    {
+        let history = &self.histories[x as usize];
+        if history.rows_before(n) > 0 {
+            return history.list_since(self.allocator(), n);
+        }
+        match &**self.states.at(u64::from(x)) {
+            State::Set(rows) => RowList::of_set(self.allocator(), rows),
             _ => unreachable!(),
         }
     }

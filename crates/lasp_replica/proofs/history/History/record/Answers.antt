@@ -13,7 +13,7 @@ invariant_of-self c =
     (ap (λ (k : Kept). k.history) c.self.view_is) c.is_empty-is_first.result first c.args.entry c.put_first.new.first c.append.new.self.items c.push.new.self.items c.new.result (c.rows.result + c.len.result)
     c.put_first.ensures.first (c.append.ensures.succeeds (c.self.invariant.rows_fit ready)) c.append.ensures.items
     (omega (arith, c.rows.ensures.exact, c.len.ensures, c.append.new.self.ok.0)) c.new.ensures (c.push.ensures.succeeds (c.self.invariant.entry_fits ready)) c.push.ensures.items c.requires.after in
-    record { sound = on.sound'; covered = on.covered'; first_alone = λ some. c.put_first.ensures.prepared ∙ put-none kept.first kept.log.items kept.pending_first kept.pending.items kept.growths.items c.self.invariant.sound c.self.invariant.covered c.self.invariant.first_alone c.is_empty-is_first.result first; rows_fit = λ e. cc; entry_fits = λ e. cc }
+    record { sound = on.sound'; covered = on.covered'; first_alone = λ some. c.put_first.ensures.prepared ∙ put-none kept.first kept.log.items kept.pending_first kept.pending.items kept.growths.items c.self.invariant.sound c.self.invariant.covered c.self.invariant.first_alone c.is_empty-is_first.result first; rows_fit = λ e. cc; most_fit = λ e. cc; entry_fits = λ e. cc }
 
 pub returns-clause-history : goal.returns-clause-history
 returns-clause-history c =

@@ -1,6 +1,6 @@
 use Rattle.std.proofs.Common.{◌≡◌, ◌<◌, List, IfOk, sym, ap, subst}
 use Rattle.std.specs.Arc.{arc_value}
-use Rattle.model_sets.specs.Rows.{join}
+use Rattle.model_sets.specs.Rows.{join, of_rows}
 use Rattle.model_states.specs.Content.{Content, of_set, size_of, row_limit}
 use Rattle.model_graph.specs.Graph.{Decl, Kind, kind_at}
 use Rattle.lasp_graph.specs.Kind.{kind_of}
@@ -65,7 +65,7 @@ returns-clause-whole g c =
     let first = held-there r.states c.from-in-Some-2.result c.in-Some.x (arc_value c.at-in-Some-2.result.now) c.deref-in-Some-3.result.now c.from-in-Some-2.ensures c.at-in-Some-2.ensures c.deref-in-Some-3.ensures in
     let second = held-there r.states c.from-in-Some-3.result c.in-Some.y (arc_value c.at-in-Some-3.result.now) c.deref-in-Some-4.result.now c.from-in-Some-3.ensures c.at-in-Some-3.ensures c.deref-in-Some-4.ensures in
     let whole = on-inputs r c.requires.replica c.args.var c.requires.derived c.in-Some.x c.in-Some.y i c.deref-in-Some.result.now c.args.var c.deref-in-Some-3.result.now c.deref-in-Some-4.result.now (ap (λ (g : List Decl). kind_at g c.args.var) (sym c.deref-in-Some.ensures)) first second in
-    subst (λ (p : Content × Held). IfOk c.node_rows_gained.result (λ a. p.0 ≡ of_set (join p.1.content.rows a.rows))) (λ j. (whole j, old j)) c.node_rows_gained.ensures.whole
+    subst (λ (p : Content × Held). IfOk c.node_rows_gained.result (λ a. p.0 ≡ of_set (join p.1.content.rows (of_rows a.rows.items)))) (λ j. (whole j, old j)) c.node_rows_gained.ensures.whole
 
 pub returns-clause-number : goal.returns-clause-number
 returns-clause-number g c =

@@ -1,4 +1,5 @@
 use Rattle.std.proofs.Common.{IsSome, Option, None, List, slice_index_or, refl, sym, subst, ◌∙◌}
+use Rattle.model_sets.specs.Rows.{of_rows}
 use Rattle.lasp_graph.specs.States.{held_at, extended}
 use Rattle.lasp_replica.specs.declared.process.Process.{Process}
 use Rattle.lasp_replica.specs.declared.replica.Replica.{Replica}
@@ -15,7 +16,7 @@ pub returns-clause-ok : goal.returns-clause-ok
 returns-clause-ok g c =
     let r = c.args.self.now in
     let y = c.args.var in
-    let taken = c.take_on.new.self in
+    let taken = c.take_in.new.self in
     let new : Replica = record {
       graph = taken.graph;
       opening = taken.opening;
@@ -26,8 +27,8 @@ returns-clause-ok g c =
       processes = c.rebase.new.processes;
       journal = c.write_down.new.journal;
     } in
-    settled r taken new c.requires.replica c.args.by y c.requires.derived (extended (held_at r.states y) c.in_ok-gained.gained.rows c.in_ok-gained.gained.number) c.in_ok-base.base c.in_ok-grows.grows c.len-n.result
-    refl c.in_ok-gained.ensures.state c.in_ok-base.ensures c.in_ok-grows.ensures.ok (c.len-n.ensures ∙ taken.journal.ok.0) (record {
+    settled r taken new c.requires.replica c.args.by y c.requires.derived (extended (held_at r.states y) (of_rows c.in_ok-given.given.rows.items) c.in_ok-given.given.number) c.in_ok-base.base c.in_ok-grows.grows c.len-n.result
+    refl c.in_ok-grows.ensures.state c.in_ok-base.ensures c.in_ok-grows.ensures.ok (c.len-n.ensures ∙ taken.journal.ok.0) (record {
       graph = refl;
       opening = refl;
       me = refl;

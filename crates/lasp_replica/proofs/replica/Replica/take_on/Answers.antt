@@ -32,8 +32,8 @@ pub returns-clause-ok : goal.returns-clause-ok
 returns-clause-ok c =
     let r = c.args.self.now in
     let y = c.args.var in
-    let rows = c.args.gained.now.rows in
-    let number = c.args.gained.now.number in
+    let rows = c.args.rows.now in
+    let number = c.args.number in
     let same : to_z w128 (of_z w128 number) ≡ number = search rules in
     let there = held-there r.states c.from-x.result y (arc_value c.at.result.now) c.deref.result.now c.from-x.ensures c.at.ensures c.deref.ensures in
     let own : kept_at (slice_set r.histories.items y c.prepare.new.self) y ≡ c.prepare.new.self = get_or-set_same r.histories.items y c.prepare.new.self no_kept (history-there r c.requires.replica y c.requires.derived) in

@@ -6,26 +6,26 @@ use Rattle.lasp_replica.proofs.SettledLaws.{kind-from}
 use Rattle.lasp_replica.proofs.InPlaceLaws.{inputs-of-var, is-unread}
 use Rattle.lasp_replica.proofs.replica.Replica.unread_ready.Goals as goal
 
-pub changes-requires-clause-var : goal.changes-requires-clause-var
-changes-requires-clause-var c =
+pub changed_rows-requires-clause-var : goal.changed_rows-requires-clause-var
+changed_rows-requires-clause-var c =
     let r = c.args.self.now in
     let i = inputs-of-var r c.requires.replica c.args.var c.requires.derived c.deref.result.now c.from.result (kind_of c.at.result.now.kind) c.inputs.result c.in-Some.x c.in-Some.y c.deref.ensures c.from.ensures c.at.ensures.kind c.inputs.ensures c.in-Some.is in
     i.first_earlier.declared
 
-pub changes-requires-clause-set : goal.changes-requires-clause-set
-changes-requires-clause-set c =
+pub changed_rows-requires-clause-set : goal.changed_rows-requires-clause-set
+changed_rows-requires-clause-set c =
     let r = c.args.self.now in
     let i = inputs-of-var r c.requires.replica c.args.var c.requires.derived c.deref.result.now c.from.result (kind_of c.at.result.now.kind) c.inputs.result c.in-Some.x c.in-Some.y c.deref.ensures c.from.ensures c.at.ensures.kind c.inputs.ensures c.in-Some.is in
     i.first_earlier.set
 
-pub second_changes-requires-clause-var : goal.second_changes-requires-clause-var
-second_changes-requires-clause-var c =
+pub second_rows-requires-clause-var : goal.second_rows-requires-clause-var
+second_rows-requires-clause-var c =
     let r = c.args.self.now in
     let i = inputs-of-var r c.requires.replica c.args.var c.requires.derived c.deref.result.now c.from.result (kind_of c.at.result.now.kind) c.inputs.result c.in-Some.x c.in-Some.y c.deref.ensures c.from.ensures c.at.ensures.kind c.inputs.ensures c.in-Some.is in
     i.second_earlier.declared
 
-pub second_changes-requires-clause-set : goal.second_changes-requires-clause-set
-second_changes-requires-clause-set c =
+pub second_rows-requires-clause-set : goal.second_rows-requires-clause-set
+second_rows-requires-clause-set c =
     let r = c.args.self.now in
     let i = inputs-of-var r c.requires.replica c.args.var c.requires.derived c.deref.result.now c.from.result (kind_of c.at.result.now.kind) c.inputs.result c.in-Some.x c.in-Some.y c.deref.ensures c.from.ensures c.at.ensures.kind c.inputs.ensures c.in-Some.is in
     i.second_earlier.set

@@ -1,8 +1,0 @@
-use Rattle.std.proofs.Common.{◌≡◌, ◌++◌, length}
-use Rattle.lasp_replica.proofs.news.rows_of.Given as goal
-
-abbrev pub invariant-loop-row : goal.invariant-loop-row
-invariant-loop-row l = l.list.items ++ l.rows ≡ l.initial.rows
-
-abbrev pub decreases-loop-row : goal.decreases-loop-row
-decreases-loop-row l = length l.rows
