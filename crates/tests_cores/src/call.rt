@@ -69,6 +69,8 @@ pub enum Verb {
     Back,
     /// Does the next job, by what is known of any replica that hands out jobs.
     Work,
+    /// Brings a variable up to its inputs in place.
+    Settle,
     /// A variable, a number.
     Open(Until),
     /// What a read is answered, by its place among those that were opened.
@@ -89,7 +91,7 @@ pub struct Call {
     pub second: i64,
 }
 
-const WORDS: [(&str, Verb); 30] = [
+const WORDS: [(&str, Verb); 31] = [
     ("add", Verb::Update(Doing::Add)),
     ("remove", Verb::Update(Doing::Remove)),
     ("insert", Verb::Update(Doing::Insert)),
@@ -107,6 +109,7 @@ const WORDS: [(&str, Verb); 30] = [
     ("end", Verb::End),
     ("back", Verb::Back),
     ("work", Verb::Work),
+    ("settle", Verb::Settle),
     ("count", Verb::Open(Until::Counted)),
     ("added", Verb::Open(Until::Added)),
     ("removed", Verb::Open(Until::Removed)),

@@ -15,7 +15,7 @@ use crate::call::{Doing, Until};
 use crate::traits;
 use crate::wrong::Wrong;
 use lasp_core::{Core, DeliverRefused, ReadNo, Released, UpdateRefused, jobs_have_the_unread_rows};
-use lasp_fns::Library;
+use lasp_fns::{Library, StepLib};
 use lasp_graph::{
     Decl, DeclRefused, EvalAll, Graph, States, eval_by_variable, read_decl, read_graph,
 };
@@ -160,6 +160,21 @@ pub fn hand_in(core: &mut Core, job: Job, state: State) -> Result<Option<Release
             Err(Wrong::Refused)
         }
     }
+}
+
+/// Brings a variable up to its inputs in place, where it is derived.
+pub fn settle(core: &mut Core, lib: &mut StepLib, var: u8) -> Result<Option<Released>, Wrong>
+    ensures frame { core.new.frame ≡ core.old.frame }
+    ensures entries { GoesOn core.old.entries core.new.entries }
+{
+    if !is_derived(core, var) {
+        return Ok(None);
+    }
+    if !core.graph().fits_steps(lib) {
+        return Err(Wrong::Refused);
+    }
+    let unread = core.unread(var)?;
+    Ok(Some(core.settle_var(4, var, &unread, lib)?))
 }
 
 /// What a read waits for.

@@ -5,7 +5,7 @@ ghost use Rattle.tests_cores.specs.Kept.{IsWork};
 
 use crate::call::{Doing, Until};
 use crate::cores::{
-    declare, deliver, give_back, hand_in, job_of, open, threshold, unread_of, update,
+    declare, deliver, give_back, hand_in, job_of, open, settle, threshold, unread_of, update,
 };
 use crate::traits::{Alone, look, work};
 use crate::work::{Work, evaluated};
@@ -117,6 +117,13 @@ impl Desk {
         jobs_stay();
         reads_stay_open();
         work(alloc, &mut self.core, by_rows, by_base)
+    }
+
+    /// Brings a variable up in place.
+    pub fn settle(&mut self, lib: &mut StepLib, var: u8) -> Result<Option<Released>, Wrong> {
+        jobs_stay();
+        reads_stay_open();
+        settle(&mut self.core, lib, var)
     }
 
     /// Keeps a job with its result.

@@ -86,6 +86,7 @@ fn some_call(seed: &mut u64) -> Call {
         18..=19 => call(Verb::Take, roll(seed, 17)),
         20 => call(Verb::End, roll(seed, 3)),
         21 => call(Verb::Back, roll(seed, 3)),
+        22 => call(Verb::Settle, roll(seed, 17)),
         _ => call(Verb::Work, 0),
     }
 }

@@ -79,6 +79,38 @@ fn a_result_that_comes_late_stands_in_the_journal_and_changes_nothing(
     Ok(())
 }
 
+const BROUGHT_UP: &str = "add 0 -1 -> ok
+settle 1 -> ok
+add 0 2 -> ok
+settle 1 -> ok
+take 1 -> 1, 0 gained by 0
+back 0
+remove 0 2 -> ok
+add 0 1 -> ok
+take 1 -> 1, 2 gained by 2
+end 0 -> ok
+add 0 3 -> ok
+settle 1 -> ok
+add 0 4 -> ok
+take 1 -> 1, 1 gained by 1
+remove 0 -1 -> ok
+settle 1 -> ok
+end 0 -> ok
+add 0 5 -> ok
+take 1 -> 1, 1 gained by 1
+end 0 -> ok
+states -> [1,3,4,5] 6; [1,3,4,5] 6;
+entries -> 0: add 0 -1; 4: binds 1 at 1; 0: add 0 2; 4: binds 1 at 3; 0: remove 0 2; 0: add 0 1; 2: binds 1 at 6; 0: add 0 3; 4: binds 1 at 8; 0: add 0 4; 0: remove 0 -1; 4: binds 1 at 11; 2: binds 1 at 10; 0: add 0 5; 2: binds 1 at 14;
+settled -> y settled at 15
+settle 0 -> none
+";
+
+#[test]
+fn a_variable_may_be_brought_up_in_place_between_its_jobs(rt: HostRuntime) -> Result<(), Fail> {
+    assert_eq!(rt; told(rt.alloc(), MAPPED, BROUGHT_UP)?.as_str(), BROUGHT_UP);
+    Ok(())
+}
+
 const UNITED: &str = r#"[["a","orset"],["b","orset"],["u","union","a","b"],["m","map","u","abs"]]"#;
 
 const FOLLOWED: &str = "add 1 7 -> ok

@@ -115,6 +115,7 @@ impl<'a> Table<'a> {
                 Ok(())
             }
             Verb::Work => self.work(),
+            Verb::Settle => self.settle(call.first),
             Verb::Open(until) => self.open(call, until),
             Verb::Ask => self.ask(place),
             Verb::Close => {
@@ -247,6 +248,15 @@ impl<'a> Table<'a> {
             .desk
             .work(self.alloc, &mut self.by_rows, &mut self.by_base)?
         {
+            Some(released) => tell_released(&mut self.told, &released)?,
+            None => self.told.push_str(" none")?,
+        }
+        Ok(())
+    }
+
+    /// Brings a variable up in place.
+    fn settle(&mut self, var: u8) -> Result<(), Wrong> {
+        match self.desk.settle(&mut self.by_rows, var)? {
             Some(released) => tell_released(&mut self.told, &released)?,
             None => self.told.push_str(" none")?,
         }
